@@ -12,6 +12,9 @@ elem_of system ctl = record { task = record { system = record { 0 = system }; jo
 
 -- ranks rise along each row, and the greatest is 9
 abbrev pub two_rows : List RankedRow
-two_rows =
-    (record { res = Systems (80 ∷ []) (81 ∷ []); elems = elem_of 0 S ∷ elem_of 1 S ∷ elem_of 2 E ∷ []; owners = 2 }, 2 ∷ 5 ∷ 9 ∷ [])
-    ∷ (record { res = Systems (80 ∷ []) (82 ∷ []); elems = elem_of 1 S ∷ elem_of 2 E ∷ []; owners = 1 }, 3 ∷ 4 ∷ []) ∷ []
+two_rows = (
+  record { res = Systems (80 ∷ []) (81 ∷ []); elems = elem_of 0 S ∷ elem_of 1 S ∷ elem_of 2 E ∷ []; owners = 2 },
+  2 ∷ 5 ∷ 9 ∷ [],
+)
+    ∷ (record { res = Systems (80 ∷ []) (82 ∷ []); elems = elem_of 1 S ∷ elem_of 2 E ∷ []; owners = 1 }, 3 ∷ 4 ∷ [])
+    ∷ []

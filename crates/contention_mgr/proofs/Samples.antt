@@ -17,7 +17,9 @@ use Rattle.grs_wire.specs.declared.request.Answer.TheVariants.{Coded}
 use Rattle.grs_wire.specs.declared.request.Req.{Req}
 use Rattle.grs_wire.specs.declared.request.Want.{Want}
 use Rattle.grs_wire.specs.declared.request.Want.TheVariants.{Enq, Deq, Release, Look}
-use Rattle.contention_mgr.specs.Manager.{Ranked, Managed, plain, no_elements, settled, rank_given, with_mark, first_untold, any_untold_in, owner_of, entry_wanted, managed_for, items_of, after_request, rank_for, ManagerView}
+use Rattle.contention_mgr.specs.Manager.{Ranked, Managed, plain, no_elements, settled, rank_given, with_mark}
+use Rattle.contention_mgr.specs.Manager.{first_untold, any_untold_in, owner_of, entry_wanted, managed_for, items_of}
+use Rattle.contention_mgr.specs.Manager.{after_request, rank_for, ManagerView}
 use Rattle.lock_structure.specs.Entries.{entry_of_res}
 use Rattle.contention_mgr.specs.Loads.{loaded}
 use Rattle.lock_structure.specs.RankedRows.{RankedRow, IsLoadable}
@@ -42,7 +44,8 @@ after m (q ∷ qs) = after (settled 0 m q.task q.want) qs
 -- what they are answered, with the ranks that they give
 abbrev given : Managed → List Req → List (Answer × ℕ)
 given m [] = []
-given m (q ∷ qs) = (answer_to (plain m.items) q.task q.want, rank_given m q.task q.want) ∷ given (settled 0 m q.task q.want) qs
+given m (q ∷ qs) =
+    (answer_to (plain m.items) q.task q.want, rank_given m q.task q.want) ∷ given (settled 0 m q.task q.want) qs
 
 -- ---- two systems, each with a resource of its own under one entry
 abbrev one : Res
@@ -52,7 +55,9 @@ abbrev two : Res
 two = Systems (codes "A") (codes "TWO")
 
 abbrev both : List Req
-both = asks 0 0 (Enq one E RetNone false) ∷ asks 1 0 (Enq two E RetNone false) ∷ asks 0 0 (Deq one false) ∷ asks 1 0 (Deq two false) ∷ []
+both =
+    asks 0 0 (Enq one E RetNone false) ∷ asks 1 0 (Enq two E RetNone false) ∷ asks 0 0 (Deq one false)
+    ∷ asks 1 0 (Deq two false) ∷ []
 
 both_given : given no_elements both ≡ (Coded C00, 1) ∷ (Coded C00, 2) ∷ (Coded C00, 0) ∷ (Coded C00, 0) ∷ []
 both_given = refl
@@ -68,21 +73,28 @@ entry_of_ab : (entry_of_res 16 ab ≡ Some 4) × (entry_of_res 64 ab ≡ Some 52
 entry_of_ab = (refl, refl, refl)
 
 -- a resource of one system has none
-no_entry : (entry_of_res 16 (System (record { 0 = 0 }) (codes "A") (codes "B")) ≡ None) × (entry_of_res 1 (Step (record { 0 = 0 }) 0 (codes "A") (codes "B")) ≡ None)
+no_entry : (entry_of_res 16 (System (record { 0 = 0 }) (codes "A") (codes "B")) ≡ None)
+    × (entry_of_res 1 (Step (record { 0 = 0 }) 0 (codes "A") (codes "B")) ≡ None)
 no_entry = (refl, refl)
 
 -- ---- a manager of two entries, of which it manages one: slice 52 is of entry 0
 abbrev manages : Option Managed → Option Managed → ManagerView
 manages first second = record { system = record { 0 = 0 }; entries = first ∷ second ∷ [] }
 
-at_manager : after_request (manages (Some no_elements) None) (task 1 0) (Enq ab E RetNone false) ≡ manages (Some (record { next = 2; items = kept ab 1 0 E 1 false ∷ [] })) None
+at_manager : after_request (manages (Some no_elements) None) (task 1 0) (Enq ab E RetNone false)
+    ≡ manages (Some (record { next = 2; items = kept ab 1 0 E 1 false ∷ [] })) None
 at_manager = refl
 
-ranked_at_manager : rank_for (managed_for (manages (Some no_elements) None) (Enq ab E RetNone false)) (task 1 0) (Enq ab E RetNone false) ≡ 1
+ranked_at_manager :
+    rank_for (managed_for (manages (Some no_elements) None) (Enq ab E RetNone false)) (task 1 0)
+    (Enq ab E RetNone false)
+    ≡ 1
 ranked_at_manager = refl
 
 -- what is asked of an entry that it doesn't manage changes nothing
-elsewhere : (after_request (manages None (Some no_elements)) (task 1 0) (Enq ab E RetNone false) ≡ manages None (Some no_elements))
+elsewhere :
+    (after_request (manages None (Some no_elements)) (task 1 0) (Enq ab E RetNone false)
+    ≡ manages None (Some no_elements))
     × (managed_for (manages None (Some no_elements)) (Enq ab E RetNone false) ≡ None)
     × (items_of (managed_for (manages None (Some no_elements)) (Enq ab E RetNone false)) ≡ [])
 elsewhere = (refl, refl, refl)
@@ -98,21 +110,32 @@ abbrev two_rows : List RankedRow
 two_rows = ranked_row ab (holds 0 0 ∷ holds 1 0 ∷ []) (2 ∷ 7 ∷ []) ∷ ranked_row one (holds 2 0 ∷ []) (5 ∷ []) ∷ []
 
 -- row by row, each element told, and the next rank the greatest plus one
-loads_rows : loaded two_rows ≡ record { next = 8; items = kept ab 0 0 E 2 false ∷ kept ab 1 0 E 7 false ∷ kept one 2 0 E 5 false ∷ [] }
+loads_rows : loaded two_rows
+    ≡ record { next = 8; items = kept ab 0 0 E 2 false ∷ kept ab 1 0 E 7 false ∷ kept one 2 0 E 5 false ∷ [] }
 loads_rows = refl
 
 loads_nothing : loaded [] ≡ no_elements
 loads_nothing = refl
 
 loadable : IsLoadable 1 0 two_rows
-loadable = record { of_entry = refl; once = refl; apart = refl; ranked = refl; rising = refl; distinct = refl; small = refl }
+loadable = record {
+  of_entry = refl;
+  once = refl;
+  apart = refl;
+  ranked = refl;
+  rising = refl;
+  distinct = refl;
+  small = refl;
+}
 
 -- a row of another entry
 refuses_entry : IsLoadable 16 5 (ranked_row ab (holds 0 0 ∷ []) (1 ∷ []) ∷ []) → ⊥
 refuses_entry h = let never = h.of_entry in cc
 
 -- two rows of one resource
-refuses_second_row : IsLoadable 1 0 (ranked_row ab (holds 0 0 ∷ []) (1 ∷ []) ∷ ranked_row ab (holds 1 0 ∷ []) (2 ∷ []) ∷ []) → ⊥
+refuses_second_row :
+    IsLoadable 1 0 (ranked_row ab (holds 0 0 ∷ []) (1 ∷ []) ∷ ranked_row ab (holds 1 0 ∷ []) (2 ∷ []) ∷ [])
+    → ⊥
 refuses_second_row h = let never = h.once in cc
 
 -- a task that stands twice in a row
@@ -128,7 +151,9 @@ refuses_falling : IsLoadable 1 0 (ranked_row ab (holds 0 0 ∷ holds 1 0 ∷ [])
 refuses_falling h = let never = h.rising in cc
 
 -- one rank in two rows
-refuses_same_rank : IsLoadable 1 0 (ranked_row ab (holds 0 0 ∷ []) (1 ∷ []) ∷ ranked_row one (holds 1 0 ∷ []) (1 ∷ []) ∷ []) → ⊥
+refuses_same_rank :
+    IsLoadable 1 0 (ranked_row ab (holds 0 0 ∷ []) (1 ∷ []) ∷ ranked_row one (holds 1 0 ∷ []) (1 ∷ []) ∷ [])
+    → ⊥
 refuses_same_rank h = let never = h.distinct in cc
 
 -- a rank past the last
@@ -158,39 +183,58 @@ pq = Systems (codes "P") (codes "Q")
 abbrev three : Managed
 three = record { next = 4; items = kept pq 0 0 E 1 false ∷ kept pq 2 0 E 2 false ∷ kept pq 1 0 E 3 false ∷ [] }
 
-gives_up : after three (asks 0 0 (Deq pq false) ∷ []) ≡ record { next = 4; items = kept pq 2 0 E 2 true ∷ kept pq 1 0 E 3 false ∷ [] }
+gives_up : after three (asks 0 0 (Deq pq false) ∷ [])
+    ≡ record { next = 4; items = kept pq 2 0 E 2 true ∷ kept pq 1 0 E 3 false ∷ [] }
 gives_up = refl
 
-is_told_next : option_map owner_of (first_untold 0 (after three (asks 0 0 (Deq pq false) ∷ [])).items) ≡ Some (task 2 0, pq)
+is_told_next : option_map owner_of (first_untold 0 (after three (asks 0 0 (Deq pq false) ∷ [])).items)
+    ≡ Some (task 2 0, pq)
 is_told_next = refl
 
-is_told : with_mark false pq (task 2 0) (after three (asks 0 0 (Deq pq false) ∷ [])).items ≡ kept pq 2 0 E 2 false ∷ kept pq 1 0 E 3 false ∷ []
+is_told : with_mark false pq (task 2 0) (after three (asks 0 0 (Deq pq false) ∷ [])).items
+    ≡ kept pq 2 0 E 2 false ∷ kept pq 1 0 E 3 false ∷ []
 is_told = refl
 
-comes_last : given (after three (asks 0 0 (Deq pq false) ∷ [])) (asks 2 1 (Enq pq S RetNone false) ∷ []) ≡ (Coded Wait, 4) ∷ []
+comes_last : given (after three (asks 0 0 (Deq pq false) ∷ [])) (asks 2 1 (Enq pq S RetNone false) ∷ [])
+    ≡ (Coded Wait, 4) ∷ []
 comes_last = refl
 
 -- ---- shared waiters of two systems get control at once, and an exclusive one waits on
 abbrev waiters : List Req
-waiters = asks 1 0 (Enq pq E RetNone false) ∷ asks 0 0 (Enq pq S RetNone false) ∷ asks 2 0 (Enq pq S RetEcb false) ∷ asks 1 1 (Enq pq E RetEcb false) ∷ asks 1 2 (Enq pq E RetUse false) ∷ []
+waiters =
+    asks 1 0 (Enq pq E RetNone false) ∷ asks 0 0 (Enq pq S RetNone false) ∷ asks 2 0 (Enq pq S RetEcb false)
+    ∷ asks 1 1 (Enq pq E RetEcb false) ∷ asks 1 2 (Enq pq E RetUse false) ∷ []
 
-waiters_given : given no_elements waiters ≡ (Coded C00, 1) ∷ (Coded Wait, 2) ∷ (Coded C04, 3) ∷ (Coded C04, 4) ∷ (Coded C04, 0) ∷ []
+waiters_given : given no_elements waiters
+    ≡ (Coded C00, 1) ∷ (Coded Wait, 2) ∷ (Coded C04, 3) ∷ (Coded C04, 4) ∷ (Coded C04, 0) ∷ []
 waiters_given = refl
 
--- the manager's own task is told by its system, the other's is still to be told; who is to be told doesn't change by a later request
-shared_get_control : after (after no_elements waiters) (asks 1 0 (Release pq) ∷ asks 1 3 (Enq pq S RetNone false) ∷ []) ≡ record { next = 6; items = kept pq 0 0 S 2 false ∷ kept pq 2 0 S 3 true ∷ kept pq 1 1 E 4 false ∷ kept pq 1 3 S 5 false ∷ [] }
+-- the manager's own task is told by its system, the other's is still to be told; who is to be told doesn't change by a
+-- later request
+shared_get_control : after (after no_elements waiters) (asks 1 0 (Release pq) ∷ asks 1 3 (Enq pq S RetNone false) ∷ [])
+    ≡ record {
+      next = 6;
+      items = kept pq 0 0 S 2 false ∷ kept pq 2 0 S 3 true ∷ kept pq 1 1 E 4 false ∷ kept pq 1 3 S 5 false ∷ [];
+    }
 shared_get_control = refl
 
--- an owner who is still to be told may change to exclusive control, and is to be told all the same; one who gives up control isn't
-still_to_be_told : (after (after no_elements waiters) (asks 1 0 (Release pq) ∷ asks 0 0 (Deq pq false) ∷ asks 2 0 (Enq pq E RetChng false) ∷ [])).items ≡ kept pq 2 0 E 3 true ∷ kept pq 1 1 E 4 false ∷ []
+-- an owner who is still to be told may change to exclusive control, and is to be told all the same; one who gives up
+-- control isn't
+still_to_be_told :
+    (after (after no_elements waiters)
+    (asks 1 0 (Release pq) ∷ asks 0 0 (Deq pq false) ∷ asks 2 0 (Enq pq E RetChng false) ∷ [])).items
+    ≡ kept pq 2 0 E 3 true ∷ kept pq 1 1 E 4 false ∷ []
 still_to_be_told = refl
 
-left_untold : (after (after no_elements waiters) (asks 1 0 (Release pq) ∷ asks 2 0 (Deq pq false) ∷ [])).items ≡ kept pq 0 0 S 2 false ∷ kept pq 1 1 E 4 false ∷ []
+left_untold : (after (after no_elements waiters) (asks 1 0 (Release pq) ∷ asks 2 0 (Deq pq false) ∷ [])).items
+    ≡ kept pq 0 0 S 2 false ∷ kept pq 1 1 E 4 false ∷ []
 left_untold = refl
 
 -- ---- of two resources that which is shown first is told first, whenever control came
 abbrev later : List Req
-later = asks 1 0 (Enq two E RetNone false) ∷ asks 2 0 (Enq two E RetEcb false) ∷ asks 1 0 (Enq one E RetNone false) ∷ asks 2 1 (Enq one E RetEcb false) ∷ asks 1 0 (Release two) ∷ asks 1 0 (Release one) ∷ []
+later =
+    asks 1 0 (Enq two E RetNone false) ∷ asks 2 0 (Enq two E RetEcb false) ∷ asks 1 0 (Enq one E RetNone false)
+    ∷ asks 2 1 (Enq one E RetEcb false) ∷ asks 1 0 (Release two) ∷ asks 1 0 (Release one) ∷ []
 
 first_of_two : option_map owner_of (first_untold 0 (after no_elements later).items) ≡ Some (task 2 1, one)
 first_of_two = refl
@@ -221,10 +265,12 @@ abbrev freed : Managed
 freed = after queued (asks 1 0 (Release pq) ∷ [])
 
 abbrev gained : ℕ → ℕ → Bool
-gained s n = gains 0 (plain queued.items) (after_want (plain queued.items) (task 1 0) (Release pq)) (task 1 0) pq (task s n)
+gained s n =
+    gains 0 (plain queued.items) (after_want (plain queued.items) (task 1 0) (Release pq)) (task 1 0) pq (task s n)
 
 gains_at_others : (gained 2 0 ≡ true) × (gained 0 0 ≡ false) × (gained 1 0 ≡ false) × (gained 1 1 ≡ false)
 gains_at_others = (refl, refl, refl, refl)
 
-untold_at_others : (untold_at freed.items pq (task 2 0) ≡ true) × (untold_at freed.items pq (task 0 0) ≡ false) × (untold_at freed.items pq (task 1 0) ≡ false) × (untold_at freed.items pq (task 1 1) ≡ false)
+untold_at_others : (untold_at freed.items pq (task 2 0) ≡ true) × (untold_at freed.items pq (task 0 0) ≡ false)
+    × (untold_at freed.items pq (task 1 0) ≡ false) × (untold_at freed.items pq (task 1 1) ≡ false)
 untold_at_others = (refl, refl, refl, refl)

@@ -22,8 +22,12 @@ all_of p entries = list_all (λ o. elements_of p (items_of o)) entries
 
 -- The elements after a request are of tasks that had one before it, or of the asker.
 abbrev pub ElementsAreAskers : Type 0
-ElementsAreAskers = (p : TaskId → Bool) (v : ManagerView) (t : TaskId) (w : Want) → p t ≡ true → all_of p v.entries ≡ true → all_of p (after_request v t w).entries ≡ true
+ElementsAreAskers =
+    (p : TaskId → Bool) (v : ManagerView) (t : TaskId) (w : Want) → p t ≡ true → all_of p v.entries ≡ true
+    → all_of p (after_request v t w).entries ≡ true
 
 -- Telling an owner adds none.
 abbrev pub TellingKeepsElements : Type 0
-TellingKeepsElements = (p : TaskId → Bool) (v : ManagerView) (t : TaskId) (r : Res) → all_of p v.entries ≡ true → all_of p (after_telling v t r).entries ≡ true
+TellingKeepsElements =
+    (p : TaskId → Bool) (v : ManagerView) (t : TaskId) (r : Res) → all_of p v.entries ≡ true
+    → all_of p (after_telling v t r).entries ≡ true

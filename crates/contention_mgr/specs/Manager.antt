@@ -1,7 +1,8 @@
--- What a manager keeps: of each lock entry that it manages the next rank, and the elements of the lists of its resources,
--- each with its rank and whether its task is still to be told that it owns. What a request is answered, and what it
--- leaves, is by the plain lists.
-use Rattle.std.specs.Prelude.{ℕ, zero, suc, ◌+◌, Bool, true, false, not, ◌&&◌, ◌||◌, ◌==◌, nat_lt, nat_le, cond, List, [], ◌∷◌, ◌++◌, length, map, filter, Option, Some, None, unwrap_or, slice_get, slice_set}
+-- What a manager keeps: of each lock entry that it manages the next rank, and the elements of the lists of its
+-- resources, each with its rank and whether its task is still to be told that it owns. What a request is answered, and
+-- what it leaves, is by the plain lists.
+use Rattle.std.specs.Prelude.{ℕ, zero, suc, ◌+◌, Bool, true, false, not, ◌&&◌, ◌||◌, ◌==◌, nat_lt, nat_le, cond, List}
+use Rattle.std.specs.Prelude.{[], ◌∷◌, ◌++◌, length, map, filter, Option, Some, None, unwrap_or, slice_get, slice_set}
 use Rattle.std.specs.List.{list_any}
 use Rattle.std.specs.Option.{option_map_or}
 use Rattle.std.specs.Ordering.{is_lt}
@@ -82,7 +83,10 @@ with_control s r (t ∷ ts) xs = with_control s r ts (cond (not (s == t.system.0
 -- the entry after what ENQ decides: a new element gets the next rank, and what its task is answered tells it
 abbrev pub enqueued : Managed → Res → TaskId → Ctl → Effect → Managed
 enqueued m r t c Nothing = m
-enqueued m r t c Append = record { next = m.next + 1; items = m.items ++ record { res = r; elem = record { task = t; ctl = c }; rank = m.next; untold = false } ∷ [] }
+enqueued m r t c Append = record {
+  next = m.next + 1;
+  items = m.items ++ record { res = r; elem = record { task = t; ctl = c }; rank = m.next; untold = false } ∷ [];
+}
 enqueued m r t c MakeExclusive = record { next = m.next; items = made_exclusive r t m.items }
 
 -- the entry after a task's element left a list, by which these tasks got control
@@ -92,7 +96,9 @@ given_up s m r t owners = record { next = m.next; items = with_control s r owner
 -- the entry after a request, at a manager of system s
 abbrev pub settled : ℕ → Managed → TaskId → Want → Managed
 settled s m t (Enq r c ret full) = enqueued m r t c (decide_enq (list_of (plain m.items) r) t c ret full).effect
-settled s m t (Deq r have) = cond (is_owner (standing_of (list_of (plain m.items) r) t)) (given_up s m r t (new_owners (plain m.items) t (Deq r have))) m
+settled s m t (Deq r have) =
+    cond (is_owner (standing_of (list_of (plain m.items) r) t))
+    (given_up s m r t (new_owners (plain m.items) t (Deq r have))) m
 settled s m t (Release r) = given_up s m r t (new_owners (plain m.items) t (Release r))
 settled s m t (Look first count f) = m
 
@@ -126,7 +132,8 @@ abbrev pub sooner : Ranked → Option Ranked → Ranked
 sooner x None = x
 sooner x (Some y) = cond (is_lt (res_order y.res x.res)) y x
 
--- the element of the owner who is to be told first: by the order of resources, and on one resource in the order of its list
+-- the element of the owner who is to be told first: by the order of resources, and on one resource in the order of its
+-- list
 abbrev pub first_untold : ℕ → List Ranked → Option Ranked
 first_untold home [] = None
 first_untold home (x ∷ xs) = cond (is_untold home x) (Some (sooner x (first_untold home xs))) (first_untold home xs)
@@ -144,7 +151,9 @@ are_of entries e first (suc count) = (e == entry_of first entries) && are_of ent
 
 -- the lock entry of looks: that of their slices, where they have one, and there are these slices
 abbrev pub entry_of_looks : ℕ → ℕ → ℕ → Option ℕ
-entry_of_looks entries first count = cond (nat_lt 0 count && nat_le (first + count) 64 && are_of entries (entry_of first entries) first count) (Some (entry_of first entries)) None
+entry_of_looks entries first count =
+    cond (nat_lt 0 count && nat_le (first + count) 64 && are_of entries (entry_of first entries) first count)
+    (Some (entry_of first entries)) None
 
 -- the lock entry of a request
 abbrev pub entry_wanted : ℕ → Want → Option ℕ
@@ -183,7 +192,9 @@ with_entry v (Some e) o = record { system = v.system; entries = slice_set v.entr
 
 -- the manager after a request
 abbrev pub after_request : ManagerView → TaskId → Want → ManagerView
-after_request v t w = option_map_or (λ m. with_entry v (entry_wanted (length v.entries) w) (Some (settled v.system.0 m t w))) (managed_for v w) v
+after_request v t w =
+    option_map_or (λ m. with_entry v (entry_wanted (length v.entries) w) (Some (settled v.system.0 m t w)))
+    (managed_for v w) v
 
 -- the rank that a request gives at a manager
 abbrev pub rank_for : Option Managed → TaskId → Want → ℕ
@@ -195,7 +206,8 @@ abbrev pub told : TaskId → Res → Managed → Managed
 told t r m = record { next = m.next; items = with_mark false r t m.items }
 
 abbrev pub after_telling : ManagerView → TaskId → Res → ManagerView
-after_telling v t r = option_map_or (λ m. with_entry v (entry_of_res (length v.entries) r) (Some (told t r m))) (managed_of v r) v
+after_telling v t r =
+    option_map_or (λ m. with_entry v (entry_of_res (length v.entries) r) (Some (told t r m))) (managed_of v r) v
 
 -- whether in some entry an owner of another system is still to be told
 abbrev pub any_untold_at : ℕ → List (Option Managed) → Bool

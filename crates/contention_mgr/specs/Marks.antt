@@ -1,7 +1,8 @@
 -- What is kept beside the lists of an entry: each resource that had an element has a number, and each element, by the
 -- number of its resource and its task, has its mark. This is how the store of a manager keeps its elements, and nothing
 -- that a reader has to believe: what a manager keeps is said in `Manager`, and its calls leave just that.
-use Rattle.std.specs.Prelude.{◌≡◌, ℕ, ◌+◌, Bool, true, false, not, ◌&&◌, ◌==◌, List, [], ◌∷◌, map, Option, Some, None, is_some}
+use Rattle.std.specs.Prelude.{◌≡◌, ℕ, ◌+◌, Bool, true, false, not, ◌&&◌, ◌==◌, List, [], ◌∷◌, map, Option, Some, None}
+use Rattle.std.specs.Prelude.{is_some}
 use Rattle.std.specs.Map.{lookup}
 use Rattle.grs_base.specs.Same.{same_res, same_task}
 use Rattle.grs_base.specs.State.{State}

@@ -1,5 +1,6 @@
--- Who of the elements of an entry is told first, as it is found from the marks. This is how the store of a manager looks,
--- and nothing that a reader has to believe: who is told first is said in `Manager`, and the store's calls answer just that.
+-- Who of the elements of an entry is told first, as it is found from the marks. This is how the store of a manager
+-- looks, and nothing that a reader has to believe: who is told first is said in `Manager`, and the store's calls answer
+-- just that.
 use Rattle.std.specs.Prelude.{ℕ, Bool, false, not, ◌&&◌, ◌==◌, cond, List, [], ◌∷◌, Option, Some, None, slice_get}
 use Rattle.std.specs.Ordering.{is_lt}
 use Rattle.grs_base.specs.ResOrder.{res_order}

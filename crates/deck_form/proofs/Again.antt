@@ -1,5 +1,7 @@
 -- What is spelled so is read.
-use Rattle.std.proofs.Common.{◌≡◌, inl, inr, ℕ, suc, ◌+◌, ◌<◌, Bool, true, false, eqb, ltb, List, [], ◌∷◌, ◌++◌, length, take, drop, Option, Some, None, Ok, refl, sym, ap, subst, ◌∙◌, arith, lit≤, append_assoc, length-append}
+use Rattle.std.proofs.Common.{◌≡◌, inl, inr, ℕ, suc, ◌+◌, ◌<◌, Bool, true, false, eqb, ltb, List, [], ◌∷◌, ◌++◌, length}
+use Rattle.std.proofs.Common.{take, drop, Option, Some, None, Ok, refl, sym, ap, subst, ◌∙◌, arith, lit≤, append_assoc}
+use Rattle.std.proofs.Common.{length-append}
 use Rattle.std.specs.Prelude.{codes, position}
 use Rattle.std.specs.List.{flat_map, position_or_len}
 use Rattle.std.specs.Str.{bytes_eq}
@@ -33,7 +35,8 @@ use Rattle.deck_form.specs.Command.{setgrs_at, vary_at, order_at, command_at}
 use Rattle.deck_form.specs.Event.{event_word, pair_at, entry_at, act_at, event_at}
 use Rattle.deck_form.specs.UnbuiltWord.{is_unbuilt_word}
 use Rattle.deck_form.specs.Form.{key, plain_form, keyed, first_form, event_form, form}
-use Rattle.deck_form.specs.Spelled.{IsName, Operand, Mode, Entries, Limit, operand, IsFreeOperand, set_operand, IsComplex, IsOrder, IsCommand, IsFirst, IsAct, IsEvent, Spells}
+use Rattle.deck_form.specs.Spelled.{IsName, Operand, Mode, Entries, Limit, operand, IsFreeOperand, set_operand}
+use Rattle.deck_form.specs.Spelled.{IsComplex, IsOrder, IsCommand, IsFirst, IsAct, IsEvent, Spells}
 
 pub named_again : (n : List ℕ) → IsName n → named_at (Word n ∷ []) ≡ Some n
 unfolding named_at short_at
@@ -41,7 +44,8 @@ named_again n h = rw h refl
 
 -- ---- COMPLEX
 
-operand_again : (x : Operand) (o : Setup) (rest : List Token) → IsFreeOperand x o → operand_at o (operand x ++ rest) ≡ Some (set_operand x o, rest)
+operand_again : (x : Operand) (o : Setup) (rest : List Token) → IsFreeOperand x o
+    → operand_at o (operand x ++ rest) ≡ Some (set_operand x o, rest)
 unfolding operand_at with_operand mode_of entries_of limit_of
 operand_again (Mode true) o rest h = rw h refl
 operand_again (Mode false) o rest h = rw h refl
@@ -62,9 +66,12 @@ fewer_operands (Mode b) o h = rw h (omega arith)
 fewer_operands (Entries w n) o h = rw h.0 (omega arith)
 fewer_operands (Limit w n) o h = rw h.0 (omega arith)
 
-operands_again : (given : List Operand) (c : Setup) → Sets IsFreeOperand set_operand no_setup given c → complex_at (flat_map operand given) ≡ Some c
+operands_again : (given : List Operand) (c : Setup) → Sets IsFreeOperand set_operand no_setup given c
+    → complex_at (flat_map operand given) ≡ Some c
 unfolding complex_at free_operands
-operands_again given c h = all_again IsFreeOperand set_operand operand operand_at free_operands long_operand operand_again fewer_operands 3 given no_setup c (lit≤ tt) h
+operands_again given c h =
+    all_again IsFreeOperand set_operand operand operand_at free_operands long_operand operand_again fewer_operands 3
+    given no_setup c (lit≤ tt) h
 
 complex_again : (ts : List Token) (c : Setup) → IsComplex ts c → complex_at ts ≡ Some c
 complex_again ts c h = rw h.spelled (operands_again h.given c h.operands)
@@ -76,7 +83,8 @@ abbrev ordered : List Token → Option GivenOrder
 ordered (Word w ∷ ts) = order_at w ts
 ordered _ = None
 
-vary_again : (n : List ℕ) → IsName n → vary_at (Word (codes "GRS") ∷ Open ∷ Word n ∷ Close ∷ Comma ∷ Word (codes "PURGE") ∷ []) ≡ Some (orders.Vary n)
+vary_again : (n : List ℕ) → IsName n
+    → vary_at (Word (codes "GRS") ∷ Open ∷ Word n ∷ Close ∷ Comma ∷ Word (codes "PURGE") ∷ []) ≡ Some (orders.Vary n)
 unfolding vary_at short_at
 vary_again n h = rw h refl
 
@@ -85,14 +93,16 @@ unfolding order_at setgrs_at
 order_again ts orders.Star h = rw h refl
 order_again ts (orders.Vary n) h = rw (h.0, vary_again n h.1) refl
 
-command_tail : (w : List ℕ) (ts : List Token) (n : ℕ) (o : GivenOrder) → written_number w ≡ Some n → ordered ts ≡ Some o → command_at (Word w ∷ ts) ≡ Some (record { at = n; order = o })
+command_tail : (w : List ℕ) (ts : List Token) (n : ℕ) (o : GivenOrder) → written_number w ≡ Some n → ordered ts ≡ Some o
+    → command_at (Word w ∷ ts) ≡ Some (record { at = n; order = o })
 unfolding command_at
 command_tail w (Word v ∷ ts) n o h k = rw (h, k) refl
 command_tail w [] n o h k = absurd cc
 command_tail w (_ ∷ ts) n o h k = absurd cc
 
 command_again : (ts : List Token) (c : Command) → IsCommand ts c → command_at ts ≡ Some c
-command_again ts c h = rw h.spelled (command_tail h.number h.behind c.at c.order h.at (order_again h.behind c.order h.order))
+command_again ts c h =
+    rw h.spelled (command_tail h.number h.behind c.at c.order h.at (order_again h.behind c.order h.order))
 
 -- ---- statements before SCHEDULE
 
@@ -101,7 +111,8 @@ other_word : (w v : List ℕ) → is_unbuilt_word w ≡ true → is_unbuilt_word
 other_word w v h k = go (bytes_eq w v) refl
   where
     go : (b : Bool) → bytes_eq w v ≡ b → b ≡ false
-    go true e = let same : w ≡ v = same_bytes w v e in absurd (let z : true ≡ false = sym h ∙ ap is_unbuilt_word same ∙ k in cc)
+    go true e =
+        let same : w ≡ v = same_bytes w v e in absurd (let z : true ≡ false = sym h ∙ ap is_unbuilt_word same ∙ k in cc)
     go false e = refl
 
 built_complex : is_unbuilt_word (codes "COMPLEX") ≡ false
@@ -135,7 +146,17 @@ built_schedule = refl
 unbuilt_again : (w : List ℕ) (rest : List Token) → is_unbuilt_word w ≡ true → keyed (key w) rest ≡ Ok stmts.Unbuilt
 unfolding key plain_form
 unbuilt_again w rest h =
-    rw (other_word w (codes "COMPLEX") h built_complex, other_word w (codes "RNLDEF") h built_rnldef, other_word w (codes "SYSTEM") h built_system, other_word w (codes "JOB") h built_job, other_word w (codes "TASK") h built_task, other_word w (codes "AT") h built_at, other_word w (codes "SCHEDULE") h built_schedule, h) refl
+    rw (
+      other_word w (codes "COMPLEX") h built_complex,
+      other_word w (codes "RNLDEF") h built_rnldef,
+      other_word w (codes "SYSTEM") h built_system,
+      other_word w (codes "JOB") h built_job,
+      other_word w (codes "TASK") h built_task,
+      other_word w (codes "AT") h built_at,
+      other_word w (codes "SCHEDULE") h built_schedule,
+      h,
+    )
+    refl
 
 -- the key of a task line whose word is built
 line_again : (v : LineWord) (w : List ℕ) → IsWord v w → is_unbuilt_word w ≡ false → key w ≡ keys.Line v
@@ -157,7 +178,9 @@ first_again ts (stmts.System n) h = rw (h.0, named_again n h.1) refl
 first_again ts (stmts.Job n) h = rw (h.0, named_again n h.1) refl
 first_again ts (stmts.Task n) h = rw (h.0, named_again n h.1) refl
 first_again ts (stmts.Command c) h = rw (h.1, command_again h.0 c h.2) refl
-first_again ts (stmts.Line s) h = rw (h.0.parts, line_again (line_word_for s) h.0.word h.0.is_word h.1, line_ask_again h.0.behind s h.0.is_behind) refl
+first_again ts (stmts.Line s) h =
+    rw (h.0.parts, line_again (line_word_for s) h.0.word h.0.is_word h.1, line_ask_again h.0.behind s h.0.is_behind)
+    refl
 first_again ts stmts.Schedule h = rw h refl
 first_again ts (stmts.Event s a) h = absurd h
 
@@ -165,7 +188,8 @@ first_again ts (stmts.Event s a) h = absurd h
 
 not_dot : (b : ℕ) → is_name_byte b ≡ true → eqb b 46 ≡ false
 unfolding is_name_byte
-not_dot b h = ne_eqb b 46 (λ e. let P : ℕ → Type 0 = λ n. is_name_byte n ≡ true in let k : false ≡ true = subst P e h in cc)
+not_dot b h =
+    ne_eqb b 46 (λ e. let P : ℕ → Type 0 = λ n. is_name_byte n ≡ true in let k : false ≡ true = subst P e h in cc)
 
 dot_at : (j t : List ℕ) → all_name j ≡ true → position_or_len (λ b. eqb b 46) (j ++ 46 ∷ t) ≡ length j
 unfolding all_name
@@ -179,20 +203,24 @@ unfolding is_name
 name_all [] h = absurd cc
 name_all (b ∷ bs) h = (and_parts _ (all_name (b ∷ bs)) h).1
 
-parted_again : (j t : List ℕ) → IsName j → IsName t → parted (position (λ b. eqb b 46) (j ++ 46 ∷ t)) (j ++ 46 ∷ t) ≡ Some (j, t)
+parted_again : (j t : List ℕ) → IsName j → IsName t
+    → parted (position (λ b. eqb b 46) (j ++ 46 ∷ t)) (j ++ 46 ∷ t) ≡ Some (j, t)
 parted_again j t hj ht =
     let at = dot_at j t (name_all j hj) in
     let within : ltb (length j) (length (j ++ 46 ∷ t)) ≡ true = lt-ltb _ _ (omega (arith, length-append j (46 ∷ t))) in
     let found : position (λ b. eqb b 46) (j ++ 46 ∷ t) ≡ Some (length j) = rw (at, within) refl in
     let front : take (length j) (j ++ 46 ∷ t) ≡ j = take_at j (46 ∷ t) (length j) refl in
-    let back : drop (length j + 1) (j ++ 46 ∷ t) ≡ t = ap (drop (length j + 1)) (sym (append_assoc j (46 ∷ []) t)) ∙ drop_at (j ++ 46 ∷ []) t (length j + 1) (length-append j (46 ∷ [])) in
+    let back : drop (length j + 1) (j ++ 46 ∷ t) ≡ t =
+    ap (drop (length j + 1)) (sym (append_assoc j (46 ∷ []) t))
+    ∙ drop_at (j ++ 46 ∷ []) t (length j + 1) (length-append j (46 ∷ [])) in
     rw found (rw (front, back, hj, ht) refl)
 
 pair_again : (j t : List ℕ) → IsName j → IsName t → pair_at (Word (j ++ 46 ∷ t) ∷ []) ≡ Some (j, t)
 unfolding pair_at dotted_at
 pair_again j t hj ht = rw (parted_again j t hj ht) refl
 
-entry_again : (entries : ℕ) (w : List ℕ) (e : ℕ) → written_number w ≡ Some e → e < entries → entry_at entries (Word w ∷ []) ≡ Some e
+entry_again : (entries : ℕ) (w : List ℕ) (e : ℕ) → written_number w ≡ Some e → e < entries
+    → entry_at entries (Word w ∷ []) ≡ Some e
 unfolding entry_at
 entry_again entries w e h lt = rw (h, lt-ltb e entries lt) refl
 
@@ -214,7 +242,8 @@ act_again entries ts acts.Switch h = rw h refl
 act_again entries ts (acts.Purge n) h = rw (h.0, named_again n h.1) refl
 act_again entries ts acts.Rest h = rw h refl
 
-event_tail : (entries : ℕ) (s : List ℕ) (rest : List Token) (a : EventAct) → IsName s → acted entries rest ≡ Some a → event_form entries (Word s ∷ rest) ≡ Some (stmts.Event s a)
+event_tail : (entries : ℕ) (s : List ℕ) (rest : List Token) (a : EventAct) → IsName s → acted entries rest ≡ Some a
+    → event_form entries (Word s ∷ rest) ≡ Some (stmts.Event s a)
 unfolding event_form event_at short_at
 event_tail entries s (Word w ∷ rest) a h k = rw (h, k) refl
 event_tail entries s [] a h k = absurd cc
@@ -225,7 +254,8 @@ event_again entries ts (stmts.Event s a) h = rw h.1 (event_tail entries s h.0 a 
 event_again entries ts _ h = absurd h
 
 -- What is spelled so is read.
-pub form_again : (scheduled : Bool) (entries : ℕ) (l : TokenLine) (st : Stmt) → Spells scheduled entries l st → form scheduled entries l ≡ Ok st
+pub form_again : (scheduled : Bool) (entries : ℕ) (l : TokenLine) (st : Stmt) → Spells scheduled entries l st
+    → form scheduled entries l ≡ Ok st
 unfolding form
 form_again false entries l st h = rw h.0 (first_again l.tokens st h.1)
 form_again true entries l st h = rw (event_again entries l.tokens st h) refl

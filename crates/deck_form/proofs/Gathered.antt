@@ -1,5 +1,6 @@
 -- Statements that are gathered one by one.
-use Rattle.std.proofs.Common.{◌≡◌, Bool, true, false, cond, List, [], ◌∷◌, ◌++◌, codes, Option, Some, None, refl, sym, ap, subst, ◌∙◌}
+use Rattle.std.proofs.Common.{◌≡◌, Bool, true, false, cond, List, [], ◌∷◌, ◌++◌, codes, Option, Some, None, refl, sym}
+use Rattle.std.proofs.Common.{ap, subst, ◌∙◌}
 use Rattle.std.specs.Prelude.{◌||◌}
 use Rattle.std.proofs.lemmas.Bool.{and_parts}
 use Rattle.deck_scan.specs.declared.token.Token.{Token}
@@ -23,14 +24,21 @@ still_no_schedule s l h = rnldef_first s.tokens l.tokens h
 
 -- ---- a statement that is no SCHEDULE
 
-pub gathered : (s : TokenLine) (ls : List TokenLine) → is_schedule s.tokens ≡ false → statements_from s ls ≡ first_from s ls ∷ statements (left_from s ls)
+pub gathered : (s : TokenLine) (ls : List TokenLine) → is_schedule s.tokens ≡ false
+    → statements_from s ls ≡ first_from s ls ∷ statements (left_from s ls)
 unfolding statements_from statements first_from left_from
 gathered s [] other = refl
 gathered s (l ∷ ls) other = rw other (go (goes_on s l) refl (gathered (with_line s l) ls))
   where
-    go : (on : Bool) → goes_on s l ≡ on → (is_schedule (with_line s l).tokens ≡ false → statements_from (with_line s l) ls ≡ first_from (with_line s l) ls ∷ statements (left_from (with_line s l) ls))
-        → cond on (statements_from (with_line s l) ls) (s ∷ statements_from l ls) ≡ cond on (first_from (with_line s l) ls) s ∷ statements (cond on (left_from (with_line s l) ls) (l ∷ ls))
-    go true is more = more (still_no_schedule s l (and_parts (begins_rnldef s.tokens) (is_open s.tokens || begins_operand l.tokens) is).0)
+    go : (on : Bool) → goes_on s l ≡ on
+        → (is_schedule (with_line s l).tokens ≡ false
+        → statements_from (with_line s l) ls
+        ≡ first_from (with_line s l) ls ∷ statements (left_from (with_line s l) ls))
+        → cond on (statements_from (with_line s l) ls) (s ∷ statements_from l ls)
+        ≡ cond on (first_from (with_line s l) ls) s ∷ statements (cond on (left_from (with_line s l) ls) (l ∷ ls))
+    go true is more =
+        more (still_no_schedule s l
+        (and_parts (begins_rnldef s.tokens) (is_open s.tokens || begins_operand l.tokens) is).0)
     go false is more = refl
 
 ends_schedule : (s : TokenLine) (ls : List TokenLine) → is_schedule s.tokens ≡ true → statements_from s ls ≡ s ∷ ls
@@ -40,7 +48,8 @@ ends_schedule s (l ∷ ls) p = rw p refl
 
 -- ---- the next statement
 
-module _ (scheduled : Bool) (found : Option TokenLine) (ls new old : List TokenLine) (seen : still scheduled ls ≡ old) (next : Next found ls new) where
+module _ (scheduled : Bool) (found : Option TokenLine) (ls new old : List TokenLine) (seen : still scheduled ls ≡ old)
+    (next : Next found ls new) where
   next_as : (f : Option TokenLine) → found ≡ f → Next f ls new
   next_as f is = subst (λ (x : Option TokenLine). Next x ls new) is next
 
@@ -56,10 +65,15 @@ module _ (scheduled : Bool) (found : Option TokenLine) (ls new old : List TokenL
   unfolding still
   one_left l some is = sym seen ∙ rw is (next_as (Some l) some)
 
-  pub schedule_left : (l : TokenLine) → found ≡ Some l → scheduled ≡ false → is_schedule l.tokens ≡ true → Next (Some l) old (still true new)
+  pub schedule_left : (l : TokenLine) → found ≡ Some l → scheduled ≡ false → is_schedule l.tokens ≡ true
+      → Next (Some l) old (still true new)
   unfolding still statements
-  schedule_left l some is schedule = sym seen ∙ rw is (ap statements (next_as (Some l) some) ∙ ends_schedule l new schedule)
+  schedule_left l some is schedule =
+      sym seen ∙ rw is (ap statements (next_as (Some l) some) ∙ ends_schedule l new schedule)
 
-  pub gathered_left : (l s : TokenLine) (left : List TokenLine) → found ≡ Some l → scheduled ≡ false → is_schedule l.tokens ≡ false → s ≡ first_from l new → left ≡ left_from l new → Next (Some s) old (still scheduled left)
+  pub gathered_left : (l s : TokenLine) (left : List TokenLine) → found ≡ Some l → scheduled ≡ false
+      → is_schedule l.tokens ≡ false → s ≡ first_from l new → left ≡ left_from l new
+      → Next (Some s) old (still scheduled left)
   unfolding still statements
-  gathered_left l s left some is other first rest = sym seen ∙ rw (is, first, rest) (ap statements (next_as (Some l) some) ∙ gathered l new other)
+  gathered_left l s left some is other first rest =
+      sym seen ∙ rw (is, first, rest) (ap statements (next_as (Some l) some) ∙ gathered l new other)

@@ -1,5 +1,6 @@
 -- Numbers of at most nine digits stay small.
-use Rattle.std.proofs.Common.{◌≡◌, ℕ, suc, ◌+◌, ◌-◌, ◌*◌, ◌^◌, ◌<◌, ◌≤◌, true, leb, List, ◌∷◌, length, Option, refl, sym, ap, subst, ◌∙◌, arith, lit<}
+use Rattle.std.proofs.Common.{◌≡◌, ℕ, suc, ◌+◌, ◌-◌, ◌*◌, ◌^◌, ◌<◌, ◌≤◌, true, leb, List, ◌∷◌, length, Option, refl}
+use Rattle.std.proofs.Common.{sym, ap, subst, ◌∙◌, arith, lit<}
 use Rattle.std.proofs.Math.Nat.{pow-suc, pow-le-pow_right, one-le-pow}
 use Rattle.std.proofs.lemmas.Bool.{and_parts, leb-true}
 use Rattle.grs_base.specs.ShortNames.{is_digit}
@@ -19,7 +20,8 @@ digit_fits n t h l =
 pub none_yet : (k : ℕ) → 0 < 10 ^ k
 none_yet k = let one : 1 ≤ 10 ^ k = one-le-pow k 10 (lit< tt) in omega (arith, one)
 
-pub digits_more : (n b d : ℕ) (rest tail : List ℕ) (total : Option ℕ) → rest ≡ b ∷ tail → is_digit b ≡ true → d ≡ b - 48 → digits n rest ≡ total → digits (n * 10 + d) tail ≡ total
+pub digits_more : (n b d : ℕ) (rest tail : List ℕ) (total : Option ℕ) → rest ≡ b ∷ tail → is_digit b ≡ true → d ≡ b - 48
+    → digits n rest ≡ total → digits (n * 10 + d) tail ≡ total
 unfolding digits
 digits_more n b d rest tail total is digit value so_far =
     let one : digits n (b ∷ tail) ≡ digits (n * 10 + (b - 48)) tail = rw digit refl in
@@ -29,14 +31,16 @@ pub digit_small : (b d : ℕ) → is_digit b ≡ true → d ≡ b - 48 → d ≤
 digit_small b d h is = let low = leb-true b 57 (and_parts (leb 48 b) (leb b 57) h).1 in omega (arith, low, is)
 
 -- a number of few digits, with one more
-pub small_more : (n b d : ℕ) (rest tail : List ℕ) → rest ≡ b ∷ tail → d ≤ 9 → length rest ≤ 9 → n < 10 ^ (9 - length rest) → n * 10 + d < 10 ^ (9 - length tail)
+pub small_more : (n b d : ℕ) (rest tail : List ℕ) → rest ≡ b ∷ tail → d ≤ 9 → length rest ≤ 9
+    → n < 10 ^ (9 - length rest) → n * 10 + d < 10 ^ (9 - length tail)
 small_more n b d rest tail is low short small =
     let long : length rest ≡ suc (length tail) = ap length is in
     let P : ℕ → Type 0 = λ k. n < 10 ^ (9 - k) in
     digit_more n d (length tail) (omega (arith, long, short)) low (subst P long small)
 
 -- a number of few digits, before one more
-pub small_now : (n b : ℕ) (rest tail : List ℕ) → rest ≡ b ∷ tail → length rest ≤ 9 → n < 10 ^ (9 - length rest) → n < 100000000
+pub small_now : (n b : ℕ) (rest tail : List ℕ) → rest ≡ b ∷ tail → length rest ≤ 9 → n < 10 ^ (9 - length rest)
+    → n < 100000000
 small_now n b rest tail is short small =
     let long : length rest ≡ suc (length tail) = ap length is in
     let P : ℕ → Type 0 = λ k. n < 10 ^ (9 - k) in

@@ -1,10 +1,13 @@
 -- Why a line is no statement.
-use Rattle.std.proofs.Common.{◌≡◌, inl, inr, ◌⊎◌, ℕ, Bool, true, false, cond, List, [], ◌∷◌, Option, Some, None, Result, Ok, Err, refl, sym, ap, subst, ◌∙◌}
+use Rattle.std.proofs.Common.{◌≡◌, inl, inr, ◌⊎◌, ℕ, Bool, true, false, cond, List, [], ◌∷◌, Option, Some, None, Result}
+use Rattle.std.proofs.Common.{Ok, Err, refl, sym, ap, subst, ◌∙◌}
 use Rattle.std.proofs.lemmas.Bool.{or_parts}
 use Rattle.std.specs.Prelude.{codes, is_some}
 use Rattle.std.specs.Str.{bytes_eq}
 use Rattle.grs_base.specs.declared.fault.Kind.{Kind}
-use Rattle.grs_base.specs.declared.fault.Kind.TheVariants.{TooLong, BadByte, UnknownStatement, BadOperand, NameLength, Repeated, OutOfPlace, TooMany, UnknownName, NoSystem, NotBuilt}
+use Rattle.grs_base.specs.declared.fault.Kind.TheVariants.{TooLong, BadByte, UnknownStatement, BadOperand, NameLength}
+use Rattle.grs_base.specs.declared.fault.Kind.TheVariants.{Repeated, OutOfPlace, TooMany, UnknownName, NoSystem}
+use Rattle.grs_base.specs.declared.fault.Kind.TheVariants.{NotBuilt}
 use Rattle.deck_scan.specs.declared.token.Token.{Token}
 use Rattle.deck_scan.specs.declared.token.Token.TheVariants.{Word, Unclosed}
 use Rattle.deck_scan.specs.declared.token.TokenLine.{TokenLine}
@@ -37,7 +40,8 @@ not_both r st k h e = absurd (let z : formed st ≡ failed k = sym h ∙ e in cc
 
 -- ---- the first word
 
-test_fails : (b : Bool) (k r : Key) → (k ≡ keys.Unknown → ⊥) → cond b k r ≡ keys.Unknown → (b ≡ false) × (r ≡ keys.Unknown)
+test_fails : (b : Bool) (k r : Key) → (k ≡ keys.Unknown → ⊥) → cond b k r ≡ keys.Unknown
+    → (b ≡ false) × (r ≡ keys.Unknown)
 test_fails true k r other h = absurd (other h)
 test_fails false k r other h = (refl, h)
 
@@ -92,7 +96,8 @@ keyed_none keys.At ts h = absurd (bad_not_unknown (plain_form keys.At ts) h)
 keyed_none keys.Schedule ts h = absurd (bad_not_unknown (plain_form keys.Schedule ts) h)
 keyed_none keys.Unbuilt ts h = absurd (bad_not_unknown (plain_form keys.Unbuilt ts) h)
 
-first_unknown : (joined : Bool) (ts : List Token) → first_form joined ts ≡ failed UnknownStatement → (joined ≡ true) ⊎ BeginsOtherwise ts
+first_unknown : (joined : Bool) (ts : List Token) → first_form joined ts ≡ failed UnknownStatement
+    → (joined ≡ true) ⊎ BeginsOtherwise ts
 unfolding first_form
 first_unknown true ts h = inl refl
 first_unknown false (Word w ∷ ts) h = inr (key_unknown w (keyed_none (key w) ts h))
@@ -100,7 +105,8 @@ first_unknown false (Unclosed ∷ ts) h = absurd cc
 first_unknown false [] h = inr tt
 first_unknown false (_ ∷ ts) h = inr tt
 
-unknown_first : (joined : Bool) (ts : List Token) → (joined ≡ true) ⊎ BeginsOtherwise ts → first_form joined ts ≡ failed UnknownStatement
+unknown_first : (joined : Bool) (ts : List Token) → (joined ≡ true) ⊎ BeginsOtherwise ts
+    → first_form joined ts ≡ failed UnknownStatement
 unfolding first_form
 unknown_first true ts h = refl
 unknown_first false (Word w ∷ ts) (inr h) = rw (unknown_key w h) refl
@@ -109,12 +115,14 @@ unknown_first false [] (inr h) = refl
 unknown_first false (_ ∷ ts) (inr h) = refl
 unknown_first false ts (inl h) = absurd cc
 
-pub unknown_there : (scheduled : Bool) (entries : ℕ) (l : TokenLine) → form scheduled entries l ≡ failed UnknownStatement → (scheduled ≡ false) × NoWord l
+pub unknown_there : (scheduled : Bool) (entries : ℕ) (l : TokenLine)
+    → form scheduled entries l ≡ failed UnknownStatement → (scheduled ≡ false) × NoWord l
 unfolding form
 unknown_there false entries l h = (refl, first_unknown l.joined l.tokens h)
 unknown_there true entries l h = absurd (bad_not_unknown (event_form entries l.tokens) h)
 
-pub there_unknown : (scheduled : Bool) (entries : ℕ) (l : TokenLine) → scheduled ≡ false → NoWord l → form scheduled entries l ≡ failed UnknownStatement
+pub there_unknown : (scheduled : Bool) (entries : ℕ) (l : TokenLine) → scheduled ≡ false → NoWord l
+    → form scheduled entries l ≡ failed UnknownStatement
 unfolding form
 there_unknown false entries l e h = unknown_first l.joined l.tokens h
 there_unknown true entries l e h = absurd cc
@@ -137,7 +145,8 @@ keyed_kind keys.At ts k h = inr (or_bad_kind (plain_form keys.At ts) k h)
 keyed_kind keys.Schedule ts k h = inr (or_bad_kind (plain_form keys.Schedule ts) k h)
 keyed_kind keys.Unbuilt ts k h = inr (or_bad_kind (plain_form keys.Unbuilt ts) k h)
 
-first_kind : (joined : Bool) (ts : List Token) (k : Kind) → first_form joined ts ≡ failed k → (UnknownStatement ≡ k) ⊎ (BadOperand ≡ k)
+first_kind : (joined : Bool) (ts : List Token) (k : Kind) → first_form joined ts ≡ failed k
+    → (UnknownStatement ≡ k) ⊎ (BadOperand ≡ k)
 unfolding first_form
 first_kind true ts k h = inl cc
 first_kind false (Word w ∷ ts) k h = keyed_kind (key w) ts k h
@@ -145,23 +154,32 @@ first_kind false (Unclosed ∷ ts) k h = inr cc
 first_kind false [] k h = inl cc
 first_kind false (_ ∷ ts) k h = inl cc
 
-form_kind : (scheduled : Bool) (entries : ℕ) (l : TokenLine) (k : Kind) → form scheduled entries l ≡ failed k → (UnknownStatement ≡ k) ⊎ (BadOperand ≡ k)
+form_kind : (scheduled : Bool) (entries : ℕ) (l : TokenLine) (k : Kind) → form scheduled entries l ≡ failed k
+    → (UnknownStatement ≡ k) ⊎ (BadOperand ≡ k)
 unfolding form
 form_kind false entries l k h = first_kind l.joined l.tokens k h
 form_kind true entries l k h = inr (or_bad_kind (event_form entries l.tokens) k h)
 
 -- a line that isn't read is no statement
-pub is_none : (scheduled : Bool) (entries : ℕ) (l : TokenLine) (k : Kind) → form scheduled entries l ≡ failed k → IsNoStatement k scheduled entries l
+pub is_none : (scheduled : Bool) (entries : ℕ) (l : TokenLine) (k : Kind) → form scheduled entries l ≡ failed k
+    → IsNoStatement k scheduled entries l
 is_none scheduled entries l k h = elim (form_kind scheduled entries l k h) [
-  | inl e ↦ subst (λ (x : Kind). IsNoStatement x scheduled entries l) e (unknown_there scheduled entries l (h ∙ ap failed (sym e)))
-  | inr e ↦ subst (λ (x : Kind). IsNoStatement x scheduled entries l) e (known (h ∙ ap failed (sym e)), λ st s. not_both (form scheduled entries l) st k (form_again scheduled entries l st s) h)
+  | inl e ↦ subst (λ (x : Kind). IsNoStatement x scheduled entries l) e
+      (unknown_there scheduled entries l (h ∙ ap failed (sym e)))
+  | inr e ↦ subst (λ (x : Kind). IsNoStatement x scheduled entries l) e (
+    known (h ∙ ap failed (sym e)),
+    λ st s. not_both (form scheduled entries l) st k (form_again scheduled entries l st s) h,
+  )
 ]
   where
     known : form scheduled entries l ≡ failed BadOperand → scheduled ≡ false → NoWord l → ⊥
-    known is e no_word = let z : failed UnknownStatement ≡ failed BadOperand = sym (there_unknown scheduled entries l e no_word) ∙ is in cc
+    known is e no_word =
+        let z : failed UnknownStatement ≡ failed BadOperand = sym (there_unknown scheduled entries l e no_word) ∙ is in
+        cc
 
 -- a line that is no statement isn't read
-pub none_is : (scheduled : Bool) (entries : ℕ) (l : TokenLine) (k : Kind) → IsNoStatement k scheduled entries l → form scheduled entries l ≡ failed k
+pub none_is : (scheduled : Bool) (entries : ℕ) (l : TokenLine) (k : Kind) → IsNoStatement k scheduled entries l
+    → form scheduled entries l ≡ failed k
 none_is scheduled entries l UnknownStatement h = there_unknown scheduled entries l h.0 h.1
 none_is scheduled entries l BadOperand h = go (form scheduled entries l) refl
   where
@@ -183,22 +201,31 @@ none_is scheduled entries l NotBuilt h = absurd h
 
 -- ---- what is answered
 
-pub answers : (r : Result Stmt Kind) (scheduled : Bool) (entries : ℕ) (l : TokenLine) → r ≡ form scheduled entries l → Answers r scheduled entries l
+pub answers : (r : Result Stmt Kind) (scheduled : Bool) (entries : ℕ) (l : TokenLine) → r ≡ form scheduled entries l
+    → Answers r scheduled entries l
 answers (Ok st) scheduled entries l h = form_taken scheduled entries l st (sym h)
 answers (Err k) scheduled entries l h = is_none scheduled entries l k (sym h)
 
-pub one_spelled : (scheduled : Bool) (entries : ℕ) (l : TokenLine) (a b : Stmt) → Spells scheduled entries l a → Spells scheduled entries l b → a ≡ b
-one_spelled scheduled entries l a b h k = formed_is a b (sym (form_again scheduled entries l a h) ∙ form_again scheduled entries l b k)
+pub one_spelled : (scheduled : Bool) (entries : ℕ) (l : TokenLine) (a b : Stmt) → Spells scheduled entries l a
+    → Spells scheduled entries l b → a ≡ b
+one_spelled scheduled entries l a b h k =
+    formed_is a b (sym (form_again scheduled entries l a h) ∙ form_again scheduled entries l b k)
 
-pub either : (scheduled : Bool) (entries : ℕ) (l : TokenLine) → ((st : Stmt) × Spells scheduled entries l st) ⊎ ((k : Kind) × IsNoStatement k scheduled entries l)
+pub either : (scheduled : Bool) (entries : ℕ) (l : TokenLine)
+    → ((st : Stmt) × Spells scheduled entries l st) ⊎ ((k : Kind) × IsNoStatement k scheduled entries l)
 either scheduled entries l = go (form scheduled entries l) refl
   where
-    go : (r : Result Stmt Kind) → form scheduled entries l ≡ r → ((st : Stmt) × Spells scheduled entries l st) ⊎ ((k : Kind) × IsNoStatement k scheduled entries l)
+    go : (r : Result Stmt Kind) → form scheduled entries l ≡ r
+        → ((st : Stmt) × Spells scheduled entries l st) ⊎ ((k : Kind) × IsNoStatement k scheduled entries l)
     go (Ok st) is = inl (st, form_taken scheduled entries l st is)
     go (Err k) is = inr (k, is_none scheduled entries l k is)
 
-pub apart : (scheduled : Bool) (entries : ℕ) (l : TokenLine) (st : Stmt) (k : Kind) → Spells scheduled entries l st → IsNoStatement k scheduled entries l → ⊥
-apart scheduled entries l st k s h = not_both (form scheduled entries l) st k (form_again scheduled entries l st s) (none_is scheduled entries l k h)
+pub apart : (scheduled : Bool) (entries : ℕ) (l : TokenLine) (st : Stmt) (k : Kind) → Spells scheduled entries l st
+    → IsNoStatement k scheduled entries l → ⊥
+apart scheduled entries l st k s h =
+    not_both (form scheduled entries l) st k (form_again scheduled entries l st s) (none_is scheduled entries l k h)
 
-pub one_kind : (scheduled : Bool) (entries : ℕ) (l : TokenLine) (j k : Kind) → IsNoStatement j scheduled entries l → IsNoStatement k scheduled entries l → j ≡ k
-one_kind scheduled entries l j k a b = failed_is j k (sym (none_is scheduled entries l j a) ∙ none_is scheduled entries l k b)
+pub one_kind : (scheduled : Bool) (entries : ℕ) (l : TokenLine) (j k : Kind) → IsNoStatement j scheduled entries l
+    → IsNoStatement k scheduled entries l → j ≡ k
+one_kind scheduled entries l j k a b =
+    failed_is j k (sym (none_is scheduled entries l j a) ∙ none_is scheduled entries l k b)

@@ -1,5 +1,6 @@
 -- How the tokens of a line spell a statement, by cases on the statement.
-use Rattle.std.specs.Prelude.{◌≡◌, ℕ, Bool, true, false, ◌||◌, ◌<◌, ◌⊎◌, List, [], ◌∷◌, ◌++◌, codes, Some, None, is_some, Result, Ok, Err}
+use Rattle.std.specs.Prelude.{◌≡◌, ℕ, Bool, true, false, ◌||◌, ◌<◌, ◌⊎◌, List, [], ◌∷◌, ◌++◌, codes, Some, None}
+use Rattle.std.specs.Prelude.{is_some, Result, Ok, Err}
 use Rattle.std.specs.List.{flat_map}
 use Rattle.std.specs.Str.{bytes_eq}
 use Rattle.grs_base.specs.declared.fault.Kind.{Kind}
@@ -67,7 +68,9 @@ pub record IsComplex (ts : List Token) (c : Setup) : Type 0 where
 -- What stands behind the number of a command.
 abbrev pub IsOrder : List Token → GivenOrder → Type 0
 IsOrder ts orders.Star = ts ≡ Word (codes "SETGRS") ∷ Word (codes "MODE") ∷ Equals ∷ Word (codes "STAR") ∷ []
-IsOrder ts (orders.Vary n) = (ts ≡ Word (codes "VARY") ∷ Word (codes "GRS") ∷ Open ∷ Word n ∷ Close ∷ Comma ∷ Word (codes "PURGE") ∷ []) × IsName n
+IsOrder ts (orders.Vary n) =
+    (ts ≡ Word (codes "VARY") ∷ Word (codes "GRS") ∷ Open ∷ Word n ∷ Close ∷ Comma ∷ Word (codes "PURGE") ∷ [])
+    × IsName n
 
 -- What stands behind AT: a number and what is commanded.
 pub record IsCommand (ts : List Token) (c : Command) : Type 0 where
@@ -147,7 +150,8 @@ NoWord l = (l.joined ≡ true) ⊎ BeginsOtherwise l.tokens
 -- is not so, and it spells no statement.
 abbrev pub IsNoStatement : Kind → Bool → ℕ → TokenLine → Type 0
 IsNoStatement UnknownStatement scheduled entries l = (scheduled ≡ false) × NoWord l
-IsNoStatement BadOperand scheduled entries l = (scheduled ≡ false → NoWord l → ⊥) × ((st : Stmt) → Spells scheduled entries l st → ⊥)
+IsNoStatement BadOperand scheduled entries l =
+    (scheduled ≡ false → NoWord l → ⊥) × ((st : Stmt) → Spells scheduled entries l st → ⊥)
 IsNoStatement _ scheduled entries l = ⊥
 
 -- What is answered of a line: the statement that it spells, or why it is none.

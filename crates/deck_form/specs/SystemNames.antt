@@ -1,5 +1,6 @@
 -- The names that the SYSTEM statements of a deck give, wherever these stand.
-use Rattle.std.specs.Prelude.{ℕ, Bool, not, nat_le, List, length, codes, filter_map, position, take_while, Option, Some, None, if◌then◌else◌}
+use Rattle.std.specs.Prelude.{ℕ, Bool, not, nat_le, List, length, codes, filter_map, position, take_while, Option, Some}
+use Rattle.std.specs.Prelude.{None, if◌then◌else◌}
 use Rattle.std.specs.List.{list_any}
 use Rattle.std.specs.Str.{bytes_eq}
 use Rattle.grs_base.specs.Limits.{most_name_bytes}

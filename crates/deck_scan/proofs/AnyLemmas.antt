@@ -1,5 +1,6 @@
 -- A text of any bytes, as it is read.
-use Rattle.std.proofs.Common.{◌≡◌, ℕ, ◌+◌, Bool, true, false, cond, eqb, List, [], ◌∷◌, Some, None, refl, sym, ap, subst}
+use Rattle.std.proofs.Common.{◌≡◌, ℕ, ◌+◌, Bool, true, false, cond, eqb, List, [], ◌∷◌, Some, None, refl, sym, ap}
+use Rattle.std.proofs.Common.{subst}
 use Rattle.std.specs.Prelude.{◌&&◌, ◌||◌}
 use Rattle.grs_base.specs.Printed.{is_printable}
 use Rattle.deck_scan.specs.declared.token.TokenLine.{TokenLine}
@@ -45,7 +46,8 @@ unfolding readable bad_line
 readable_allowed [] n = refl
 readable_allowed (b ∷ bs) n = go (is_allowed b bs) refl (λ m. readable_allowed bs m)
   where
-    go : (ok : Bool) → is_allowed b bs ≡ ok → ((m : ℕ) → bad_line m (readable bs) ≡ None) → bad_line n (cond ok (b ∷ readable bs) wrong_byte) ≡ None
+    go : (ok : Bool) → is_allowed b bs ≡ ok → ((m : ℕ) → bad_line m (readable bs) ≡ None)
+        → bad_line n (cond ok (b ∷ readable bs) wrong_byte) ≡ None
     go true e next = rw (same_allowed b bs, e) (next (cond (eqb b 10) (n + 1) n))
     go false e next = wrong_allowed n
 
@@ -55,7 +57,8 @@ unfolding readable bad_line
 readable_all [] n h = refl
 readable_all (b ∷ bs) n h = go (is_allowed b bs) h (λ m k. readable_all bs m k)
   where
-    go : (ok : Bool) → cond ok (bad_line (cond (eqb b 10) (n + 1) n) bs) (Some n) ≡ None → ((m : ℕ) → bad_line m bs ≡ None → readable bs ≡ bs) → cond ok (b ∷ readable bs) wrong_byte ≡ b ∷ bs
+    go : (ok : Bool) → cond ok (bad_line (cond (eqb b 10) (n + 1) n) bs) (Some n) ≡ None
+        → ((m : ℕ) → bad_line m bs ≡ None → readable bs ≡ bs) → cond ok (b ∷ readable bs) wrong_byte ≡ b ∷ bs
     go true k next = ap (λ (x : List ℕ). b ∷ x) (next _ k)
     go false k next = absurd cc
 

@@ -1,5 +1,6 @@
 -- A scan keeps the closing parentheses that it has taken, and a byte takes one or none.
-use Rattle.std.proofs.Common.{◌≡◌, ℕ, suc, ◌+◌, ◌≤◌, Bool, true, false, cond, eqb, List, [], ◌∷◌, ◌++◌, length, take, drop, refl, ap, ◌∙◌, arith}
+use Rattle.std.proofs.Common.{◌≡◌, ℕ, suc, ◌+◌, ◌≤◌, Bool, true, false, cond, eqb, List, [], ◌∷◌, ◌++◌, length, take}
+use Rattle.std.proofs.Common.{drop, refl, ap, ◌∙◌, arith}
 use Rattle.std.proofs.lemmas.Bool.{eqb-true}
 use Rattle.std.proofs.lemmas.List.{take-append-drop}
 use Rattle.deck_scan.specs.declared.token.Token.{Token}
@@ -7,7 +8,9 @@ use Rattle.deck_scan.specs.declared.token.Token.TheVariants.{Word, Name, Open, C
 use Rattle.deck_scan.specs.declared.token.TokenLine.{TokenLine}
 use Rattle.deck_scan.specs.Bytes.{is_word, is_hex}
 use Rattle.deck_scan.specs.Pieces.{lines_with}
-use Rattle.deck_scan.specs.Scan.{Scan, Mode, InBlank, AfterSlash, InWord, InQuote, AfterQuote, InHex, InHexLow, InBadHex, InComment, AfterStar, put, put_word, put_open, end_line, break_off, begin_word, begin, step_in, step, scan_from, finish_in, start, lines_of}
+use Rattle.deck_scan.specs.Scan.{Scan, Mode, InBlank, AfterSlash, InWord, InQuote, AfterQuote, InHex, InHexLow}
+use Rattle.deck_scan.specs.Scan.{InBadHex, InComment, AfterStar, put, put_word, put_open, end_line, break_off}
+use Rattle.deck_scan.specs.Scan.{begin_word, begin, step_in, step, scan_from, finish_in, start, lines_of}
 use Rattle.deck_scan.specs.Closes.{closes, all_closes, weight}
 
 -- ---- how many closing parentheses tokens and lines have
@@ -24,10 +27,13 @@ none_closes : (ts : List Token) → eqb (length ts) 0 ≡ true → closes ts ≡
 none_closes [] h = refl
 none_closes (t ∷ ts) h = absurd (let e = eqb-true (length (t ∷ ts)) 0 h in omega (arith, e))
 
-lines_closes : (at : ℕ) (ts : List Token) (joined : Bool) (ls : List TokenLine) → all_closes (lines_with at ts joined ls) ≡ closes ts + all_closes ls
+lines_closes : (at : ℕ) (ts : List Token) (joined : Bool) (ls : List TokenLine)
+    → all_closes (lines_with at ts joined ls) ≡ closes ts + all_closes ls
 lines_closes at ts joined ls = go (eqb (length ts) 0) refl
   where
-    go : (b : Bool) → eqb (length ts) 0 ≡ b → all_closes (cond b ls (ls ++ record { at = at; tokens = ts; joined = joined } ∷ [])) ≡ closes ts + all_closes ls
+    go : (b : Bool) → eqb (length ts) 0 ≡ b
+        → all_closes (cond b ls (ls ++ record { at = at; tokens = ts; joined = joined } ∷ []))
+        ≡ closes ts + all_closes ls
     go true e = let h = none_closes ts e in omega (arith, h)
     go false e = let h = all_closes-push ls (record { at = at; tokens = ts; joined = joined }) in omega (arith, h)
 
@@ -94,11 +100,16 @@ module _ (n : ℕ) where
   has-in InWord s b h = chosen (is_word b) _ _ h (chosen _ _ _ h (has-begin (put_word s) b (has-put_word s h)))
   has-in InQuote s b h = chosen (eqb b 39) _ _ h (chosen (eqb b 10) _ _ (has-break_off s h) h)
   has-in AfterQuote s b h = chosen (eqb b 39) _ _ h (has-begin (put (Name s.part) s) b (has-put (Name s.part) s h))
-  has-in InHex s b h = chosen (eqb b 39) _ _ (has-put (Name s.part) s h) (chosen (eqb b 10) _ _ (has-break_off s h) (chosen (is_hex b) _ _ h h))
-  has-in InHexLow s b h = chosen (eqb b 39) _ _ (has-put Stray s h) (chosen (eqb b 10) _ _ (has-break_off s h) (chosen (is_hex b) _ _ h h))
+  has-in InHex s b h =
+      chosen (eqb b 39) _ _ (has-put (Name s.part) s h)
+      (chosen (eqb b 10) _ _ (has-break_off s h) (chosen (is_hex b) _ _ h h))
+  has-in InHexLow s b h =
+      chosen (eqb b 39) _ _ (has-put Stray s h) (chosen (eqb b 10) _ _ (has-break_off s h) (chosen (is_hex b) _ _ h h))
   has-in InBadHex s b h = chosen (eqb b 39) _ _ (has-put Stray s h) (chosen (eqb b 10) _ _ (has-break_off s h) h)
   has-in InComment s b h = chosen (eqb b 42) _ _ h (chosen (eqb b 10) _ _ (has-end_line s h) h)
-  has-in AfterStar s b h = chosen (eqb b 47) _ _ h (chosen (eqb b 42) _ _ h (chosen (eqb b 10) _ _ (has-end_line (record s { mode = InComment }) h) h))
+  has-in AfterStar s b h =
+      chosen (eqb b 47) _ _ h
+      (chosen (eqb b 42) _ _ h (chosen (eqb b 10) _ _ (has-end_line (record s { mode = InComment }) h) h))
 
   has-step : (s : Scan) (b : ℕ) → Has s → Has (step s b)
   unfolding step
@@ -124,8 +135,14 @@ finish_closes AfterQuote s = let k = count-put (Name s.part) s in omega (arith, 
 finish_closes InHex s = let k = count-put Stray s in omega (arith, k)
 finish_closes InHexLow s = let k = count-put Stray s in omega (arith, k)
 finish_closes InBadHex s = let k = count-put Stray s in omega (arith, k)
-finish_closes InComment s = let k = count-put Unclosed (record (end_line s) { line = s.begun }) in let j = count-end_line s in omega (arith, k, j)
-finish_closes AfterStar s = let k = count-put Unclosed (record (end_line s) { line = s.begun }) in let j = count-end_line s in omega (arith, k, j)
+finish_closes InComment s =
+    let k = count-put Unclosed (record (end_line s) { line = s.begun }) in
+    let j = count-end_line s in
+    omega (arith, k, j)
+finish_closes AfterStar s =
+    let k = count-put Unclosed (record (end_line s) { line = s.begun }) in
+    let j = count-end_line s in
+    omega (arith, k, j)
 
 pub text_closes : (text : List ℕ) → all_closes (lines_of text) ≡ count (scan_from start text)
 unfolding lines_of
@@ -231,12 +248,20 @@ module _ (s : Scan) (b : ℕ) (other : eqb b 41 ≡ false) where
   in-same AfterSlash = either (eqb b 42) _ _ refl (begin-same (put Stray s) (put-same Stray s refl refl))
   in-same InWord = either (is_word b) _ _ refl (either _ _ _ refl (begin-same (put_word s) (count-put_word s)))
   in-same InQuote = either (eqb b 39) _ _ refl (either (eqb b 10) _ _ (break_off-same s refl) refl)
-  in-same AfterQuote = either (eqb b 39) _ _ refl (begin-same (put (Name s.part) s) (put-same (Name s.part) s refl refl))
-  in-same InHex = either (eqb b 39) _ _ (put-same (Name s.part) s refl refl) (either (eqb b 10) _ _ (break_off-same s refl) (either (is_hex b) _ _ refl refl))
-  in-same InHexLow = either (eqb b 39) _ _ (put-same Stray s refl refl) (either (eqb b 10) _ _ (break_off-same s refl) (either (is_hex b) _ _ refl refl))
-  in-same InBadHex = either (eqb b 39) _ _ (put-same Stray s refl refl) (either (eqb b 10) _ _ (break_off-same s refl) refl)
+  in-same AfterQuote =
+      either (eqb b 39) _ _ refl (begin-same (put (Name s.part) s) (put-same (Name s.part) s refl refl))
+  in-same InHex =
+      either (eqb b 39) _ _ (put-same (Name s.part) s refl refl)
+      (either (eqb b 10) _ _ (break_off-same s refl) (either (is_hex b) _ _ refl refl))
+  in-same InHexLow =
+      either (eqb b 39) _ _ (put-same Stray s refl refl)
+      (either (eqb b 10) _ _ (break_off-same s refl) (either (is_hex b) _ _ refl refl))
+  in-same InBadHex =
+      either (eqb b 39) _ _ (put-same Stray s refl refl) (either (eqb b 10) _ _ (break_off-same s refl) refl)
   in-same InComment = either (eqb b 42) _ _ refl (either (eqb b 10) _ _ (end_line-same s refl) refl)
-  in-same AfterStar = either (eqb b 47) _ _ refl (either (eqb b 42) _ _ refl (either (eqb b 10) _ _ (end_line-same (record s { mode = InComment }) refl) refl))
+  in-same AfterStar =
+      either (eqb b 47) _ _ refl
+      (either (eqb b 42) _ _ refl (either (eqb b 10) _ _ (end_line-same (record s { mode = InComment }) refl) refl))
 
 pub another : (s : Scan) (b : ℕ) → eqb b 41 ≡ false → count (step s b) ≡ count s
 unfolding step
@@ -250,5 +275,6 @@ closing s = in_closed s.mode s refl
 pub few_closes : (text : List ℕ) (k : ℕ) → all_closes (lines_of (take k text)) ≤ all_closes (lines_of text)
 few_closes text k =
     let h = front_closes (take k text) (drop k text) in
-    let e : all_closes (lines_of (take k text ++ drop k text)) ≡ all_closes (lines_of text) = ap (λ (t : List ℕ). all_closes (lines_of t)) (take-append-drop k text) in
+    let e : all_closes (lines_of (take k text ++ drop k text)) ≡ all_closes (lines_of text) =
+    ap (λ (t : List ℕ). all_closes (lines_of t)) (take-append-drop k text) in
     omega (arith, h, e)

@@ -1,5 +1,6 @@
 -- The same lines are to come behind a gap, and a word behind it is the first of the next line.
-use Rattle.std.proofs.Common.{◌≡◌, ℕ, ◌+◌, ◌<◌, Bool, true, false, cond, not, eqb, List, [], ◌∷◌, ◌++◌, length, drop, Option, Some, None, is_some, refl, sym, ap, subst, ◌∙◌, arith}
+use Rattle.std.proofs.Common.{◌≡◌, ℕ, ◌+◌, ◌<◌, Bool, true, false, cond, not, eqb, List, [], ◌∷◌, ◌++◌, length, drop}
+use Rattle.std.proofs.Common.{Option, Some, None, is_some, refl, sym, ap, subst, ◌∙◌, arith}
 use Rattle.std.specs.Prelude.{◌&&◌, ◌||◌, ◌==◌}
 use Rattle.std.specs.Str.{bytes_eq}
 use Rattle.std.specs.List.{list_all}
@@ -12,9 +13,14 @@ use Rattle.deck_scan.specs.declared.token.TokenLine.{TokenLine}
 use Rattle.deck_scan.specs.declared.cursor.Cursor.{Cursor}
 use Rattle.deck_scan.specs.Bytes.{begins, is_word, is_allowed}
 use Rattle.deck_scan.specs.AnyBytes.{readable}
-use Rattle.deck_scan.specs.Pieces.{Piece, Plain, Quoted, Hexed, Sign, Blank, Comment, LineEnd, LoneSlash, StrayByte, OpenQuote, OpenHexed, OpenComment, sign, spelled, is_mark, is_nonempty, is_piece, followed_by, are_pieces, is_hexed, unhex, hex_token, lines_with, Place, next_line, over, over_open, past, past_all, without_cr}
-use Rattle.deck_scan.specs.Scan.{Scan, InComment, AfterStar, put, step, step_in, begin, begin_word, end_line, finish_in, scan_from}
-use Rattle.deck_scan.specs.Rows.{at_row, to_come, coming, word_in, front_word, first_word, IsSplit, starts, begins_gap, ends_text, is_at_token, GoesOver}
+use Rattle.deck_scan.specs.Pieces.{Piece, Plain, Quoted, Hexed, Sign, Blank, Comment, LineEnd, LoneSlash, StrayByte}
+use Rattle.deck_scan.specs.Pieces.{OpenQuote, OpenHexed, OpenComment, sign, spelled, is_mark, is_nonempty, is_piece}
+use Rattle.deck_scan.specs.Pieces.{followed_by, are_pieces, is_hexed, unhex, hex_token, lines_with, Place, next_line}
+use Rattle.deck_scan.specs.Pieces.{over, over_open, past, past_all, without_cr}
+use Rattle.deck_scan.specs.Scan.{Scan, InComment, AfterStar, put, step, step_in, begin, begin_word, end_line, finish_in}
+use Rattle.deck_scan.specs.Scan.{scan_from}
+use Rattle.deck_scan.specs.Rows.{at_row, to_come, coming, word_in, front_word, first_word, IsSplit, starts, begins_gap}
+use Rattle.deck_scan.specs.Rows.{ends_text, is_at_token, GoesOver}
 use Rattle.deck_scan.proofs.Said.{state, at_end, not_true, test_not}
 use Rattle.deck_scan.proofs.Found.{by_test, found_pieces}
 use Rattle.deck_scan.proofs.Names.{printable-no_cr, plain_printable, all_kept}
@@ -47,18 +53,21 @@ cr_front b [] ok cr = absurd (let z : false ≡ true = sym (rw (eqb-true b 13 cr
 cr_front b (c ∷ cs) ok cr = let e = eqb-true b 13 cr in rw (e, eqb-true c 10 (rw e at ok)) refl
 
 -- behind a star that no slash follows a comment is as before it
-star_step : (c : ℕ) (r : Scan) → eqb c 13 ≡ false → eqb c 47 ≡ false → step (state AfterStar [] r) c ≡ step (state InComment [] r) c
+star_step : (c : ℕ) (r : Scan) → eqb c 13 ≡ false → eqb c 47 ≡ false
+    → step (state AfterStar [] r) c ≡ step (state InComment [] r) c
 unfolding step step_in
 star_step c r cr slash = rw (cr, slash) refl
 
 abbrev StarGone : Scan → List ℕ → Type 0
-StarGone r bs = at_end (scan_from (state AfterStar [] r) (readable bs)) ≡ at_end (scan_from (state InComment [] r) (readable bs))
+StarGone r bs =
+    at_end (scan_from (state AfterStar [] r) (readable bs)) ≡ at_end (scan_from (state InComment [] r) (readable bs))
 
 star_cr : (r : Scan) (bs : List ℕ) → StarGone r (13 ∷ 10 ∷ bs)
 unfolding readable is_allowed scan_from step step_in
 star_cr r bs = refl
 
-star_good : (r : Scan) (c : ℕ) (cs : List ℕ) → is_allowed c cs ≡ true → eqb c 13 ≡ false → eqb c 47 ≡ false → StarGone r (c ∷ cs)
+star_good : (r : Scan) (c : ℕ) (cs : List ℕ) → is_allowed c cs ≡ true → eqb c 13 ≡ false → eqb c 47 ≡ false
+    → StarGone r (c ∷ cs)
 unfolding readable scan_from
 star_good r c cs ok cr slash = rw ok (ap (λ (s : Scan). at_end (scan_from s (readable cs))) (star_step c r cr slash))
 
@@ -71,7 +80,9 @@ unfolding readable scan_from finish_in put end_line
 star_gone r [] h = refl
 star_gone r (c ∷ cs) h =
     by_test (is_allowed c cs)
-    (λ ok. by_test (eqb c 13) (λ cr. subst (StarGone r) (sym (cr_front c cs ok cr)) (star_cr r (drop 1 cs))) (λ unlike. star_good r c cs ok unlike h))
+    (λ ok.
+    by_test (eqb c 13) (λ cr. subst (StarGone r) (sym (cr_front c cs ok cr)) (star_cr r (drop 1 cs)))
+    (λ unlike. star_good r c cs ok unlike h))
     (star_wrong r c cs)
 
 -- a byte of a comment leaves it open, but that a star may end it
@@ -79,33 +90,42 @@ cr_step : (s : Scan) (b : ℕ) → eqb b 13 ≡ true → step s b ≡ s
 unfolding step
 cr_step s b cr = rw cr refl
 
-star_there : (r : Scan) (b : ℕ) → eqb b 13 ≡ false → eqb b 42 ≡ true → step (state InComment [] r) b ≡ state AfterStar [] r
+star_there : (r : Scan) (b : ℕ) → eqb b 13 ≡ false → eqb b 42 ≡ true
+    → step (state InComment [] r) b ≡ state AfterStar [] r
 unfolding step step_in
 star_there r b unlike star = rw (unlike, star) refl
 
-other_step : (r : Scan) (b : ℕ) → eqb b 13 ≡ false → eqb b 42 ≡ false → eqb b 10 ≡ false → step (state InComment [] r) b ≡ state InComment [] r
+other_step : (r : Scan) (b : ℕ) → eqb b 13 ≡ false → eqb b 42 ≡ false → eqb b 10 ≡ false
+    → step (state InComment [] r) b ≡ state InComment [] r
 unfolding step step_in
 other_step r b unlike star lf = rw (unlike, star, lf) refl
 
-byte_inside : (line begun b : ℕ) (bs : List ℕ) → is_allowed b bs ≡ true → eqb b 10 ≡ false → (b == 42 && begins 47 bs) ≡ false → to_come line (Some begun) (b ∷ bs) ≡ to_come line (Some begun) bs
+byte_inside : (line begun b : ℕ) (bs : List ℕ) → is_allowed b bs ≡ true → eqb b 10 ≡ false
+    → (b == 42 && begins 47 bs) ≡ false → to_come line (Some begun) (b ∷ bs) ≡ to_come line (Some begun) bs
 unfolding to_come readable scan_from
 byte_inside line begun b bs ok lf star =
     rw ok
     (by_test (eqb b 13) (λ cr. passed (cr_step r b cr))
-    (λ unlike. by_test (eqb b 42) (λ is. passed (star_there r b unlike is) ∙ star_gone r bs (sym (ap (λ (x : Bool). x && begins 47 bs) is) ∙ star)) (λ other. passed (other_step r b unlike other lf))))
+    (λ unlike.
+    by_test (eqb b 42)
+    (λ is. passed (star_there r b unlike is) ∙ star_gone r bs (sym (ap (λ (x : Bool). x && begins 47 bs) is) ∙ star))
+    (λ other. passed (other_step r b unlike other lf))))
   where
     r : Scan
     r = at_row line (Some begun)
 
-    passed : {s : Scan} → step r b ≡ s → at_end (scan_from (step r b) (readable bs)) ≡ at_end (scan_from s (readable bs))
+    passed : {s : Scan} → step r b ≡ s
+        → at_end (scan_from (step r b) (readable bs)) ≡ at_end (scan_from s (readable bs))
     passed e = ap (λ (x : Scan). at_end (scan_from x (readable bs))) e
 
 -- ---- as the reader goes over them
 
 -- from one place to the next
-goes : (from to : Cursor) (begun : Option ℕ) (text : List ℕ) (line : ℕ) (after : Option ℕ) (rest : List ℕ) → from.begun ≡ begun → from.rest.now ≡ text → to.line ≡ line → to.begun ≡ after → to.rest.now ≡ rest
+goes : (from to : Cursor) (begun : Option ℕ) (text : List ℕ) (line : ℕ) (after : Option ℕ) (rest : List ℕ)
+    → from.begun ≡ begun → from.rest.now ≡ text → to.line ≡ line → to.begun ≡ after → to.rest.now ≡ rest
     → to_come from.line begun text ≡ to_come line after rest → length rest < length text → GoesOver from to
-goes from to begun text line after rest b t l a r same less = record { same = rw (b, t, l, a, r) (sym same); shorter = rw (t, r) less }
+goes from to begun text line after rest b t l a r same
+    less = record { same = rw (b, t, l, a, r) (sym same); shorter = rw (t, r) less }
 
 none_of : (o : Option ℕ) → is_some o ≡ false → o ≡ None
 none_of None h = refl
@@ -117,21 +137,32 @@ some_of None h = absurd cc
 
 module _ (from to : Cursor) (b : ℕ) (tail : List ℕ) (front : from.rest.now ≡ b ∷ tail) where
   module _ (apart : is_some from.begun ≡ false) where
-    pub over_begin : (b == 47 && begins 42 tail) ≡ true → to.line ≡ from.line → to.begun ≡ Some from.line → to.rest.now ≡ drop 1 tail → GoesOver from to
+    pub over_begin : (b == 47 && begins 42 tail) ≡ true → to.line ≡ from.line → to.begun ≡ Some from.line
+        → to.rest.now ≡ drop 1 tail → GoesOver from to
     over_begin pair line begun rest =
-        goes from to None (47 ∷ 42 ∷ drop 1 tail) from.line (Some from.line) (drop 1 tail) (none_of from.begun apart) (pair_front 47 42 from.rest.now b tail front pair) line begun rest (comment_apart from.line (drop 1 tail)) (omega arith)
+        goes from to None (47 ∷ 42 ∷ drop 1 tail) from.line (Some from.line) (drop 1 tail) (none_of from.begun apart)
+        (pair_front 47 42 from.rest.now b tail front pair) line begun rest (comment_apart from.line (drop 1 tail))
+        (omega arith)
 
     pub over_end : b ≡ 10 → to.line ≡ from.line + 1 → to.begun ≡ None → to.rest.now ≡ tail → GoesOver from to
     over_end is line begun rest =
-        goes from to None (10 ∷ tail) (from.line + 1) None tail (none_of from.begun apart) (front ∙ ap (λ (c : ℕ). c ∷ tail) is) line begun rest (lf_apart from.line tail) (omega arith)
+        goes from to None (10 ∷ tail) (from.line + 1) None tail (none_of from.begun apart)
+        (front ∙ ap (λ (c : ℕ). c ∷ tail) is) line begun rest (lf_apart from.line tail) (omega arith)
 
-    pub over_blank : (b == 32 || (b == 13 && begins 10 tail)) ≡ true → to.line ≡ from.line → to.begun ≡ None → to.rest.now ≡ tail → GoesOver from to
+    pub over_blank : (b == 32 || (b == 13 && begins 10 tail)) ≡ true → to.line ≡ from.line → to.begun ≡ None
+        → to.rest.now ≡ tail → GoesOver from to
     over_blank is line begun rest =
         by_test (eqb b 32)
-        (λ blank. goes from to None (32 ∷ tail) from.line None tail none (front ∙ ap (λ (c : ℕ). c ∷ tail) (eqb-true b 32 blank)) line begun rest (blank_apart from.line tail) (omega arith))
-        (λ unlike. let text = pair_front 13 10 from.rest.now b tail front (sym (ap (λ (x : Bool). x || (b == 13 && begins 10 tail)) unlike) ∙ is) in
+        (λ blank.
+        goes from to None (32 ∷ tail) from.line None tail none (front ∙ ap (λ (c : ℕ). c ∷ tail) (eqb-true b 32 blank))
+        line begun rest (blank_apart from.line tail) (omega arith))
+        (λ unlike.
+        let text =
+        pair_front 13 10 from.rest.now b tail front
+        (sym (ap (λ (x : Bool). x || (b == 13 && begins 10 tail)) unlike) ∙ is) in
         let own : tail ≡ 10 ∷ drop 1 tail = ap (drop 1) (sym front ∙ text) in
-        goes from to None (13 ∷ 10 ∷ drop 1 tail) from.line None (10 ∷ drop 1 tail) none text line begun (rest ∙ own) (cr_apart from.line (drop 1 tail)) (omega arith))
+        goes from to None (13 ∷ 10 ∷ drop 1 tail) from.line None (10 ∷ drop 1 tail) none text line begun (rest ∙ own)
+        (cr_apart from.line (drop 1 tail)) (omega arith))
       where
         none : from.begun ≡ None
         none = none_of from.begun apart
@@ -140,18 +171,25 @@ module _ (from to : Cursor) (b : ℕ) (tail : List ℕ) (front : from.rest.now �
     begun_on : (n : ℕ) × (from.begun ≡ Some n)
     begun_on = some_of from.begun inside
 
-    pub over_close : (b == 42 && begins 47 tail) ≡ true → to.line ≡ from.line → to.begun ≡ None → to.rest.now ≡ drop 1 tail → GoesOver from to
+    pub over_close : (b == 42 && begins 47 tail) ≡ true → to.line ≡ from.line → to.begun ≡ None
+        → to.rest.now ≡ drop 1 tail → GoesOver from to
     over_close pair line begun rest =
-        goes from to (Some begun_on.0) (42 ∷ 47 ∷ drop 1 tail) from.line None (drop 1 tail) begun_on.1 (pair_front 42 47 from.rest.now b tail front pair) line begun rest (comment_done from.line begun_on.0 [] (drop 1 tail) refl refl) (omega arith)
+        goes from to (Some begun_on.0) (42 ∷ 47 ∷ drop 1 tail) from.line None (drop 1 tail) begun_on.1
+        (pair_front 42 47 from.rest.now b tail front pair) line begun rest
+        (comment_done from.line begun_on.0 [] (drop 1 tail) refl refl) (omega arith)
 
     pub over_line : b ≡ 10 → to.line ≡ from.line + 1 → to.begun ≡ from.begun → to.rest.now ≡ tail → GoesOver from to
     over_line is line begun rest =
-        goes from to (Some begun_on.0) (10 ∷ tail) (from.line + 1) (Some begun_on.0) tail begun_on.1 (front ∙ ap (λ (c : ℕ). c ∷ tail) is) line (begun ∙ begun_on.1) rest ((row_inside from.line begun_on.0 [] refl refl).goes tail)
+        goes from to (Some begun_on.0) (10 ∷ tail) (from.line + 1) (Some begun_on.0) tail begun_on.1
+        (front ∙ ap (λ (c : ℕ). c ∷ tail) is) line (begun ∙ begun_on.1) rest
+        ((row_inside from.line begun_on.0 [] refl refl).goes tail)
         (omega arith)
 
-    pub over_byte : (b == 42 && begins 47 tail) ≡ false → (b ≡ 10 → ⊥) → is_allowed b tail ≡ true → to.line ≡ from.line → to.begun ≡ from.begun → to.rest.now ≡ tail → GoesOver from to
+    pub over_byte : (b == 42 && begins 47 tail) ≡ false → (b ≡ 10 → ⊥) → is_allowed b tail ≡ true → to.line ≡ from.line
+        → to.begun ≡ from.begun → to.rest.now ≡ tail → GoesOver from to
     over_byte pair lf ok line begun rest =
-        goes from to (Some begun_on.0) (b ∷ tail) from.line (Some begun_on.0) tail begun_on.1 front line (begun ∙ begun_on.1) rest (byte_inside from.line begun_on.0 b tail ok (ne_eqb b 10 lf) pair) (omega arith)
+        goes from to (Some begun_on.0) (b ∷ tail) from.line (Some begun_on.0) tail begun_on.1 front line
+        (begun ∙ begun_on.1) rest (byte_inside from.line begun_on.0 b tail ok (ne_eqb b 10 lf) pair) (omega arith)
 
 -- ---- the front of what is read
 
@@ -168,7 +206,8 @@ module _ (p : ℕ → Bool) (other : (b : ℕ) → is_printable b ≡ false → 
       go true lf k = absurd cc
       go false lf k = refl
 
-  good_read : (b : ℕ) (bs : List ℕ) → is_allowed b bs ≡ true → eqb b 13 ≡ false → starts p (without_cr (readable (b ∷ bs))) ≡ p b
+  good_read : (b : ℕ) (bs : List ℕ) → is_allowed b bs ≡ true → eqb b 13 ≡ false
+      → starts p (without_cr (readable (b ∷ bs))) ≡ p b
   unfolding readable
   good_read b bs ok unlike = rw (ok, unlike) refl
 
@@ -182,23 +221,32 @@ module _ (p : ℕ → Bool) (other : (b : ℕ) → is_printable b ≡ false → 
   read_front (b ∷ bs) =
       by_test (is_allowed b bs)
       (λ ok. by_test (eqb b 13)
-      (λ cr. ap (λ (t : List ℕ). starts p (without_cr (readable t))) (cr_front b bs ok cr) ∙ cr_read (drop 1 bs) ∙ other 10 refl ∙ sym (other b (ap is_printable (eqb-true b 13 cr)))) (good_read b bs ok))
+      (λ cr.
+      ap (λ (t : List ℕ). starts p (without_cr (readable t))) (cr_front b bs ok cr)
+      ∙ cr_read (drop 1 bs)
+      ∙ other 10 refl
+      ∙ sym (other b (ap is_printable (eqb-true b 13 cr))))
+      (good_read b bs ok))
       (wrong_read b bs)
 
 begins_starts : (n : ℕ) (t : List ℕ) → begins n t ≡ starts (λ b. eqb b n) t
 begins_starts n [] = refl
 begins_starts n (b ∷ bs) = refl
 
-read_begins : (n : ℕ) → is_printable n ≡ true → eqb 33 n ≡ false → (bs : List ℕ) → begins n (without_cr (readable bs)) ≡ begins n bs
+read_begins : (n : ℕ) → is_printable n ≡ true → eqb 33 n ≡ false → (bs : List ℕ)
+    → begins n (without_cr (readable bs)) ≡ begins n bs
 read_begins n ok wrong bs =
-    begins_starts n (without_cr (readable bs)) ∙ read_front (λ b. eqb b n) (λ b k. test_not (λ m. not (is_printable m)) b n (rw k refl) (rw ok refl)) wrong bs ∙ sym (begins_starts n bs)
+    begins_starts n (without_cr (readable bs))
+    ∙ read_front (λ b. eqb b n) (λ b k. test_not (λ m. not (is_printable m)) b n (rw k refl) (rw ok refl)) wrong bs
+    ∙ sym (begins_starts n bs)
 
 gap_read : (text : List ℕ) → begins_gap text ≡ false → begins_gap (without_cr (readable text)) ≡ false
 unfolding readable
 gap_read [] h = refl
 gap_read (b ∷ bs) h =
     by_test (is_allowed b bs)
-    (λ ok. by_test (eqb b 13) (λ cr. absurd (let z : true ≡ false = ap begins_gap (sym (cr_front b bs ok cr)) ∙ h in cc))
+    (λ ok.
+    by_test (eqb b 13) (λ cr. absurd (let z : true ≡ false = ap begins_gap (sym (cr_front b bs ok cr)) ∙ h in cc))
     (λ unlike. rw (ok, unlike, read_begins 42 refl refl bs, unlike) (rw unlike at h)))
     (λ bad. rw bad refl)
 
@@ -207,12 +255,16 @@ unfolding is_word
 word_is_printable b h = plain_printable b h
 
 printable_if_word : (b : ℕ) → is_printable b ≡ false → is_word b ≡ false
-printable_if_word b h = by_test (is_word b) (λ k. absurd (let z : true ≡ false = sym (word_is_printable b k) ∙ h in cc)) (λ k. k)
+printable_if_word b h =
+    by_test (is_word b) (λ k. absurd (let z : true ≡ false = sym (word_is_printable b k) ∙ h in cc)) (λ k. k)
 
-word_read : (word behind : List ℕ) → list_all is_word word ≡ true → without_cr (readable (word ++ behind)) ≡ word ++ without_cr (readable behind)
+word_read : (word behind : List ℕ) → list_all is_word word ≡ true
+    → without_cr (readable (word ++ behind)) ≡ word ++ without_cr (readable behind)
 word_read word behind h =
     let printable = all_kept is_word is_printable word_is_printable word h in
-    ap without_cr (readable_row word behind printable) ∙ filter-append (λ (b : ℕ). not (eqb b 13)) word (readable behind) ∙ ap (λ (t : List ℕ). t ++ without_cr (readable behind)) (printable-no_cr word printable)
+    ap without_cr (readable_row word behind printable)
+    ∙ filter-append (λ (b : ℕ). not (eqb b 13)) word (readable behind)
+    ∙ ap (λ (t : List ℕ). t ++ without_cr (readable behind)) (printable-no_cr word printable)
 
 -- ---- the word at the front of pieces
 
@@ -226,24 +278,36 @@ first_same x y xs ys e = (cc, cc)
 no_byte : (b c : ℕ) → b ≡ c → is_word b ≡ false → is_word c ≡ true → ⊥
 no_byte b c e h k = let z : false ≡ true = sym h ∙ ap is_word e ∙ k in cc
 
-first_no_word : (b : ℕ) (bs ys vs : List ℕ) → is_word b ≡ false → list_all is_word ys ≡ true → b ∷ bs ≡ ys ++ vs → ys ≡ []
+first_no_word : (b : ℕ) (bs ys vs : List ℕ) → is_word b ≡ false → list_all is_word ys ≡ true → b ∷ bs ≡ ys ++ vs
+    → ys ≡ []
 first_no_word b bs [] vs h k e = refl
-first_no_word b bs (y ∷ ys) vs h k e = absurd (no_byte b y (first_same b y bs (ys ++ vs) e).0 h (and_parts (is_word y) (list_all is_word ys) k).0)
+first_no_word b bs (y ∷ ys) vs h k e =
+    absurd (no_byte b y (first_same b y bs (ys ++ vs) e).0 h (and_parts (is_word y) (list_all is_word ys) k).0)
 
-cut_same : (xs us ys vs : List ℕ) → list_all is_word xs ≡ true → starts is_word us ≡ false → list_all is_word ys ≡ true → starts is_word vs ≡ false → xs ++ us ≡ ys ++ vs → (xs ≡ ys) × (us ≡ vs)
+cut_same : (xs us ys vs : List ℕ) → list_all is_word xs ≡ true → starts is_word us ≡ false → list_all is_word ys ≡ true
+    → starts is_word vs ≡ false → xs ++ us ≡ ys ++ vs → (xs ≡ ys) × (us ≡ vs)
 cut_same [] us [] vs h f k g e = (refl, e)
-cut_same [] us (y ∷ ys) vs h f k g e = absurd (let z : false ≡ true = sym f ∙ ap (starts is_word) e ∙ (and_parts (is_word y) (list_all is_word ys) k).0 in cc)
-cut_same (x ∷ xs) us [] vs h f k g e = absurd (let z : false ≡ true = sym g ∙ ap (starts is_word) (sym e) ∙ (and_parts (is_word x) (list_all is_word xs) h).0 in cc)
+cut_same [] us (y ∷ ys) vs h f k g e =
+    absurd (let z : false ≡ true = sym f ∙ ap (starts is_word) e ∙ (and_parts (is_word y) (list_all is_word ys) k).0 in
+    cc)
+cut_same (x ∷ xs) us [] vs h f k g e =
+    absurd (let z : false ≡ true =
+    sym g ∙ ap (starts is_word) (sym e) ∙ (and_parts (is_word x) (list_all is_word xs) h).0 in
+    cc)
 cut_same (x ∷ xs) us (y ∷ ys) vs h f k g e =
     let s = first_same x y (xs ++ us) (ys ++ vs) e in
-    let r = cut_same xs us ys vs (and_parts (is_word x) (list_all is_word xs) h).1 f (and_parts (is_word y) (list_all is_word ys) k).1 g s.1 in
+    let r =
+    cut_same xs us ys vs (and_parts (is_word x) (list_all is_word xs) h).1 f
+    (and_parts (is_word y) (list_all is_word ys) k).1 g s.1 in
     (rw (s.0, r.0) refl, r.1)
 
 -- the word here, if one stands here
 abbrev leading : List ℕ → List ℕ → Option (List ℕ)
-leading word behind = cond (eqb (length word) 0) None (cond (bytes_eq word (88 ∷ []) && begins 39 behind) None (Some word))
+leading word behind =
+    cond (eqb (length word) 0) None (cond (bytes_eq word (88 ∷ []) && begins 39 behind) None (Some word))
 
-leading_some : (word behind : List ℕ) → (length word ≡ 0 → ⊥) → (bytes_eq word (88 ∷ []) && begins 39 behind) ≡ false → leading word behind ≡ Some word
+leading_some : (word behind : List ℕ) → (length word ≡ 0 → ⊥) → (bytes_eq word (88 ∷ []) && begins 39 behind) ≡ false
+    → leading word behind ≡ Some word
 leading_some word behind some other = rw (ne_eqb (length word) 0 some, other) refl
 
 none_leads : (word behind : List ℕ) → word ≡ [] → None ≡ leading word behind
@@ -269,14 +333,17 @@ unfolding is_word
 marks = (refl, refl, refl, refl)
 
 stray_no_word : (b : ℕ) → is_piece (StrayByte b) ≡ true → is_word b ≡ false
-stray_no_word b h = neither (is_word b) (is_mark b) (not_true (is_word b || is_mark b) (and_parts (is_printable b) (not (is_word b || is_mark b)) h).1)
+stray_no_word b h =
+    neither (is_word b) (is_mark b)
+    (not_true (is_word b || is_mark b) (and_parts (is_printable b) (not (is_word b || is_mark b)) h).1)
   where
     neither : (x y : Bool) → (x || y) ≡ false → x ≡ false
     neither true y e = absurd cc
     neither false y e = refl
 
 -- a word stands before no other byte of a word, and as X before no quote
-plain_ends : (w t : List ℕ) → followed_by (Plain w) t ≡ true → (starts is_word t ≡ false) × ((bytes_eq w (88 ∷ []) && begins 39 t) ≡ false)
+plain_ends : (w t : List ℕ) → followed_by (Plain w) t ≡ true
+    → (starts is_word t ≡ false) × ((bytes_eq w (88 ∷ []) && begins 39 t) ≡ false)
 plain_ends w [] h = (refl, none (bytes_eq w (88 ∷ [])))
   where
     none : (x : Bool) → (x && false) ≡ false
@@ -306,7 +373,8 @@ module _ (word behind : List ℕ) (every : list_all is_word word ≡ true) (ends
       let k = cut_same (88 ∷ []) (39 ∷ bs) word behind word_88 marks.2 every ends e in
       x_leads word behind (sym k.0) (ap (begins 39) (sym k.1))
 
-  plain : (w : List ℕ) (ps : List Piece) → is_piece (Plain w) ≡ true → followed_by (Plain w) (spelled ps) ≡ true → w ++ spelled ps ≡ word ++ behind → Some w ≡ leading word behind
+  plain : (w : List ℕ) (ps : List Piece) → is_piece (Plain w) ≡ true → followed_by (Plain w) (spelled ps) ≡ true
+      → w ++ spelled ps ≡ word ++ behind → Some w ≡ leading word behind
   plain w ps is f e =
       let p = and_parts (is_nonempty w) (list_all is_word w) is in
       let t = plain_ends w (spelled ps) f in
@@ -319,15 +387,22 @@ module _ (word behind : List ℕ) (every : list_all is_word word ≡ true) (ends
       go : (w : List ℕ) → [] ≡ w ++ behind → None ≡ leading w behind
       go [] k = refl
       go (x ∷ xs) k = absurd cc
-  leads (Plain w ∷ ps) h e = let k = and_parts (is_piece (Plain w)) (followed_by (Plain w) (spelled ps) && are_pieces ps) h in plain w ps k.0 (and_parts (followed_by (Plain w) (spelled ps)) (are_pieces ps) k.1).0 e
+  leads (Plain w ∷ ps) h e =
+      let k = and_parts (is_piece (Plain w)) (followed_by (Plain w) (spelled ps) && are_pieces ps) h in
+      plain w ps k.0 (and_parts (followed_by (Plain w) (spelled ps)) (are_pieces ps) k.1).0 e
   leads (Quoted n ∷ ps) h e = other 39 _ marks.2 e
   leads (Hexed ds ∷ ps) h e = x_quote _ e
-  leads (Sign t ∷ ps) h e = other (sign t) _ (sign_no_word t (and_parts (is_piece (Sign t)) (followed_by (Sign t) (spelled ps) && are_pieces ps) h).0) e
+  leads (Sign t ∷ ps) h e =
+      other (sign t) _
+      (sign_no_word t (and_parts (is_piece (Sign t)) (followed_by (Sign t) (spelled ps) && are_pieces ps) h).0) e
   leads (Blank ∷ ps) h e = other 32 _ marks.0 e
   leads (Comment c ∷ ps) h e = other 47 _ marks.3 e
   leads (LineEnd ∷ ps) h e = other 10 _ marks.1 e
   leads (LoneSlash ∷ ps) h e = other 47 _ marks.3 e
-  leads (StrayByte b ∷ ps) h e = other b _ (stray_no_word b (and_parts (is_piece (StrayByte b)) (followed_by (StrayByte b) (spelled ps) && are_pieces ps) h).0) e
+  leads (StrayByte b ∷ ps) h e =
+      other b _ (stray_no_word b
+      (and_parts (is_piece (StrayByte b)) (followed_by (StrayByte b) (spelled ps) && are_pieces ps) h).0)
+      e
   leads (OpenQuote n ∷ ps) h e = other 39 _ marks.2 e
   leads (OpenHexed ds ∷ ps) h e = x_quote _ e
   leads (OpenComment c ∷ ps) h e = other 47 _ marks.3 e
@@ -343,7 +418,8 @@ module _ (t : Token) where
   abbrev Leads : Place → Type 0
   Leads p = (ts : List Token) × (heads p.lines p.tokens ≡ t ∷ ts)
 
-  token_more : (u : Token) (ls : List TokenLine) (us : List Token) → (ts : List Token) × (heads ls us ≡ t ∷ ts) → (ts : List Token) × (heads ls (us ++ u ∷ []) ≡ t ∷ ts)
+  token_more : (u : Token) (ls : List TokenLine) (us : List Token) → (ts : List Token) × (heads ls us ≡ t ∷ ts)
+      → (ts : List Token) × (heads ls (us ++ u ∷ []) ≡ t ∷ ts)
   token_more u [] us h = (h.0 ++ u ∷ [], ap (λ (x : List Token). x ++ u ∷ []) h.1)
   token_more u (l ∷ ls) us h = h
 
@@ -351,12 +427,17 @@ module _ (t : Token) where
   with_more : (u : Token) (p q : Place) → q.lines ≡ p.lines → q.tokens ≡ p.tokens ++ u ∷ [] → Leads p → Leads q
   with_more u p q lines tokens h = rw (lines, tokens) (token_more u p.lines p.tokens h)
 
-  line_more : (at : ℕ) (us : List Token) (joined : Bool) (ls : List TokenLine) → (ts : List Token) × (heads ls us ≡ t ∷ ts) → (ts : List Token) × (heads (lines_with at us joined ls) [] ≡ t ∷ ts)
+  line_more : (at : ℕ) (us : List Token) (joined : Bool) (ls : List TokenLine)
+      → (ts : List Token) × (heads ls us ≡ t ∷ ts)
+      → (ts : List Token) × (heads (lines_with at us joined ls) [] ≡ t ∷ ts)
   line_more at [] joined [] h = absurd (let z : [] ≡ t ∷ h.0 = h.1 in cc)
-  line_more at (u ∷ us) joined [] h = let some : eqb (length (u ∷ us)) 0 ≡ false = ne_eqb (length (u ∷ us)) 0 (λ e. omega (arith, e)) in rw some h
+  line_more at (u ∷ us) joined [] h =
+      let some : eqb (length (u ∷ us)) 0 ≡ false = ne_eqb (length (u ∷ us)) 0 (λ e. omega (arith, e)) in rw some h
   line_more at us joined (l ∷ ls) h = go (eqb (length us) 0)
     where
-      go : (none : Bool) → (ts : List Token) × (heads (cond none (l ∷ ls) ((l ∷ ls) ++ record { at = at; tokens = us; joined = joined } ∷ [])) [] ≡ t ∷ ts)
+      go : (none : Bool)
+          → (ts : List Token)
+          × (heads (cond none (l ∷ ls) ((l ∷ ls) ++ record { at = at; tokens = us; joined = joined } ∷ [])) [] ≡ t ∷ ts)
       go true = h
       go false = h
 
@@ -372,7 +453,9 @@ module _ (t : Token) where
       go false = h
 
   open_more : (c : List ℕ) (p : Place) → Leads p → Leads (over_open c p)
-  open_more c p h = with_more Unclosed (next_line (over c (record p { near = false }))) (over_open c p) refl refl (ended (over c (record p { near = false })) (over_more c (record p { near = false }) h))
+  open_more c p h =
+      with_more Unclosed (next_line (over c (record p { near = false }))) (over_open c p) refl refl
+      (ended (over c (record p { near = false })) (over_more c (record p { near = false }) h))
 
   sign_more : (u : Token) (p : Place) → Leads p → Leads (past (Sign u) p)
   sign_more Open p h = with_more Open p (past (Sign Open) p) refl refl h
@@ -417,11 +500,13 @@ hex_no_word ds = go (is_hexed ds)
     go false = refl
 
 -- the place where the first piece is no gap
-said : (ps : List Piece) (line : ℕ) → are_pieces ps ≡ true → begins_gap (spelled ps) ≡ false → first_word (next_line (past_all ps (fresh_place line []))).lines ≡ word_of ps
+said : (ps : List Piece) (line : ℕ) → are_pieces ps ≡ true → begins_gap (spelled ps) ≡ false
+    → first_word (next_line (past_all ps (fresh_place line []))).lines ≡ word_of ps
 said [] line h gap = refl
 said (Plain w ∷ ps) line h gap = led (Word w) ps (past (Plain w) (fresh_place line [])) ([], refl)
 said (Quoted n ∷ ps) line h gap = led (Name n) ps (past (Quoted n) (fresh_place line [])) ([], refl)
-said (Hexed ds ∷ ps) line h gap = led (hex_token ds) ps (past (Hexed ds) (fresh_place line [])) ([], refl) ∙ hex_no_word ds
+said (Hexed ds ∷ ps) line h gap =
+    led (hex_token ds) ps (past (Hexed ds) (fresh_place line [])) ([], refl) ∙ hex_no_word ds
 said (Sign Open ∷ ps) line h gap = led Open ps (past (Sign Open) (fresh_place line [])) ([], refl)
 said (Sign Close ∷ ps) line h gap = led Close ps (past (Sign Close) (fresh_place line [])) ([], refl)
 said (Sign Comma ∷ ps) line h gap = led Comma ps (past (Sign Comma) (fresh_place line [])) ([], refl)
@@ -442,31 +527,39 @@ wrong_word : is_word 33 ≡ false
 unfolding is_word
 wrong_word = refl
 
-comes_apart : (line : ℕ) (text word behind : List ℕ) → begins_gap text ≡ false → IsSplit is_word text word behind → first_word (to_come line None text) ≡ leading word behind
+comes_apart : (line : ℕ) (text word behind : List ℕ) → begins_gap text ≡ false → IsSplit is_word text word behind
+    → first_word (to_come line None text) ≡ leading word behind
 unfolding to_come
 comes_apart line text word behind gap s =
     let k = found_pieces (without_cr (readable text)) (readable_ok text) in
     let back = without_cr (readable behind) in
-    let parts : spelled k.0 ≡ word ++ back = sym k.1 ∙ ap (λ (t : List ℕ). without_cr (readable t)) s.parts ∙ word_read word behind s.every in
+    let parts : spelled k.0 ≡ word ++ back =
+    sym k.1 ∙ ap (λ (t : List ℕ). without_cr (readable t)) s.parts ∙ word_read word behind s.every in
     ap first_word (read_said (at_row line None) (readable text) (readable_ok text))
     ∙ said k.0 line k.2 (subst (λ (t : List ℕ). begins_gap t ≡ false) k.1 (gap_read text gap))
     ∙ leads word back s.every (read_front is_word printable_if_word wrong_word behind ∙ s.ends) k.0 k.2 parts
-    ∙ ap (λ (q : Bool). cond (eqb (length word) 0) None (cond (bytes_eq word (88 ∷ []) && q) None (Some word))) (read_begins 39 refl refl behind)
+    ∙ ap (λ (q : Bool). cond (eqb (length word) 0) None (cond (bytes_eq word (88 ∷ []) && q) None (Some word)))
+    (read_begins 39 refl refl behind)
 
-comes_inside : (line begun : ℕ) (text : List ℕ) → ends_text text ≡ true → first_word (to_come line (Some begun) text) ≡ None
+comes_inside : (line begun : ℕ) (text : List ℕ) → ends_text text ≡ true
+    → first_word (to_come line (Some begun) text) ≡ None
 unfolding to_come readable scan_from step step_in begin begin_word is_word put finish_in end_line
 comes_inside line begun [] h = refl
 comes_inside line begun (b ∷ bs) h = rw (not_true (is_allowed b bs) h) refl
 
-pub none_inside : (at : Cursor) → is_some at.begun ≡ true → is_at_token at.begun at.rest.now ≡ true → None ≡ first_word (coming at)
-none_inside at inside there = let k = some_of at.begun inside in rw k.1 (sym (comes_inside at.line k.0 at.rest.now (rw k.1 at there)))
+pub none_inside : (at : Cursor) → is_some at.begun ≡ true → is_at_token at.begun at.rest.now ≡ true
+    → None ≡ first_word (coming at)
+none_inside at inside there =
+    let k = some_of at.begun inside in rw k.1 (sym (comes_inside at.line k.0 at.rest.now (rw k.1 at there)))
 
-word_apart : (at : Cursor) (word behind : List ℕ) → is_some at.begun ≡ false → is_at_token at.begun at.rest.now ≡ true → IsSplit is_word at.rest.now word behind → first_word (coming at) ≡ leading word behind
+word_apart : (at : Cursor) (word behind : List ℕ) → is_some at.begun ≡ false → is_at_token at.begun at.rest.now ≡ true
+    → IsSplit is_word at.rest.now word behind → first_word (coming at) ≡ leading word behind
 word_apart at word behind apart there s =
     let none = none_of at.begun apart in
     rw none (comes_apart at.line at.rest.now word behind (not_true (begins_gap at.rest.now) (rw none at there)) s)
 
-module _ (at : Cursor) (word behind : List ℕ) (apart : is_some at.begun ≡ false) (there : is_at_token at.begun at.rest.now ≡ true) (s : IsSplit is_word at.rest.now word behind) where
+module _ (at : Cursor) (word behind : List ℕ) (apart : is_some at.begun ≡ false)
+    (there : is_at_token at.begun at.rest.now ≡ true) (s : IsSplit is_word at.rest.now word behind) where
   pub none_apart : length word ≡ 0 → None ≡ first_word (coming at)
   none_apart h = none_leads word behind (nil_of word h) ∙ sym (word_apart at word behind apart there s)
 
@@ -477,5 +570,6 @@ module _ (at : Cursor) (word behind : List ℕ) (apart : is_some at.begun ≡ fa
       go true = refl
       go false = rw h refl
 
-  pub some_apart : (length word ≡ 0 → ⊥) → (bytes_eq word (88 ∷ []) && begins 39 behind) ≡ false → Some word ≡ first_word (coming at)
+  pub some_apart : (length word ≡ 0 → ⊥) → (bytes_eq word (88 ∷ []) && begins 39 behind) ≡ false
+      → Some word ≡ first_word (coming at)
   some_apart some other = sym (leading_some word behind some other) ∙ sym (word_apart at word behind apart there s)

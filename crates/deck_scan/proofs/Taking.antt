@@ -1,5 +1,6 @@
 -- What is read of tokens was spelled so: the next token, and things in any order.
-use Rattle.std.proofs.Common.{◌≡◌, ℕ, zero, suc, Bool, true, false, cond, eqb, List, [], ◌∷◌, ◌++◌, length, Option, Some, None, refl, sym, ap, subst, ◌∙◌, arith, append_assoc, append-nil}
+use Rattle.std.proofs.Common.{◌≡◌, ℕ, zero, suc, Bool, true, false, cond, eqb, List, [], ◌∷◌, ◌++◌, length, Option}
+use Rattle.std.proofs.Common.{Some, None, refl, sym, ap, subst, ◌∙◌, arith, append_assoc, append-nil}
 use Rattle.std.specs.List.{flat_map}
 use Rattle.std.specs.Str.{bytes_eq}
 use Rattle.std.proofs.lemmas.Bool.{ne_eqb}
@@ -7,11 +8,13 @@ use Rattle.std.proofs.lemmas.List.Concat.{flat_map-cons, flat_map-append}
 use Rattle.std.proofs.lemmas.Slice.Eq.{bytes_eq-Decides}
 use Rattle.deck_scan.specs.declared.token.Token.{Token}
 use Rattle.deck_scan.specs.declared.token.Token.TheVariants.{Word, Name, Open, Close, Comma, Equals}
-use Rattle.deck_scan.specs.Next.{◌>>=◌, open_at, close_at, comma_at, equals_at, end_at, any_word_at, value_at, name_at, maybe, up_to, once, Names, Sets}
+use Rattle.deck_scan.specs.Next.{◌>>=◌, open_at, close_at, comma_at, equals_at, end_at, any_word_at, value_at, name_at}
+use Rattle.deck_scan.specs.Next.{maybe, up_to, once, Names, Sets}
 
 -- ---- what reading gives
 
-pub bind_some : {A B : Type 0} (r : Option A) (f : A → Option B) (y : B) → (r >>= f) ≡ Some y → (x : A) × (r ≡ Some x) × (f x ≡ Some y)
+pub bind_some : {A B : Type 0} (r : Option A) (f : A → Option B) (y : B) → (r >>= f) ≡ Some y
+    → (x : A) × (r ≡ Some x) × (f x ≡ Some y)
 bind_some (Some x) f y e = (x, refl, e)
 bind_some None f y e = absurd cc
 
@@ -35,7 +38,8 @@ once_some (Some a) p q e = absurd cc
 -- ---- the rows of a table of words
 
 -- what holds of what a row gives for its word, and of what the rows behind it give
-pub by_row : {A : Type 0} (P : Option A → Type 0) (w word : List ℕ) (x : A) (rows : Option A) → (w ≡ word → P (Some x)) → P rows → P (cond (bytes_eq w word) (Some x) rows)
+pub by_row : {A : Type 0} (P : Option A → Type 0) (w word : List ℕ) (x : A) (rows : Option A) → (w ≡ word → P (Some x))
+    → P rows → P (cond (bytes_eq w word) (Some x) rows)
 by_row P w word x rows here behind = go (bytes_eq w word) (same_bytes w word)
   where
     go : (b : Bool) → (b ≡ true → w ≡ word) → P (cond b (Some x) rows)
@@ -47,7 +51,8 @@ abbrev pub IsWordOf : {A : Type 0} → (A → List ℕ) → List ℕ → Option 
 IsWordOf word w None = Unit {0}
 IsWordOf word w (Some x) = w ≡ word x
 
-pub row : {A : Type 0} (word : A → List ℕ) (w : List ℕ) (x : A) (rows : Option A) → IsWordOf word w rows → IsWordOf word w (cond (bytes_eq w (word x)) (Some x) rows)
+pub row : {A : Type 0} (word : A → List ℕ) (w : List ℕ) (x : A) (rows : Option A) → IsWordOf word w rows
+    → IsWordOf word w (cond (bytes_eq w (word x)) (Some x) rows)
 row word w x rows behind = by_row (IsWordOf word w) w (word x) x rows (λ h. h) behind
 
 -- ---- tokens
@@ -92,35 +97,49 @@ pub record Named (ts : List Token) (n : List ℕ) (rest : List Token) : Type 0 w
   pub names : Names token n
 
 pub name_taken : (ts : List Token) (x : List ℕ × List Token) → name_at ts ≡ Some x → Named ts x.0 x.1
-name_taken (Word w ∷ ts) x e = subst (λ (y : List ℕ × List Token). Named (Word w ∷ ts) y.0 y.1) (some_is (w, ts) x e) (record { token = Word w; is = refl; names = refl })
-name_taken (Name w ∷ ts) x e = subst (λ (y : List ℕ × List Token). Named (Name w ∷ ts) y.0 y.1) (some_is (w, ts) x e) (record { token = Name w; is = refl; names = refl })
+name_taken (Word w ∷ ts) x e =
+    subst (λ (y : List ℕ × List Token). Named (Word w ∷ ts) y.0 y.1) (some_is (w, ts) x e)
+    (record { token = Word w; is = refl; names = refl })
+name_taken (Name w ∷ ts) x e =
+    subst (λ (y : List ℕ × List Token). Named (Name w ∷ ts) y.0 y.1) (some_is (w, ts) x e)
+    (record { token = Name w; is = refl; names = refl })
 name_taken [] x e = absurd cc
 name_taken (_ ∷ ts) x e = absurd cc
 
 -- ---- things in any order
 
 -- some things were taken
-pub record Took {O X : Type 0} (free : X → O → Type 0) (sets : X → O → O) (spell : X → List Token) (o : O) (ts : List Token) (p : O) (rest : List Token) : Type 0 where
+pub record Took {O X : Type 0} (free : X → O → Type 0) (sets : X → O → O) (spell : X → List Token) (o : O)
+    (ts : List Token) (p : O) (rest : List Token) :
+    Type 0 where
   pub given : List X
   pub spelled : ts ≡ flat_map spell given ++ rest
   pub set_so : Sets free sets o given p
 
 -- one thing was taken
-pub record TookOne {O X : Type 0} (free : X → O → Type 0) (sets : X → O → O) (spell : X → List Token) (o : O) (ts : List Token) (p : O) (rest : List Token) : Type 0 where
+pub record TookOne {O X : Type 0} (free : X → O → Type 0) (sets : X → O → O) (spell : X → List Token) (o : O)
+    (ts : List Token) (p : O) (rest : List Token) :
+    Type 0 where
   pub given : X
   pub fresh : free given o
   pub is : p ≡ sets given o
   pub spelled : ts ≡ spell given ++ rest
 
 module _ {O X : Type 0} (free : X → O → Type 0) (sets : X → O → O) (spell : X → List Token) where
-  sets_append : (xs ys : List X) (o p q : O) → Sets free sets o xs p → Sets free sets p ys q → Sets free sets o (xs ++ ys) q
+  sets_append : (xs ys : List X) (o p q : O) → Sets free sets o xs p → Sets free sets p ys q
+      → Sets free sets o (xs ++ ys) q
   sets_append [] ys o p q h k = subst (λ (x : O). Sets free sets x ys q) h k
   sets_append (x ∷ xs) ys o p q h k = (h.0, sets_append xs ys (sets x o) p q h.1 k)
 
-  took_more : (o p q : O) (ts us rest : List Token) → Took free sets spell o ts p us → Took free sets spell p us q rest → Took free sets spell o ts q rest
+  took_more : (o p q : O) (ts us rest : List Token) → Took free sets spell o ts p us → Took free sets spell p us q rest
+      → Took free sets spell o ts q rest
   took_more o p q ts us rest a b = record {
     given = a.given ++ b.given;
-    spelled = a.spelled ∙ ap (λ (t : List Token). flat_map spell a.given ++ t) b.spelled ∙ sym (append_assoc (flat_map spell a.given) (flat_map spell b.given) rest) ∙ ap (λ (t : List Token). t ++ rest) (sym (flat_map-append spell a.given b.given));
+    spelled =
+        a.spelled
+        ∙ ap (λ (t : List Token). flat_map spell a.given ++ t) b.spelled
+        ∙ sym (append_assoc (flat_map spell a.given) (flat_map spell b.given) rest)
+        ∙ ap (λ (t : List Token). t ++ rest) (sym (flat_map-append spell a.given b.given));
     set_so = sets_append a.given b.given o p q a.set_so b.set_so;
   }
 
@@ -134,15 +153,20 @@ module _ {O X : Type 0} (free : X → O → Type 0) (sets : X → O → O) (spel
       one : (x : X) → flat_map spell (x ∷ []) ≡ spell x
       one x = flat_map-cons spell x [] ∙ append-nil (spell x)
 
-  module _ (read : O → List Token → Option (O × List Token)) (one : (o : O) (ts : List Token) (x : O × List Token) → read o ts ≡ Some x → TookOne free sets spell o ts x.0 x.1) where
-    maybe_taken : (o : O) (ts : List Token) (x : O × List Token) → maybe read o ts ≡ Some x → Took free sets spell o ts x.0 x.1
+  module _ (read : O → List Token → Option (O × List Token))
+      (one : (o : O) (ts : List Token) (x : O × List Token) → read o ts ≡ Some x
+      → TookOne free sets spell o ts x.0 x.1) where
+    maybe_taken : (o : O) (ts : List Token) (x : O × List Token) → maybe read o ts ≡ Some x
+        → Took free sets spell o ts x.0 x.1
     maybe_taken o [] x e =
-        subst (λ (y : O × List Token). Took free sets spell o [] y.0 y.1) (some_is (o, []) x e) (record { given = []; spelled = refl; set_so = refl })
+        subst (λ (y : O × List Token). Took free sets spell o [] y.0 y.1) (some_is (o, []) x e)
+        (record { given = []; spelled = refl; set_so = refl })
     maybe_taken o (t ∷ ts) x e =
         let long : eqb (length (t ∷ ts)) 0 ≡ false = ne_eqb (length (t ∷ ts)) 0 (λ h. omega (arith, h)) in
         took_one o x.0 (t ∷ ts) x.1 (one o (t ∷ ts) x (rw long at e))
 
-    up_to_taken : (n : ℕ) (o : O) (ts : List Token) (p : O) → up_to n read o ts ≡ Some p → Took free sets spell o ts p []
+    up_to_taken : (n : ℕ) (o : O) (ts : List Token) (p : O) → up_to n read o ts ≡ Some p
+        → Took free sets spell o ts p []
     up_to_taken zero o ts p e =
         let z = bind_some (end_at ts) (λ end. Some o) p e in
         let is = some_is o p z.2 in
@@ -152,7 +176,8 @@ module _ {O X : Type 0} (free : X → O → Type 0) (sets : X → O → O) (spel
         took_more o a.0.0 p ts a.0.1 [] (maybe_taken o ts a.0 a.1) (up_to_taken n a.0.0 a.0.1 p a.2)
 
     -- at most so many things, and nothing after them
-    pub all_taken : (n : ℕ) (o : O) (ts : List Token) (p : O) → up_to n read o ts ≡ Some p → (given : List X) × (ts ≡ flat_map spell given) × Sets free sets o given p
+    pub all_taken : (n : ℕ) (o : O) (ts : List Token) (p : O) → up_to n read o ts ≡ Some p
+        → (given : List X) × (ts ≡ flat_map spell given) × Sets free sets o given p
     all_taken n o ts p e =
         let all = up_to_taken n o ts p e in
         (all.given, all.spelled ∙ append-nil (flat_map spell all.given), all.set_so)

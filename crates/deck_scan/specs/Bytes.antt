@@ -1,5 +1,6 @@
 -- Kinds of bytes, and the first byte that a deck may not have.
-use Rattle.std.specs.Prelude.{◌≡◌, ◌++◌, ℕ, Bool, true, false, ◌||◌, ◌&&◌, ◌==◌, ◌+◌, ◌-◌, List, [], ◌∷◌, Option, Some, None, if◌then◌else◌}
+use Rattle.std.specs.Prelude.{◌≡◌, ◌++◌, ℕ, Bool, true, false, ◌||◌, ◌&&◌, ◌==◌, ◌+◌, ◌-◌, List, [], ◌∷◌, Option, Some}
+use Rattle.std.specs.Prelude.{None, if◌then◌else◌}
 use Rattle.grs_base.specs.Printed.{is_between, is_plain_byte, is_printable}
 
 -- A byte of a plain name: a letter of either case, a digit, or one of $ # @ . _ - * ?
@@ -12,7 +13,14 @@ is_hex b = is_between 48 57 b || is_between 65 70 b || is_between 97 102 b
 
 -- What a hexadecimal digit counts.
 unfoldable pub digit : ℕ → ℕ
-digit b = if is_between 48 57 b then b - 48 else if is_between 65 70 b then b - 55 else if is_between 97 102 b then b - 87 else 0
+digit b =
+    if is_between 48 57 b
+    then b - 48
+    else if is_between 65 70 b
+    then b - 55
+    else if is_between 97 102 b
+    then b - 87
+    else 0
 
 -- Whether a text begins with this byte.
 abbrev pub begins : ℕ → List ℕ → Bool

@@ -1,5 +1,6 @@
 -- How many closing parentheses a text has: those that are tokens, and stand in no name and in no comment.
-use Rattle.std.specs.Prelude.{◌≤◌, ◌<◌, ◌+◌, ◌==◌, ◌&&◌, ◌||◌, ℕ, Bool, true, false, List, [], ◌∷◌, length, take, if◌then◌else◌}
+use Rattle.std.specs.Prelude.{◌≤◌, ◌<◌, ◌+◌, ◌==◌, ◌&&◌, ◌||◌, ℕ, Bool, true, false, List, [], ◌∷◌, length, take}
+use Rattle.std.specs.Prelude.{if◌then◌else◌}
 use Rattle.deck_scan.specs.declared.token.Token.{Token}
 use Rattle.deck_scan.specs.declared.token.Token.TheVariants.{Close}
 use Rattle.deck_scan.specs.declared.token.TokenLine.{TokenLine}
@@ -31,7 +32,8 @@ pub record HaveCloses (text : List ℕ) (n used : ℕ) : Type 0 where
 
 -- What a byte opens where nothing stands open.
 unfoldable pub begun : ℕ → Open
-begun b = if b == 39 then Quoted else if b == 47 then Slash else if b == 88 then X else if is_word b then Word else Nothing
+begun b =
+    if b == 39 then Quoted else if b == 47 then Slash else if b == 88 then X else if is_word b then Word else Nothing
 
 abbrev pub in_word : ℕ → Open
 in_word b = if is_word b then Word else begun b

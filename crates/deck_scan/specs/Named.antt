@@ -9,7 +9,10 @@ use Rattle.deck_scan.specs.Pieces.{Piece, Plain, Quoted, Hexed, Place, with_toke
 
 -- The piece by which the name of these bytes is printed.
 abbrev pub name_piece : List ℕ → Piece
-name_piece bs = if list_all is_plain_byte bs then Plain bs else (if list_all is_printable bs then Quoted bs else Hexed (hex_digits bs))
+name_piece bs =
+    if list_all is_plain_byte bs
+    then Plain bs
+    else (if list_all is_printable bs then Quoted bs else Hexed (hex_digits bs))
 
 -- The token that it says, with the same bytes.
 abbrev pub name_token : List ℕ → Token

@@ -1,5 +1,6 @@
 -- A text as pieces, each spelled in its own way, and the lines of tokens that the pieces say.
-use Rattle.std.specs.Prelude.{◌≡◌, ℕ, Bool, true, false, not, ◌||◌, ◌&&◌, ◌==◌, ◌+◌, ◌*◌, List, [], ◌∷◌, ◌++◌, length, filter, None, if◌then◌else◌}
+use Rattle.std.specs.Prelude.{◌≡◌, ℕ, Bool, true, false, not, ◌||◌, ◌&&◌, ◌==◌, ◌+◌, ◌*◌, List, [], ◌∷◌, ◌++◌, length}
+use Rattle.std.specs.Prelude.{filter, None, if◌then◌else◌}
 use Rattle.std.specs.List.{list_all}
 use Rattle.std.specs.Str.{bytes_eq}
 use Rattle.grs_base.specs.Printed.{is_printable, quotes_doubled}
@@ -130,7 +131,8 @@ hex_token ds = if is_hexed ds then Name (unhex ds) else Stray
 
 -- The lines with one more; a line without tokens is blank, and nothing is kept of it.
 abbrev pub lines_with : ℕ → List Token → Bool → List TokenLine → List TokenLine
-lines_with at tokens joined lines = if length tokens == 0 then lines else lines ++ record { at = at; tokens = tokens; joined = joined } ∷ []
+lines_with at tokens joined lines =
+    if length tokens == 0 then lines else lines ++ record { at = at; tokens = tokens; joined = joined } ∷ []
 
 -- Where a text stands: the number of the line; the tokens of the line so far; whether the line has one
 -- token, a word, and nothing stood behind it yet; whether a token stood directly behind the first word;
@@ -157,7 +159,13 @@ abbrev pub apart : Place → Place
 apart p = record p { near = false }
 
 abbrev pub next_line : Place → Place
-next_line p = record { line = p.line + 1; tokens = []; near = false; joined = false; lines = lines_with p.line p.tokens p.joined p.lines }
+next_line p = record {
+  line = p.line + 1;
+  tokens = [];
+  near = false;
+  joined = false;
+  lines = lines_with p.line p.tokens p.joined p.lines;
+}
 
 -- The ends of lines in a comment count, all else is blank.
 abbrev pub over : List ℕ → Place → Place

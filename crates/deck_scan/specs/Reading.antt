@@ -19,7 +19,10 @@ bad_byte (Some n) = Some (record { line = n; kind = BadByte })
 
 -- A text that is too long has this fault alone; else its first byte that a deck may not have is the fault.
 abbrev pub byte_fault : List ℕ → Option DeckFault
-byte_fault text = if nat_lt most_text_bytes (length text) then Some (record { line = 0; kind = TooLong }) else bad_byte (bad_line 1 text)
+byte_fault text =
+    if nat_lt most_text_bytes (length text)
+    then Some (record { line = 0; kind = TooLong })
+    else bad_byte (bad_line 1 text)
 
 -- What a reader of lines answers: the lines that the text spells where it has no fault of length or
 -- bytes, else that fault. Want of memory is the only other answer.

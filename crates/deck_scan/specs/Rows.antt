@@ -1,5 +1,6 @@
 -- A text that is read line by line: what is read of one line, and which lines are still to come.
-use Rattle.std.specs.Prelude.{◌≡◌, ◌⊎◌, ℕ, Bool, true, false, not, ◌&&◌, ◌||◌, ◌==◌, ◌<◌, ◌+◌, List, [], ◌∷◌, ◌++◌, length, Option, Some, None, if◌then◌else◌}
+use Rattle.std.specs.Prelude.{◌≡◌, ◌⊎◌, ℕ, Bool, true, false, not, ◌&&◌, ◌||◌, ◌==◌, ◌<◌, ◌+◌, List, [], ◌∷◌, ◌++◌}
+use Rattle.std.specs.Prelude.{length, Option, Some, None, if◌then◌else◌}
 use Rattle.std.specs.List.{list_all}
 use Rattle.grs_base.specs.Printed.{is_printable, quotes_doubled}
 use Rattle.deck_scan.specs.declared.token.Token.{Token}
@@ -9,15 +10,36 @@ use Rattle.deck_scan.specs.declared.row.Row.{Row}
 use Rattle.deck_scan.specs.declared.cursor.Cursor.{Cursor}
 use Rattle.deck_scan.specs.Bytes.{begins, is_allowed}
 use Rattle.deck_scan.specs.AnyBytes.{readable}
-use Rattle.deck_scan.specs.Pieces.{Piece, spelling, has_no_end, is_piece, may_follow, followed_by, lines_with, Place, past}
+use Rattle.deck_scan.specs.Pieces.{Piece, spelling, has_no_end, is_piece, may_follow, followed_by, lines_with, Place}
+use Rattle.deck_scan.specs.Pieces.{past}
 use Rattle.deck_scan.specs.Scan.{Scan, InBlank, InComment, end_line, scan_from, finish_in}
 
 -- ---- which lines are to come
 
 -- Nothing is read yet of a line; a comment stands open that began on this line, or none.
 abbrev pub at_row : ℕ → Option ℕ → Scan
-at_row line None = record { line = line; begun = 0; high = 0; mode = InBlank; part = []; tokens = []; near = false; joined = false; lines = [] }
-at_row line (Some begun) = record { line = line; begun = begun; high = 0; mode = InComment; part = []; tokens = []; near = false; joined = false; lines = [] }
+at_row line None = record {
+  line = line;
+  begun = 0;
+  high = 0;
+  mode = InBlank;
+  part = [];
+  tokens = [];
+  near = false;
+  joined = false;
+  lines = [];
+}
+at_row line (Some begun) = record {
+  line = line;
+  begun = begun;
+  high = 0;
+  mode = InComment;
+  part = [];
+  tokens = [];
+  near = false;
+  joined = false;
+  lines = [];
+}
 
 -- The lines of a text from here on.
 abbrev pub lines_from : Scan → List ℕ → List TokenLine
@@ -90,12 +112,15 @@ pub record Takes (text : List ℕ) (old : Row) (rest : List ℕ) (new : Row) : T
 -- This was read of a line, where a comment stands open that began on this line, or none: whatever stands on
 -- further lines, the line's own tokens come first, and then what comes behind it.
 pub record IsRow (line : ℕ) (begun : Option ℕ) (row : List ℕ) (read : Row) : Type 0 where
-  pub goes : (more : List ℕ) → to_come line begun (row ++ 10 ∷ more) ≡ lines_with line read.tokens read.joined [] ++ to_come (line + 1) read.begun more
+  pub goes : (more : List ℕ)
+      → to_come line begun (row ++ 10 ∷ more)
+      ≡ lines_with line read.tokens read.joined [] ++ to_come (line + 1) read.begun more
   pub ends : to_come line begun row ≡ lines_with line read.tokens read.joined [] ++ to_come line read.begun []
 
 -- This was read of the last line of a text: its tokens come first, and then what comes behind it.
 abbrev pub IsLast : ℕ → Option ℕ → List ℕ → Row → Type 0
-IsLast line begun text read = to_come line begun text ≡ lines_with line read.tokens read.joined [] ++ to_come line read.begun []
+IsLast line begun text read =
+    to_come line begun text ≡ lines_with line read.tokens read.joined [] ++ to_come line read.begun []
 
 -- A line was taken from the front of the text: its tokens come first, and then what comes behind it.
 pub record Passes (from : Cursor) (read : Row) (to : Cursor) : Type 0 where

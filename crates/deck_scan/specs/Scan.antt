@@ -50,7 +50,14 @@ put_open s = record (put Open s) { joined = s.joined }
 
 -- The line ends.
 unfoldable pub end_line : Scan → Scan
-end_line s = record s { line = s.line + 1; lines = lines_with s.line s.tokens s.joined s.lines; tokens = []; joined = false; near = false }
+end_line s =
+    record s {
+      line = s.line + 1;
+      lines = lines_with s.line s.tokens s.joined s.lines;
+      tokens = [];
+      joined = false;
+      near = false;
+    }
 
 -- The line ends within a token.
 unfoldable pub break_off : Scan → Scan
@@ -79,7 +86,8 @@ is_x part = bytes_eq part (88 ∷ [])
 -- A byte, by what stands open.
 unfoldable pub step_in : Mode → Scan → ℕ → Scan
 step_in InBlank s b = begin s b
-step_in AfterSlash s b = if b == 42 then record s { begun = s.line; near = false; mode = InComment } else begin (put Stray s) b
+step_in AfterSlash s b =
+    if b == 42 then record s { begun = s.line; near = false; mode = InComment } else begin (put Stray s) b
 step_in InWord s b =
     if is_word b then record s { part = s.part ++ b ∷ [] }
     else if b == 39 && is_x s.part then record s { part = []; mode = InHex }
@@ -137,7 +145,17 @@ finish_in InComment s = put Unclosed (record (end_line s) { line = s.begun })
 finish_in AfterStar s = put Unclosed (record (end_line s) { line = s.begun })
 
 abbrev pub start : Scan
-start = record { line = 1; begun = 0; high = 0; mode = InBlank; part = []; tokens = []; near = false; joined = false; lines = [] }
+start = record {
+  line = 1;
+  begun = 0;
+  high = 0;
+  mode = InBlank;
+  part = [];
+  tokens = [];
+  near = false;
+  joined = false;
+  lines = [];
+}
 
 unfoldable pub lines_of : List ℕ → List TokenLine
 lines_of text = (end_line (finish_in (scan_from start text).mode (scan_from start text))).lines

@@ -3,7 +3,8 @@ use Rattle.std.proofs.Common.{◌≡◌, ◌<◌, ◌≤◌, Bool, true, false, 
 use Rattle.std.specs.Prelude.{filter}
 use Rattle.std.proofs.lemmas.Bool.Decides.{nat_tests}
 use Rattle.grs_base.specs.Same.{same_task}
-use Rattle.grs_base.specs.Lists.{shared_front, owners, place_of, standing_of, is_owner, owns, owns_shared, has_task, is_apart, list_exclusive}
+use Rattle.grs_base.specs.Lists.{shared_front, owners, place_of, standing_of, is_owner, owns, owns_shared, has_task}
+use Rattle.grs_base.specs.Lists.{is_apart, list_exclusive}
 use Rattle.grs_base.specs.declared.resource.TaskId.{TaskId}
 use Rattle.grs_base.specs.declared.resource.Elem.{Elem}
 use Rattle.grs_base.proofs.SameLaws.{same_task-exact}
@@ -38,7 +39,8 @@ owns-append [] fs t h = cc
 owns-append (e ∷ es) fs t h = grind (arith, h, owns_shared-append es fs t)
 
 -- an owner stays one where others leave
-pub owns_shared-filter : (q : Elem → Bool) (t : TaskId) → ((e : Elem) → same_task t e.task ≡ true → q e ≡ true) → (es : List Elem) → owns_shared es t ≡ true → owns_shared (filter q es) t ≡ true
+pub owns_shared-filter : (q : Elem → Bool) (t : TaskId) → ((e : Elem) → same_task t e.task ≡ true → q e ≡ true)
+    → (es : List Elem) → owns_shared es t ≡ true → owns_shared (filter q es) t ≡ true
 owns_shared-filter q t keeps [] h = h
 owns_shared-filter q t keeps (e ∷ es) h = grind (arith, h, keeps e, owns_shared-filter q t keeps es)
 
@@ -46,16 +48,19 @@ pub owns-from_shared : (es : List Elem) (t : TaskId) → owns_shared es t ≡ tr
 owns-from_shared [] t h = h
 owns-from_shared (e ∷ es) t h = grind (arith, h)
 
-pub owns-filter : (q : Elem → Bool) (t : TaskId) → ((e : Elem) → same_task t e.task ≡ true → q e ≡ true) → (es : List Elem) → owns es t ≡ true → owns (filter q es) t ≡ true
+pub owns-filter : (q : Elem → Bool) (t : TaskId) → ((e : Elem) → same_task t e.task ≡ true → q e ≡ true)
+    → (es : List Elem) → owns es t ≡ true → owns (filter q es) t ≡ true
 owns-filter q t keeps [] h = h
-owns-filter q t keeps (e ∷ es) h = grind (arith, h, keeps e, owns_shared-filter q t keeps es, owns-from_shared (filter q es) t)
+owns-filter q t keeps (e ∷ es) h =
+    grind (arith, h, keeps e, owns_shared-filter q t keeps es, owns-from_shared (filter q es) t)
 
 -- no task twice
 pub has_task-append : (es fs : List Elem) (t : TaskId) → has_task (es ++ fs) t ≡ (has_task es t || has_task fs t)
 has_task-append [] fs t = refl
 has_task-append (e ∷ es) fs t = grind (arith, has_task-append es fs t)
 
-pub has_task-filter : (q : Elem → Bool) (es : List Elem) (t : TaskId) → has_task es t ≡ false → has_task (filter q es) t ≡ false
+pub has_task-filter : (q : Elem → Bool) (es : List Elem) (t : TaskId) → has_task es t ≡ false
+    → has_task (filter q es) t ≡ false
 has_task-filter q [] t h = h
 has_task-filter q (e ∷ es) t h = grind (arith, h, has_task-filter q es t)
 
@@ -66,9 +71,11 @@ is_apart-filter q (e ∷ es) h = grind (arith, h, is_apart-filter q es, has_task
 pub same_task-sym : (a b : TaskId) → same_task a b ≡ same_task b a
 same_task-sym a b = grind (arith, nat_tests)
 
-pub is_apart-push : (es : List Elem) (e : Elem) → is_apart es ≡ true → has_task es e.task ≡ false → is_apart (es ++ e ∷ []) ≡ true
+pub is_apart-push : (es : List Elem) (e : Elem) → is_apart es ≡ true → has_task es e.task ≡ false
+    → is_apart (es ++ e ∷ []) ≡ true
 is_apart-push [] e h a = refl
-is_apart-push (x ∷ es) e h a = grind (arith, h, a, is_apart-push es e, has_task-append es (e ∷ []) x.task, same_task-sym x.task e.task)
+is_apart-push (x ∷ es) e h a =
+    grind (arith, h, a, is_apart-push es e, has_task-append es (e ∷ []) x.task, same_task-sym x.task e.task)
 
 pub has_task-exclusive : (es : List Elem) (t u : TaskId) → has_task (list_exclusive es u) t ≡ has_task es t
 has_task-exclusive [] t u = refl

@@ -1,5 +1,6 @@
 -- Laws of the order of resources.
-use Rattle.std.proofs.Common.{◌≡◌, ℕ, ◌+◌, ◌-◌, ◌<◌, ◌≤◌, suc, List, [], ◌∷◌, ◌++◌, length, take, set, get_or, refl, ap, sym, ◌∙◌, arith}
+use Rattle.std.proofs.Common.{◌≡◌, ℕ, ◌+◌, ◌-◌, ◌<◌, ◌≤◌, suc, List, [], ◌∷◌, ◌++◌, length, take, set, get_or, refl, ap}
+use Rattle.std.proofs.Common.{sym, ◌∙◌, arith}
 use Rattle.std.specs.Prelude.{replicate}
 use Rattle.std.proofs.Common.{append_assoc}
 use Rattle.std.proofs.lemmas.List.{take_more, length-take-le}
@@ -17,7 +18,10 @@ use Rattle.grs_base.specs.declared.resource.Res.TheVariants.{Step, System, Syste
 use Rattle.grs_base.proofs.SameLaws.{same_res-exact, same_res-itself}
 
 pub res_total : IsTotalOrder res_order
-res_total = then_total (on_total group_of nat_list_cmp_total) (then_total (on_total (λ r. padded (qname_of r)) nat_list_cmp_total) (then_total (on_total rname_of nat_list_cmp_total) (on_total qname_of nat_list_cmp_total)))
+res_total =
+    then_total (on_total group_of nat_list_cmp_total) (then_total
+    (on_total (λ r. padded (qname_of r)) nat_list_cmp_total)
+    (then_total (on_total rname_of nat_list_cmp_total) (on_total qname_of nat_list_cmp_total)))
 
 then_equal : (r s : Ordering) → ordering_then r s ≡ Equal → (r ≡ Equal) × (s ≡ Equal)
 then_equal Less s e = cc
@@ -33,11 +37,17 @@ by_parts (Systems q r) (Systems p u) g e f = λ i. Systems (e i) (f i)
 by_parts (Systems q r) (System t p u) g e f = cc
 by_parts (Systems q r) (Step t k p u) g e f = cc
 by_parts (System s q r) (Systems p u) g e f = cc
-by_parts (System s q r) (System t p u) g e f = let qnames : q ≡ p = e in let rnames : r ≡ u = f in let one : s ≡ t = grind (arith, g) in cc
+by_parts (System s q r) (System t p u) g e f =
+    let qnames : q ≡ p = e in let rnames : r ≡ u = f in let one : s ≡ t = grind (arith, g) in cc
 by_parts (System s q r) (Step t k p u) g e f = cc
 by_parts (Step s j q r) (Systems p u) g e f = cc
 by_parts (Step s j q r) (System t p u) g e f = cc
-by_parts (Step s j q r) (Step t k p u) g e f = let qnames : q ≡ p = e in let rnames : r ≡ u = f in let one : s ≡ t = grind (arith, g) in let jobs : j ≡ k = grind (arith, g) in cc
+by_parts (Step s j q r) (Step t k p u) g e f =
+    let qnames : q ≡ p = e in
+    let rnames : r ≡ u = f in
+    let one : s ≡ t = grind (arith, g) in
+    let jobs : j ≡ k = grind (arith, g) in
+    cc
 
 pub res_order-IsAntisymmetric : IsAntisymmetric res_order
 res_order-IsAntisymmetric a b e =
@@ -48,8 +58,12 @@ res_order-IsAntisymmetric a b e =
 
 -- two resources tie exactly where they are one
 pub same_res-tie : (a b : Res) → same_res a b ≡ eq_by_cmp res_order a b
-same_res-tie a b = both_ways _ _ (λ e. ap (λ (x : Res). eq_by_cmp res_order a x) (sym (same_res-exact a b e)) ∙ ap is_eq (tied_itself res_total a))
-    (λ e. ap (λ (x : Res). same_res a x) (sym (res_order-IsAntisymmetric a b ((Equal-is (res_order a b)).0 e))) ∙ same_res-itself a)
+same_res-tie a b =
+    both_ways _ _
+    (λ e. ap (λ (x : Res). eq_by_cmp res_order a x) (sym (same_res-exact a b e)) ∙ ap is_eq (tied_itself res_total a))
+    (λ e.
+    ap (λ (x : Res). same_res a x) (sym (res_order-IsAntisymmetric a b ((Equal-is (res_order a b)).0 e)))
+    ∙ same_res-itself a)
 
 pub ordering_then-equal : (r : Ordering) → ordering_then r Equal ≡ r
 ordering_then-equal Less = refl
@@ -59,7 +73,8 @@ ordering_then-equal Greater = refl
 pub ruleset orders = (ordering_then-equal)
 
 -- one byte more is written before the blanks
-pub padded_more : (bs : List ℕ) (i : ℕ) (b n : ℕ) → i < length bs → length bs ≤ n → b ≡ get_or bs i 0 → set (take i bs ++ replicate (n - i) 32) i b ≡ take (i + 1) bs ++ replicate (n - (i + 1)) 32
+pub padded_more : (bs : List ℕ) (i : ℕ) (b n : ℕ) → i < length bs → length bs ≤ n → b ≡ get_or bs i 0
+    → set (take i bs ++ replicate (n - i) 32) i b ≡ take (i + 1) bs ++ replicate (n - (i + 1)) 32
 padded_more bs i b n h short is =
     let blanks : List ℕ = replicate (n - (i + 1)) 32 in
     let room : n - i ≡ suc (n - (i + 1)) = omega arith in

@@ -34,4 +34,6 @@ by_numbers = slice_cmp nat_cmp
 -- By group, then by the padded qname, then by the rname. The last comparison tells only qnames apart that
 -- differ by blanks at their ends, and the qnames of resources have none there.
 abbrev pub res_order : Res → Res → Ordering
-res_order = then_cmp (on group_of by_numbers) (then_cmp (on (λ r. padded (qname_of r)) by_numbers) (then_cmp (on rname_of by_numbers) (on qname_of by_numbers)))
+res_order =
+    then_cmp (on group_of by_numbers)
+    (then_cmp (on (λ r. padded (qname_of r)) by_numbers) (then_cmp (on rname_of by_numbers) (on qname_of by_numbers)))

@@ -1,5 +1,6 @@
 -- Everything that is held or waited for: elements with their resources, in order of arrival.
-use Rattle.std.specs.Prelude.{ℕ, Bool, true, false, not, ◌&&◌, ◌==◌, nat_le, List, [], ◌∷◌, ◌++◌, length, map, filter, cond, Option, Some, None, nat_eq}
+use Rattle.std.specs.Prelude.{ℕ, Bool, true, false, not, ◌&&◌, ◌==◌, nat_le, List, [], ◌∷◌, ◌++◌, length, map, filter}
+use Rattle.std.specs.Prelude.{cond, Option, Some, None, nat_eq}
 use Rattle.grs_base.specs.Same.{same_res, same_task}
 use Rattle.grs_base.specs.Lists.{decide_enq, deq_code, is_owner, standing_of}
 use Rattle.grs_base.specs.declared.resource.Res.{Res}

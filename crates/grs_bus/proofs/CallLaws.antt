@@ -1,6 +1,7 @@
 -- From the three parts of a call, which take the word, work on the slot and give the word back, to what the call says
 -- of its seat.
-use Rattle.std.proofs.Common.{◌≡◌, ℕ, ◌<◌, ◌^◌, List, [], ◌∷◌, ◌++◌, Bool, true, false, Result, Ok, Err, IfOk, OnErr, MatchResult, length, get_or, refl, sym, ap, ◌∙◌, subst, inl, inr}
+use Rattle.std.proofs.Common.{◌≡◌, ℕ, ◌<◌, ◌^◌, List, [], ◌∷◌, ◌++◌, Bool, true, false, Result, Ok, Err, IfOk, OnErr}
+use Rattle.std.proofs.Common.{MatchResult, length, get_or, refl, sym, ap, ◌∙◌, subst, inl, inr}
 use Rattle.atomic_table.specs.Seated.{TableId}
 use Rattle.atomic_table.specs.Table.{Me}
 use Rattle.grs_base.specs.declared.fault.NoMemory.{NoMemory}
@@ -37,7 +38,9 @@ held word m m' k none_left = ap (λ (x : M). x.1) k.me ∙ ap (λ (l : List (ℕ
 abbrev pub Asks : MediumState → SysId → Call → M → Type 0
 Asks first s call m = (m.1 ≡ []) × (m.0.system ≡ s) × (m.0.first.state ≡ first) × MayCall first s call
 
-pub asks : (b : BusValue) (table : TableId) (seat : SeatValue) (s : SysId) (call : Call) (m : M) → seat_of table m.0 ≡ seat → m.1 ≡ [] → m.0.system ≡ s → seat.bus ≡ b → MayCall b.first seat.system call → Asks b.first s call m
+pub asks : (b : BusValue) (table : TableId) (seat : SeatValue) (s : SysId) (call : Call) (m : M)
+    → seat_of table m.0 ≡ seat → m.1 ≡ [] → m.0.system ≡ s → seat.bus ≡ b → MayCall b.first seat.system call
+    → Asks b.first s call m
 asks b table seat s call m shown none_left is of can = (
   none_left,
   is,
@@ -46,16 +49,23 @@ asks b table seat s call m shown none_left is of can = (
 )
 
 -- what the medium could be asked at the start it can be asked where the word was taken
-pub may_work : (first : MediumState) (word : ℕ) (s : SysId) (call : Call) (m m' : M) → Asks first s call m → Took word m m' → Holds m' (λ slot. MayCall slot.medium.state s call)
+pub may_work : (first : MediumState) (word : ℕ) (s : SysId) (call : Call) (m m' : M) → Asks first s call m
+    → Took word m m' → Holds m' (λ slot. MayCall slot.medium.state s call)
 may_work first word s call m m' asks k = (
   k.slot,
   held word m m' k asks.0,
-  subst (λ (x : MediumState). MayCall x s call) (sym (k.settled.1 ∙ ap (λ (x : MediumState). after_all x k.journal) asks.2)) (can_be_asked first k.journal s call (subst (λ (x : MediumState). AreRight x k.journal) asks.2 k.right) asks.3),
+  subst (λ (x : MediumState). MayCall x s call)
+      (sym (k.settled.1 ∙ ap (λ (x : MediumState). after_all x k.journal) asks.2))
+      (can_be_asked first k.journal s call (subst (λ (x : MediumState). AreRight x k.journal) asks.2 k.right) asks.3),
 )
 
 -- what the work on the slot says
 abbrev Worked : SysId → Call → Answer → ℕ → M → M → Type 0
-Worked s call answer count m m' = Holds m (λ old. Holds m' (λ new. MatchResult answer (λ told. Answers s call old new told) (λ _. IsUnchanged old new) × (count ≡ length new.journal.items) × (length old.journal.items < 2 ^ 58 → count < 2 ^ 58)))
+Worked s call answer count m m' =
+    Holds m (λ old.
+    Holds m' (λ new.
+    MatchResult answer (λ told. Answers s call old new told) (λ _. IsUnchanged old new)
+    × (count ≡ length new.journal.items) × (length old.journal.items < 2 ^ 58 → count < 2 ^ 58)))
 
 -- The slot behind an answered call that took the word at this journal.
 record Grew (v : View) (journal : List JEntry) (call : Call) (new : Slot) (told : Reply × Bool) : Type 0 where
@@ -65,29 +75,47 @@ record Grew (v : View) (journal : List JEntry) (call : Call) (new : Slot) (told 
   own : entries_of v.system.0 new.journal.items ≡ with_entry v.own v.system call told
   seen : new.journal.items ≡ with_entry journal v.system call told
 
-grew : (v : View) (journal : List JEntry) (old new : Slot) (call : Call) (told : Reply × Bool) → IsSettled v.first.state journal old → AreRight v.first.state journal → v.own ≡ entries_of v.system.0 journal
-    → MayCall (after_all v.first.state journal) v.system call → Answers v.system call old new told → Grew v journal call new told
+grew : (v : View) (journal : List JEntry) (old new : Slot) (call : Call) (told : Reply × Bool)
+    → IsSettled v.first.state journal old → AreRight v.first.state journal → v.own ≡ entries_of v.system.0 journal
+    → MayCall (after_all v.first.state journal) v.system call → Answers v.system call old new told
+    → Grew v journal call new told
 grew v journal old new call (reply, true) settled right own can a =
     let e : JEntry = entry_of v.system call reply in
     let m : MediumState = after_all v.first.state journal in
     let items : new.journal.items ≡ journal ++ e ∷ [] = a.2 ∙ ap (λ l. l ++ e ∷ []) settled.0 in
-    let right_reply : reply ≡ reply_to m v.system call = a.0 ∙ ap (λ (x : MediumState). reply_to x v.system call) settled.1 in
-    let put_in : true ≡ is_entered m v.system call = a.1 ∙ ap (λ (x : MediumState). is_entered x v.system call) settled.1 in record {
+    let right_reply : reply ≡ reply_to m v.system call =
+    a.0 ∙ ap (λ (x : MediumState). reply_to x v.system call) settled.1 in
+    let put_in : true ≡ is_entered m v.system call =
+    a.1 ∙ ap (λ (x : MediumState). is_entered x v.system call) settled.1 in
+    record {
       home = record {
-        medium = a.3 ∙ (ap (λ (x : MediumState). medium_after x v.system call) settled.1 ∙ (sym (after_all-snoc v.first.state journal e) ∙ ap (after_all v.first.state) (sym items)));
-        right = subst (AreRight v.first.state) (sym items) (AreRight-snoc v.first.state journal e right (can, right_reply, sym put_in));
+        medium =
+            a.3
+            ∙ (ap (λ (x : MediumState). medium_after x v.system call) settled.1
+            ∙ (sym (after_all-snoc v.first.state journal e) ∙ ap (after_all v.first.state) (sym items)));
+        right =
+            subst (AreRight v.first.state) (sym items)
+            (AreRight-snoc v.first.state journal e right (can, right_reply, sym put_in));
         more = inr (e, items, refl);
       };
       reply = right_reply;
       entered = put_in;
-      own = ap (entries_of v.system.0) items ∙ (entries_of-own journal e v.system.0 refl ∙ ap (λ l. l ++ e ∷ []) (sym own));
+      own =
+          ap (entries_of v.system.0) items
+          ∙ (entries_of-own journal e v.system.0 refl ∙ ap (λ l. l ++ e ∷ []) (sym own));
       seen = items;
     }
 grew v journal old new call (reply, false) settled right own can a =
     let items : new.journal.items ≡ journal = a.2 ∙ settled.0 in
-    let left_out : false ≡ is_entered (after_all v.first.state journal) v.system call = a.1 ∙ ap (λ (x : MediumState). is_entered x v.system call) settled.1 in record {
+    let left_out : false ≡ is_entered (after_all v.first.state journal) v.system call =
+    a.1 ∙ ap (λ (x : MediumState). is_entered x v.system call) settled.1 in
+    record {
       home = record {
-        medium = a.3 ∙ (ap (λ (x : MediumState). medium_after x v.system call) settled.1 ∙ (stays (after_all v.first.state journal) v.system call (sym left_out) ∙ ap (after_all v.first.state) (sym items)));
+        medium =
+            a.3
+            ∙ (ap (λ (x : MediumState). medium_after x v.system call) settled.1
+            ∙ (stays (after_all v.first.state journal) v.system call (sym left_out)
+            ∙ ap (after_all v.first.state) (sym items)));
         right = subst (AreRight v.first.state) (sym items) right;
         more = inl items;
       };
@@ -97,16 +125,21 @@ grew v journal old new call (reply, false) settled right own can a =
       seen = items;
     }
 
-unchanged_home : (v : View) (journal : List JEntry) (old new : Slot) → IsSettled v.first.state journal old → AreRight v.first.state journal → IsUnchanged old new → MayComeHome (taken v journal) new
+unchanged_home : (v : View) (journal : List JEntry) (old new : Slot) → IsSettled v.first.state journal old
+    → AreRight v.first.state journal → IsUnchanged old new → MayComeHome (taken v journal) new
 unchanged_home v journal old new settled right u = let items : new.journal.items ≡ journal = u.0 ∙ settled.0 in record {
   medium = u.1 ∙ (settled.1 ∙ ap (after_all v.first.state) (sym items));
   right = subst (AreRight v.first.state) (sym items) right;
   more = inl items;
 }
 
-either_home : (v : View) (journal : List JEntry) (old new : Slot) (call : Call) (answer : Answer) → IsSettled v.first.state journal old → AreRight v.first.state journal → v.own ≡ entries_of v.system.0 journal
-    → MayCall (after_all v.first.state journal) v.system call → MatchResult answer (λ told. Answers v.system call old new told) (λ _. IsUnchanged old new) → MayComeHome (taken v journal) new
-either_home v journal old new call (Ok told) settled right own can a = (grew v journal old new call told settled right own can a).home
+either_home : (v : View) (journal : List JEntry) (old new : Slot) (call : Call) (answer : Answer)
+    → IsSettled v.first.state journal old → AreRight v.first.state journal → v.own ≡ entries_of v.system.0 journal
+    → MayCall (after_all v.first.state journal) v.system call
+    → MatchResult answer (λ told. Answers v.system call old new told) (λ _. IsUnchanged old new)
+    → MayComeHome (taken v journal) new
+either_home v journal old new call (Ok told) settled right own can a =
+    (grew v journal old new call told settled right own can a).home
 either_home v journal old new call (Err e) settled right own can u = unchanged_home v journal old new settled right u
 
 -- The parts of a call, side by side.
@@ -124,38 +157,60 @@ record Parts (call : Call) (answer : Answer) (count : ℕ) (m m' : M) : Type 0 w
   moved : MatchResult answer (λ told. Answers m.0.system call old new told) (λ _. IsUnchanged old new)
   size : count ≡ length new.journal.items
 
-parts : (first : MediumState) (word : ℕ) (s : SysId) (call : Call) (answer : Answer) (count : ℕ) (m₀ m₁ m₂ : M) → Asks first s call m₀ → Took word m₀ m₁ → m₂.0 ≡ m₁.0 → Worked s call answer count m₁ m₂ → Parts call answer count m₀ m₂
-parts first word s call answer count m₀ m₁ m₂ asks k same w = let e : k.slot ≡ w.0 = one_slot m₁.1 k.slot w.0 (held word m₀ m₁ k asks.0) w.1 in record {
-  journal = k.journal;
-  old = w.0;
-  new = w.2.0;
-  here = w.2.1;
-  view = same ∙ ap (λ (x : M). x.0) k.me;
-  longer = k.longer;
-  settled = subst (IsSettled m₀.0.first.state k.journal) e k.settled;
-  right = k.right;
-  own = k.own;
-  can = can_be_asked m₀.0.first.state k.journal m₀.0.system call k.right (subst (λ (x : MediumState). MayCall x m₀.0.system call) (sym asks.2) (subst (λ (t : SysId). MayCall first t call) (sym asks.1) asks.3));
-  moved = subst (λ (t : SysId). MatchResult answer (λ told. Answers t call w.0 w.2.0 told) (λ _. IsUnchanged w.0 w.2.0)) (sym asks.1) w.2.2.0;
-  size = w.2.2.1;
-}
+parts : (first : MediumState) (word : ℕ) (s : SysId) (call : Call) (answer : Answer) (count : ℕ) (m₀ m₁ m₂ : M)
+    → Asks first s call m₀ → Took word m₀ m₁ → m₂.0 ≡ m₁.0 → Worked s call answer count m₁ m₂
+    → Parts call answer count m₀ m₂
+parts first word s call answer count m₀ m₁ m₂ asks k same w =
+    let e : k.slot ≡ w.0 = one_slot m₁.1 k.slot w.0 (held word m₀ m₁ k asks.0) w.1 in record {
+      journal = k.journal;
+      old = w.0;
+      new = w.2.0;
+      here = w.2.1;
+      view = same ∙ ap (λ (x : M). x.0) k.me;
+      longer = k.longer;
+      settled = subst (IsSettled m₀.0.first.state k.journal) e k.settled;
+      right = k.right;
+      own = k.own;
+      can =
+          can_be_asked m₀.0.first.state k.journal m₀.0.system call k.right
+          (subst (λ (x : MediumState). MayCall x m₀.0.system call) (sym asks.2)
+          (subst (λ (t : SysId). MayCall first t call) (sym asks.1) asks.3));
+      moved =
+          subst (λ (t : SysId). MatchResult answer (λ told. Answers t call w.0 w.2.0 told) (λ _. IsUnchanged w.0 w.2.0))
+          (sym asks.1) w.2.2.0;
+      size = w.2.2.1;
+    }
 
-pub may_give : (first : MediumState) (word : ℕ) (s : SysId) (call : Call) (answer : Answer) (count : ℕ) (m₀ m₁ m₂ : M) → Asks first s call m₀ → Took word m₀ m₁ → m₂.0 ≡ m₁.0 → Worked s call answer count m₁ m₂
+pub may_give : (first : MediumState) (word : ℕ) (s : SysId) (call : Call) (answer : Answer) (count : ℕ) (m₀ m₁ m₂ : M)
+    → Asks first s call m₀ → Took word m₀ m₁ → m₂.0 ≡ m₁.0 → Worked s call answer count m₁ m₂
     → Holds m₂ (λ slot. MayComeHome m₂.0 slot × (count ≡ length slot.journal.items))
-may_give first word s call answer count m₀ m₁ m₂ asks k same w = let p = parts first word s call answer count m₀ m₁ m₂ asks k same w in
-    (p.new, p.here, (subst (λ (v : View). MayComeHome v p.new) (sym p.view) (either_home m₀.0 p.journal p.old p.new call answer p.settled p.right p.own p.can p.moved), p.size))
+may_give first word s call answer count m₀ m₁ m₂ asks k same w =
+    let p = parts first word s call answer count m₀ m₁ m₂ asks k same w in (
+      p.new,
+      p.here,
+      (
+        subst (λ (v : View). MayComeHome v p.new) (sym p.view)
+            (either_home m₀.0 p.journal p.old p.new call answer p.settled p.right p.own p.can p.moved),
+        p.size,
+      ),
+    )
 
 -- what giving back says
 abbrev Gave : M → M → Type 0
 Gave m m' = Holds m (λ slot. m' ≡ (given_back m.0 slot.journal.items, []))
 
-view_after : (call : Call) (answer : Answer) (count : ℕ) (m₀ m₂ m₃ : M) (p : Parts call answer count m₀ m₂) → Gave m₂ m₃ → m₃.0 ≡ given_back (taken m₀.0 p.journal) p.new.journal.items
+view_after : (call : Call) (answer : Answer) (count : ℕ) (m₀ m₂ m₃ : M) (p : Parts call answer count m₀ m₂) → Gave m₂ m₃
+    → m₃.0 ≡ given_back (taken m₀.0 p.journal) p.new.journal.items
 view_after call answer count m₀ m₂ m₃ p g = let e : g.0 ≡ p.new = one_slot m₂.1 g.0 p.new g.1 p.here in
     ap (λ (x : M). x.0) g.2 ∙ λ i. given_back (p.view i) (e i).journal.items
 
-answered : (table table' : TableId) (call : Call) (answer : Answer) (count : ℕ) (m₀ m₂ m₃ : M) → Parts call answer count m₀ m₂ → Gave m₂ m₃ → IfOk answer (λ told. IsAnswered (seat_of table m₀.0) call told (seat_of table' m₃.0))
+answered : (table table' : TableId) (call : Call) (answer : Answer) (count : ℕ) (m₀ m₂ m₃ : M)
+    → Parts call answer count m₀ m₂ → Gave m₂ m₃
+    → IfOk answer (λ told. IsAnswered (seat_of table m₀.0) call told (seat_of table' m₃.0))
 answered table table' call (Ok told) count m₀ m₂ m₃ p g =
-    let v = view_after call (Ok told) count m₀ m₂ m₃ p g in let q = grew m₀.0 p.journal p.old p.new call told p.settled p.right p.own p.can p.moved in record {
+    let v = view_after call (Ok told) count m₀ m₂ m₃ p g in
+    let q = grew m₀.0 p.journal p.old p.new call told p.settled p.right p.own p.can p.moved in
+    record {
       journal = p.journal;
       taken = record { seen = p.longer; own = p.own; right = p.right };
       reply = q.reply;
@@ -165,19 +220,33 @@ answered table table' call (Ok told) count m₀ m₂ m₃ p g =
     }
 answered table table' call (Err e) count m₀ m₂ m₃ p g = tt
 
-refused : (table table' : TableId) (call : Call) (answer : Answer) (count : ℕ) (m₀ m₂ m₃ : M) → Parts call answer count m₀ m₂ → Gave m₂ m₃ → OnErr answer (IsRefused (seat_of table m₀.0) (seat_of table' m₃.0))
+refused : (table table' : TableId) (call : Call) (answer : Answer) (count : ℕ) (m₀ m₂ m₃ : M)
+    → Parts call answer count m₀ m₂ → Gave m₂ m₃ → OnErr answer (IsRefused (seat_of table m₀.0) (seat_of table' m₃.0))
 refused table table' call (Ok told) count m₀ m₂ m₃ p g = tt
-refused table table' call (Err e) count m₀ m₂ m₃ p g = let v = view_after call (Err e) count m₀ m₂ m₃ p g in let items : p.new.journal.items ≡ p.journal = p.moved.0 ∙ p.settled.0 in record {
-  journal = p.journal;
-  taken = record { seen = p.longer; own = p.own; right = p.right };
-  own = ap (λ (x : View). x.own) v ∙ (ap (entries_of m₀.0.system.0) items ∙ sym p.own);
-  seen = ap (λ (x : View). x.seen) v ∙ items;
-}
+refused table table' call (Err e) count m₀ m₂ m₃ p g =
+    let v = view_after call (Err e) count m₀ m₂ m₃ p g in
+    let items : p.new.journal.items ≡ p.journal = p.moved.0 ∙ p.settled.0 in
+    record {
+      journal = p.journal;
+      taken = record { seen = p.longer; own = p.own; right = p.right };
+      own = ap (λ (x : View). x.own) v ∙ (ap (entries_of m₀.0.system.0) items ∙ sym p.own);
+      seen = ap (λ (x : View). x.seen) v ∙ items;
+    }
 
-pub call_answered : (first : MediumState) (table table' : TableId) (word : ℕ) (s : SysId) (call : Call) (answer : Answer) (count : ℕ) (m₀ m₁ m₂ m₃ : M) → Asks first s call m₀ → Took word m₀ m₁ → m₂.0 ≡ m₁.0
-    → Worked s call answer count m₁ m₂ → Gave m₂ m₃ → IfOk answer (λ told. IsAnswered (seat_of table m₀.0) call told (seat_of table' m₃.0))
-call_answered first table table' word s call answer count m₀ m₁ m₂ m₃ asks k view w g = answered table table' call answer count m₀ m₂ m₃ (parts first word s call answer count m₀ m₁ m₂ asks k view w) g
+pub call_answered :
+    (first : MediumState) (table table' : TableId) (word : ℕ) (s : SysId) (call : Call) (answer : Answer) (count : ℕ)
+    (m₀ m₁ m₂ m₃ : M)
+    → Asks first s call m₀ → Took word m₀ m₁ → m₂.0 ≡ m₁.0
+    → Worked s call answer count m₁ m₂ → Gave m₂ m₃
+    → IfOk answer (λ told. IsAnswered (seat_of table m₀.0) call told (seat_of table' m₃.0))
+call_answered first table table' word s call answer count m₀ m₁ m₂ m₃ asks k view w g =
+    answered table table' call answer count m₀ m₂ m₃ (parts first word s call answer count m₀ m₁ m₂ asks k view w) g
 
-pub call_refused : (first : MediumState) (table table' : TableId) (word : ℕ) (s : SysId) (call : Call) (answer : Answer) (count : ℕ) (m₀ m₁ m₂ m₃ : M) → Asks first s call m₀ → Took word m₀ m₁ → m₂.0 ≡ m₁.0
-    → Worked s call answer count m₁ m₂ → Gave m₂ m₃ → OnErr answer (IsRefused (seat_of table m₀.0) (seat_of table' m₃.0))
-call_refused first table table' word s call answer count m₀ m₁ m₂ m₃ asks k view w g = refused table table' call answer count m₀ m₂ m₃ (parts first word s call answer count m₀ m₁ m₂ asks k view w) g
+pub call_refused :
+    (first : MediumState) (table table' : TableId) (word : ℕ) (s : SysId) (call : Call) (answer : Answer) (count : ℕ)
+    (m₀ m₁ m₂ m₃ : M)
+    → Asks first s call m₀ → Took word m₀ m₁ → m₂.0 ≡ m₁.0
+    → Worked s call answer count m₁ m₂ → Gave m₂ m₃
+    → OnErr answer (IsRefused (seat_of table m₀.0) (seat_of table' m₃.0))
+call_refused first table table' word s call answer count m₀ m₁ m₂ m₃ asks k view w g =
+    refused table table' call answer count m₀ m₂ m₃ (parts first word s call answer count m₀ m₁ m₂ asks k view w) g

@@ -9,8 +9,8 @@ use Rattle.grs_wire.specs.declared.medium.Reply.TheVariants.{Stale, Already, NoS
 use Rattle.grs_medium.specs.Apply.{reply_to, medium_after, changes, MayCall}
 use Rattle.grs_medium.specs.Medium.{MediumState}
 
--- How many numbers of a holder the word tells apart: 0 for nobody, and else a system's number and one. And a length that no
--- journal comes to: so many times the holders are past the word, which has 64 bits.
+-- How many numbers of a holder the word tells apart: 0 for nobody, and else a system's number and one. And a length
+-- that no journal comes to: so many times the holders are past the word, which has 64 bits.
 abbrev pub holders : ℕ
 holders = 64
 

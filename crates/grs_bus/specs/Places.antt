@@ -13,7 +13,14 @@ Place = Seat Slot View
 
 -- what a seat shows whose table and view are these
 abbrev pub seat_of : TableId → View → SeatValue
-seat_of table v = record { bus = record { table = table; first = v.first.state }; system = v.system; own = v.own; seen = v.seen; takes = v.takes; seats = v.given }
+seat_of table v = record {
+  bus = record { table = table; first = v.first.state };
+  system = v.system;
+  own = v.own;
+  seen = v.seen;
+  takes = v.takes;
+  seats = v.given;
+}
 
 -- it is of this system, and has neither the word nor the slot
 abbrev pub Rests : Place → SysId → Type 0

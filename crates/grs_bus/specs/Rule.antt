@@ -21,7 +21,17 @@ changed v own seen takes holding = record v { own = own; seen = seen; takes = ta
 
 -- the view of a new seat
 abbrev pub newcomer : MediumValue → SysId → List JEntry → ℕ → View
-newcomer first s seen given = record { system = s; own = []; seen = seen; takes = 0; holding = false; spent = false; given = given; olds = []; first = first }
+newcomer first s seen given = record {
+  system = s;
+  own = [];
+  seen = seen;
+  takes = 0;
+  holding = false;
+  spent = false;
+  given = given;
+  olds = [];
+  first = first;
+}
 
 -- the view of the first seat, from which all others are cut off
 abbrev pub founder : MediumValue → View
@@ -114,4 +124,5 @@ pub record IsKept (first : MediumValue) (s : State Slot View) : Type 0 where
   pub knows : (i : ℕ) (v : View) → Live s.views i v → Knows first journal holder count v
   -- no two seats are of one system, and none is of the system of a seat that was taken in
   pub apart : (i j : ℕ) (v w : View) → Live s.views i v → Live s.views j w → v.system.0 ≡ w.system.0 → i ≡ j
-  pub apart_olds : (i j k : ℕ) (v w : View) (o : Past) → Live s.views i v → v.system.0 ≡ 0 → Live s.views j w → get_elem? v.olds k ≡ some o → w.system.0 ≢ o.system.0
+  pub apart_olds : (i j k : ℕ) (v w : View) (o : Past) → Live s.views i v → v.system.0 ≡ 0 → Live s.views j w
+      → get_elem? v.olds k ≡ some o → w.system.0 ≢ o.system.0

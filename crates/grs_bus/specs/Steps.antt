@@ -40,4 +40,5 @@ gave st m r m' = (slot : Slot) → m.1 ≡ (0, slot) ∷ [] → m' ≡ (given_ba
 pub record MayComeHome (v : View) (slot : Slot) : Type 0 where
   pub medium : slot.medium.state ≡ after_all v.first.state slot.journal.items
   pub right : AreRight v.first.state slot.journal.items
-  pub more : (slot.journal.items ≡ v.seen) ⊎ ((e : JEntry) × (slot.journal.items ≡ v.seen ++ e ∷ []) × (e.system ≡ v.system))
+  pub more : (slot.journal.items ≡ v.seen)
+      ⊎ ((e : JEntry) × (slot.journal.items ≡ v.seen ++ e ∷ []) × (e.system ≡ v.system))

@@ -1,5 +1,6 @@
 -- The fault that is told is the first one, and no other is; so a text is answered by its deck or its fault.
-use Rattle.std.proofs.Common.{◌≡◌, inl, inr, ◌⊎◌, ℕ, Bool, true, false, cond, eqb, List, [], ◌∷◌, ◌++◌, length, Option, Some, None, Result, Ok, Err, refl, sym, ap, subst, ◌∙◌}
+use Rattle.std.proofs.Common.{◌≡◌, inl, inr, ◌⊎◌, ℕ, Bool, true, false, cond, eqb, List, [], ◌∷◌, ◌++◌, length, Option}
+use Rattle.std.proofs.Common.{Some, None, Result, Ok, Err, refl, sym, ap, subst, ◌∙◌}
 use Rattle.std.proofs.lemmas.Bool.{eqb-true, eq-eqb}
 use Rattle.grs_base.specs.declared.fault.DeckFault.{DeckFault}
 use Rattle.grs_base.specs.declared.fault.Kind.{Kind}
@@ -31,7 +32,8 @@ unfolding judge_all
 all_err [] d f h = absurd cc
 all_err (l ∷ ls) d f h = go (judge d l) refl h (λ e k. all_err ls e f k)
   where
-    go : (r : Result Draft DeckFault) → judge d l ≡ r → (r >>= λ new. judge_all new ls) ≡ refused f → ((e : Draft) → judge_all e ls ≡ refused f → FaultyLine ls e f) → FaultyLine (l ∷ ls) d f
+    go : (r : Result Draft DeckFault) → judge d l ≡ r → (r >>= λ new. judge_all new ls) ≡ refused f
+        → ((e : Draft) → judge_all e ls ≡ refused f → FaultyLine ls e f) → FaultyLine (l ∷ ls) d f
     go (Err g) is m next =
         let k = judged_err d l f (is ∙ m) in
         record { front = []; line = l; back = ls; before = d; parts = refl; says = refl; at = k.0; least = k.1 }
@@ -44,15 +46,23 @@ all_err (l ∷ ls) d f h = go (judge d l) refl h (λ e k. all_err ls e f k)
           back = k.back;
           before = k.before;
           parts = ap (λ (x : List TokenLine). l ∷ x) k.parts;
-          says = (j.st, form_taken d.scheduled d.deck.entries l j.st j.formed, right_of d j.st j.right, subst (λ (x : Draft). Says x k.front k.before) (sym j.grown) k.says);
+          says = (
+            j.st,
+            form_taken d.scheduled d.deck.entries l j.st j.formed,
+            right_of d j.st j.right,
+            subst (λ (x : Draft). Says x k.front k.before) (sym j.grown) k.says,
+          );
           at = k.at;
           least = k.least;
         }
 
-all_so : (front back : List TokenLine) (line : TokenLine) (d before : Draft) (f : DeckFault) → Says d front before → judge before line ≡ refused f → judge_all d (front ++ line ∷ back) ≡ refused f
+all_so : (front back : List TokenLine) (line : TokenLine) (d before : Draft) (f : DeckFault) → Says d front before
+    → judge before line ≡ refused f → judge_all d (front ++ line ∷ back) ≡ refused f
 unfolding judge_all
-all_so [] back line d before f s h = let P : Draft → Type 0 = λ x. judge x line ≡ refused f in rw (subst P (sym s) h) refl
-all_so (l ∷ ls) back line d before f s h = rw (judged_again d l s.0 s.1 s.2) (all_so ls back line (grow d s.0) before f s.3 h)
+all_so [] back line d before f s h =
+    let P : Draft → Type 0 = λ x. judge x line ≡ refused f in rw (subst P (sym s) h) refl
+all_so (l ∷ ls) back line d before f s h =
+    rw (judged_again d l s.0 s.1 s.2) (all_so ls back line (grow d s.0) before f s.3 h)
 
 -- ---- texts
 
@@ -74,7 +84,10 @@ pub is_fault : (text : List ℕ) (f : DeckFault) → fault text ≡ Some f → I
 unfolding fault reading lines_or_fault
 is_fault text f h = go (byte_fault text) refl (fault_some _ f h)
   where
-    go : (o : Option DeckFault) → byte_fault text ≡ o → (unless_fault o (lines_of text) >>= λ ls. judge_all (first_draft (statements ls)) (statements ls) >>= ended) ≡ deck_err f → IsFault text f
+    go : (o : Option DeckFault) → byte_fault text ≡ o
+        → (unless_fault o (lines_of text) >>= λ ls. judge_all (first_draft (statements ls)) (statements ls) >>= ended)
+        ≡ deck_err f
+        → IsFault text f
     go (Some g) is m = inl (is ∙ ap some (deck_err_is g f m))
     go None is m = by (judge_all start (statements (lines_of text))) refl m
       where
@@ -84,14 +97,33 @@ is_fault text f h = go (byte_fault text) refl (fault_some _ f h)
         spelled : SpellsLines text (lines_of text)
         spelled = (text_of text is).spelled
 
-        by : (r : Result Draft DeckFault) → judge_all start (statements (lines_of text)) ≡ r → (r >>= ended) ≡ deck_err f → IsFault text f
+        by : (r : Result Draft DeckFault) → judge_all start (statements (lines_of text)) ≡ r
+            → (r >>= ended) ≡ deck_err f → IsFault text f
         by (Err g) e k =
             let same = deck_err_is g f k in
-            inr (record { allowed = is; lines = lines_of text; spelled = spelled; fault = inl (all_err (statements (lines_of text)) start f (e ∙ ap refused same)) })
+            inr (record {
+              allowed = is;
+              lines = lines_of text;
+              spelled = spelled;
+              fault = inl (all_err (statements (lines_of text)) start f (e ∙ ap refused same));
+            })
         by (Ok d) e k = ends (eqb (length d.deck.systems) 0) refl k
           where
-            ends : (b : Bool) → eqb (length d.deck.systems) 0 ≡ b → cond b (deck_err (record { line = 0; kind = NoSystem })) (Ok d.deck) ≡ deck_err f → IsFault text f
-            ends true z k = inr (record { allowed = is; lines = lines_of text; spelled = spelled; fault = inr (record { draft = d; says = says (statements (lines_of text)) start d e; none = eqb-true (length d.deck.systems) 0 z; is = sym (deck_err_is (record { line = 0; kind = NoSystem }) f k) }) })
+            ends : (b : Bool) → eqb (length d.deck.systems) 0 ≡ b
+                → cond b (deck_err (record { line = 0; kind = NoSystem })) (Ok d.deck) ≡ deck_err f → IsFault text f
+            ends true z k =
+                inr (record {
+                  allowed = is;
+                  lines = lines_of text;
+                  spelled = spelled;
+                  fault =
+                      inr (record {
+                        draft = d;
+                        says = says (statements (lines_of text)) start d e;
+                        none = eqb-true (length d.deck.systems) 0 z;
+                        is = sym (deck_err_is (record { line = 0; kind = NoSystem }) f k);
+                      });
+                })
             ends false z k = absurd cc
 
 fault_by : (f : DeckFault) (n : ℕ) → f.line ≡ n → record { line = n; kind = f.kind } ≡ f
@@ -100,17 +132,23 @@ fault_by f n e = ap (λ (x : ℕ). made x f.kind) (sym e)
     made : ℕ → Kind → DeckFault
     made n k = record { line = n; kind = k }
 
-line_so : (ls : List TokenLine) (f : DeckFault) → FaultyLine ls (first_draft ls) f → (judge_all (first_draft ls) ls >>= ended) ≡ deck_err f
+line_so : (ls : List TokenLine) (f : DeckFault) → FaultyLine ls (first_draft ls) f
+    → (judge_all (first_draft ls) ls >>= ended) ≡ deck_err f
 line_so ls f y =
     let j = judged_so y.before y.line f.kind y.least in
     let is : record { line = y.line.at; kind = f.kind } ≡ f = fault_by f y.line.at y.at in
-    let all : judge_all (first_draft ls) ls ≡ refused f = ap (judge_all (first_draft ls)) y.parts ∙ all_so y.front y.back y.line (first_draft ls) y.before f y.says (j ∙ ap refused is) in
+    let all : judge_all (first_draft ls) ls ≡ refused f =
+    ap (judge_all (first_draft ls)) y.parts
+    ∙ all_so y.front y.back y.line (first_draft ls) y.before f y.says (j ∙ ap refused is) in
     rw all refl
 
-none_so : (ls : List TokenLine) (f : DeckFault) → NoSystemSaid ls f → (judge_all (first_draft ls) ls >>= ended) ≡ deck_err f
-none_so ls f y = rw (says_again ls (first_draft ls) y.draft y.says, eq-eqb (length y.draft.deck.systems) 0 y.none, y.is) refl
+none_so : (ls : List TokenLine) (f : DeckFault) → NoSystemSaid ls f
+    → (judge_all (first_draft ls) ls >>= ended) ≡ deck_err f
+none_so ls f y =
+    rw (says_again ls (first_draft ls) y.draft y.says, eq-eqb (length y.draft.deck.systems) 0 y.none, y.is) refl
 
-lines_so : (ls : List TokenLine) (f : DeckFault) → FaultyLine ls (first_draft ls) f ⊎ NoSystemSaid ls f → (judge_all (first_draft ls) ls >>= ended) ≡ deck_err f
+lines_so : (ls : List TokenLine) (f : DeckFault) → FaultyLine ls (first_draft ls) f ⊎ NoSystemSaid ls f
+    → (judge_all (first_draft ls) ls >>= ended) ≡ deck_err f
 lines_so ls f (inl y) = line_so ls f y
 lines_so ls f (inr y) = none_so ls f y
 
@@ -118,7 +156,11 @@ lines_so ls f (inr y) = none_so ls f y
 pub only_fault : (text : List ℕ) (f : DeckFault) → IsFault text f → fault text ≡ Some f
 unfolding fault reading lines_or_fault
 only_fault text f (inl h) = rw h refl
-only_fault text f (inr h) = let read : (lines_or_fault text >>= λ ls. judge_all (first_draft (statements ls)) (statements ls) >>= ended) ≡ deck_err f = rw (text_read text h.lines (text_of text h.allowed).short h.spelled) (lines_so (statements h.lines) f h.fault) in ap fault_of read
+only_fault text f (inr h) =
+    let read : (lines_or_fault text >>= λ ls. judge_all (first_draft (statements ls)) (statements ls) >>= ended)
+    ≡ deck_err f =
+    rw (text_read text h.lines (text_of text h.allowed).short h.spelled) (lines_so (statements h.lines) f h.fault) in
+    ap fault_of read
 
 -- ---- what is answered
 
@@ -133,7 +175,8 @@ spelled_right text d h f k = let is : some f ≡ None = sym (only_fault text f k
 pub either : (text : List ℕ) → ((d : Deck) × SpellsDeck text d) ⊎ ((f : DeckFault) × IsFault text f)
 either text = go (reading text) refl
   where
-    go : (r : Result Deck DeckFault) → reading text ≡ r → ((d : Deck) × SpellsDeck text d) ⊎ ((f : DeckFault) × IsFault text f)
+    go : (r : Result Deck DeckFault) → reading text ≡ r
+        → ((d : Deck) × SpellsDeck text d) ⊎ ((f : DeckFault) × IsFault text f)
     go (Ok d) is = inl (d, reading_spells text d is)
     go (Err f) is = inr (f, is_fault text f (fault_is text f is))
 

@@ -1,12 +1,15 @@
 -- What each statement adds to the names, the task lines and the entries of a deck: they stay within their limits.
-use Rattle.std.proofs.Common.{◌≡◌, inl, inr, ◌⊎◌, ℕ, ◌+◌, ◌-◌, ◌<◌, Bool, true, false, cond, not, eqb, leb, List, [], ◌∷◌, ◌++◌, length, map, filter, Option, Some, None, refl, sym, ap, subst, ◌∙◌, arith, append_assoc, length-append}
+use Rattle.std.proofs.Common.{◌≡◌, inl, inr, ◌⊎◌, ℕ, ◌+◌, ◌-◌, ◌<◌, Bool, true, false, cond, not, eqb, leb, List, []}
+use Rattle.std.proofs.Common.{◌∷◌, ◌++◌, length, map, filter, Option, Some, None, refl, sym, ap, subst, ◌∙◌, arith}
+use Rattle.std.proofs.Common.{append_assoc, length-append}
 use Rattle.std.specs.Prelude.{All, codes, ◌||◌}
 use Rattle.std.specs.List.{flat_map, list_all}
 use Rattle.std.proofs.lemmas.Bool.{and_parts, and_from, leb-true, le-leb}
 use Rattle.std.proofs.lemmas.List.{append-nil, map-append}
 use Rattle.std.proofs.lemmas.List.Elements.{All-nil, All-push, filter-append}
 use Rattle.std.proofs.lemmas.Grind.{flat_map-append}
-use Rattle.grs_base.specs.Names.{before_rest, trim_blanks, is_qname, is_rname, IsQname, are_bytes, IsMaybeRname, AreNames}
+use Rattle.grs_base.specs.Names.{before_rest, trim_blanks, is_qname, is_rname, IsQname, are_bytes, IsMaybeRname}
+use Rattle.grs_base.specs.Names.{AreNames}
 use Rattle.grs_base.specs.declared.line.Line.{Line}
 use Rattle.grs_base.specs.declared.rnl.Which.{Which}
 use Rattle.grs_base.specs.declared.rnl.Which.TheVariants.{Incl, Excl, Con}
@@ -42,7 +45,8 @@ use Rattle.deck_form.specs.Spelled.{IsFirst, Spells}
 use Rattle.deck_form.specs.UnbuiltWord.{is_unbuilt_word}
 use Rattle.grs_deck.specs.declared.judge.Draft.{Draft}
 use Rattle.grs_deck.specs.Places.{at_last, jobs_now, tasks_now, place_ordered, event_of}
-use Rattle.grs_deck.specs.Grow.{on_last, add_command, add_order, add_job, add_task, add_line, in_jobs, in_tasks, order_by, with_event, in_list, grow}
+use Rattle.grs_deck.specs.Grow.{on_last, add_command, add_order, add_job, add_task, add_line, in_jobs, in_tasks}
+use Rattle.grs_deck.specs.Grow.{order_by, with_event, in_list, grow}
 use Rattle.grs_deck.specs.Reading.{no_draft}
 use Rattle.grs_deck.specs.Spells.{IsRight}
 use Rattle.grs_deck.proofs.SpellsLaws.{no_test}
@@ -53,12 +57,16 @@ use Rattle.grs_deck.proofs.NameBytes.{BothBytes, trim_bytes, ask_bytes, ask_unit
 -- ---- the last of a list
 
 -- where the last grows at its end, so do all together
-flat_last : {A B C : Type 0} (g : A → List B) (f : A → A) (h : A → List C) (xs : List A) (ys : List B) → ((x : A) → at_last h xs ≡ h x → g (f x) ≡ g x ++ ys) → 0 < length xs → flat_map g (on_last f xs) ≡ flat_map g xs ++ ys
+flat_last : {A B C : Type 0} (g : A → List B) (f : A → A) (h : A → List C) (xs : List A) (ys : List B)
+    → ((x : A) → at_last h xs ≡ h x → g (f x) ≡ g x ++ ys) → 0 < length xs
+    → flat_map g (on_last f xs) ≡ flat_map g xs ++ ys
 flat_last g f h [] ys e lt = absurd (omega (arith, lt))
 flat_last g f h (x ∷ []) ys e lt = append-nil (g (f x)) ∙ e x refl ∙ ap (λ z. z ++ ys) (sym (append-nil (g x)))
-flat_last g f h (x ∷ z ∷ zs) ys e lt = ap (λ t. g x ++ t) (flat_last g f h (z ∷ zs) ys e (omega arith)) ∙ sym (append_assoc (g x) (flat_map g (z ∷ zs)) ys)
+flat_last g f h (x ∷ z ∷ zs) ys e lt =
+    ap (λ t. g x ++ t) (flat_last g f h (z ∷ zs) ys e (omega arith)) ∙ sym (append_assoc (g x) (flat_map g (z ∷ zs)) ys)
 
-flat_same : {A B : Type 0} (g : A → List B) (f : A → A) (xs : List A) → ((x : A) → g (f x) ≡ g x) → flat_map g (on_last f xs) ≡ flat_map g xs
+flat_same : {A B : Type 0} (g : A → List B) (f : A → A) (xs : List A) → ((x : A) → g (f x) ≡ g x)
+    → flat_map g (on_last f xs) ≡ flat_map g xs
 flat_same g f [] e = refl
 flat_same g f (x ∷ []) e = ap (λ z. z ++ []) (e x)
 flat_same g f (x ∷ y ∷ ys) e = ap (λ t. g x ++ t) (flat_same g f (y ∷ ys) e)
@@ -78,25 +86,37 @@ job_lines j = flat_map task_lines j.tasks
 abbrev system_lines : SystemDef → List Line
 system_lines s = flat_map job_lines s.jobs
 
-lines_line : (line : Line) (ss : List SystemDef) → 0 < length (tasks_now (jobs_now ss)) → all_lines (in_jobs (in_tasks (add_line line)) ss) ≡ all_lines ss ++ line ∷ []
-lines_line line ss lt = flat_last system_lines _ (λ s. s.jobs) ss (line ∷ []) of_system (not_empty (λ s. s.jobs) ss (not_empty (λ j. j.tasks) (jobs_now ss) lt))
+lines_line : (line : Line) (ss : List SystemDef) → 0 < length (tasks_now (jobs_now ss))
+    → all_lines (in_jobs (in_tasks (add_line line)) ss) ≡ all_lines ss ++ line ∷ []
+lines_line line ss lt =
+    flat_last system_lines _ (λ s. s.jobs) ss (line ∷ []) of_system
+    (not_empty (λ s. s.jobs) ss (not_empty (λ j. j.tasks) (jobs_now ss) lt))
   where
-    of_task : (t : TaskDef) → task_lines (record { name = t.name; lines = t.lines ++ line ∷ [] }) ≡ task_lines t ++ line ∷ []
+    of_task : (t : TaskDef)
+        → task_lines (record { name = t.name; lines = t.lines ++ line ∷ [] }) ≡ task_lines t ++ line ∷ []
     of_task t = refl
 
-    of_job : (js : List JobDef) → 0 < length (tasks_now js) → (j : JobDef) → tasks_now js ≡ j.tasks → flat_map task_lines (add_line line j.tasks) ≡ flat_map task_lines j.tasks ++ line ∷ []
-    of_job js some j e = flat_last task_lines _ (λ t. t.lines) j.tasks (line ∷ []) (λ t k. of_task t) (subst (λ (ts : List TaskDef). 0 < length ts) e some)
+    of_job : (js : List JobDef) → 0 < length (tasks_now js) → (j : JobDef) → tasks_now js ≡ j.tasks
+        → flat_map task_lines (add_line line j.tasks) ≡ flat_map task_lines j.tasks ++ line ∷ []
+    of_job js some j e =
+        flat_last task_lines _ (λ t. t.lines) j.tasks (line ∷ []) (λ t k. of_task t)
+        (subst (λ (ts : List TaskDef). 0 < length ts) e some)
 
-    of_system : (s : SystemDef) → jobs_now ss ≡ s.jobs → flat_map job_lines (in_tasks (add_line line) s.jobs) ≡ flat_map job_lines s.jobs ++ line ∷ []
+    of_system : (s : SystemDef) → jobs_now ss ≡ s.jobs
+        → flat_map job_lines (in_tasks (add_line line) s.jobs) ≡ flat_map job_lines s.jobs ++ line ∷ []
     of_system s e =
         let some : 0 < length (tasks_now s.jobs) = subst (λ (js : List JobDef). 0 < length (tasks_now js)) e lt in
-        flat_last job_lines _ (λ j. j.tasks) s.jobs (line ∷ []) (of_job s.jobs some) (not_empty (λ j. j.tasks) s.jobs some)
+        flat_last job_lines _ (λ j. j.tasks) s.jobs (line ∷ []) (of_job s.jobs some)
+        (not_empty (λ j. j.tasks) s.jobs some)
 
 lines_task : (name : List ℕ) (ss : List SystemDef) → all_lines (in_jobs (add_task name) ss) ≡ all_lines ss
 lines_task name ss = flat_same system_lines _ ss (λ s. flat_same job_lines _ s.jobs of_job)
   where
-    of_job : (j : JobDef) → flat_map task_lines (j.tasks ++ record { name = name; lines = [] } ∷ []) ≡ flat_map task_lines j.tasks
-    of_job j = flat_map-append task_lines j.tasks (record { name = name; lines = [] } ∷ []) ∙ append-nil (flat_map task_lines j.tasks)
+    of_job : (j : JobDef)
+        → flat_map task_lines (j.tasks ++ record { name = name; lines = [] } ∷ []) ≡ flat_map task_lines j.tasks
+    of_job j =
+        flat_map-append task_lines j.tasks (record { name = name; lines = [] } ∷ [])
+        ∙ append-nil (flat_map task_lines j.tasks)
 
 lines_command : (c : Desk) (ss : List SystemDef) → all_lines (add_command c ss) ≡ all_lines ss
 lines_command c ss = flat_same system_lines _ ss (λ s. refl)
@@ -108,11 +128,17 @@ lines_order at (Some o) ss = lines_command _ ss
 lines_job : (name : List ℕ) (ss : List SystemDef) → all_lines (add_job name ss) ≡ all_lines ss
 lines_job name ss = flat_same system_lines _ ss of_system
   where
-    of_system : (s : SystemDef) → flat_map job_lines (s.jobs ++ record { name = name; tasks = [] } ∷ []) ≡ flat_map job_lines s.jobs
-    of_system s = flat_map-append job_lines s.jobs (record { name = name; tasks = [] } ∷ []) ∙ append-nil (flat_map job_lines s.jobs)
+    of_system : (s : SystemDef)
+        → flat_map job_lines (s.jobs ++ record { name = name; tasks = [] } ∷ []) ≡ flat_map job_lines s.jobs
+    of_system s =
+        flat_map-append job_lines s.jobs (record { name = name; tasks = [] } ∷ [])
+        ∙ append-nil (flat_map job_lines s.jobs)
 
-lines_system : (name : List ℕ) (ss : List SystemDef) → all_lines (ss ++ record { name = name; desk = []; jobs = [] } ∷ []) ≡ all_lines ss
-lines_system name ss = flat_map-append system_lines ss (record { name = name; desk = []; jobs = [] } ∷ []) ∙ append-nil (flat_map system_lines ss)
+lines_system : (name : List ℕ) (ss : List SystemDef)
+    → all_lines (ss ++ record { name = name; desk = []; jobs = [] } ∷ []) ≡ all_lines ss
+lines_system name ss =
+    flat_map-append system_lines ss (record { name = name; desk = []; jobs = [] } ∷ [])
+    ∙ append-nil (flat_map system_lines ss)
 
 -- ---- names
 
@@ -125,33 +151,47 @@ job_names j = j.name ∷ map task_name j.tasks
 abbrev system_names : SystemDef → List (List ℕ)
 system_names s = s.name ∷ flat_map job_names s.jobs
 
-names_system : (name : List ℕ) (ss : List SystemDef) → all_names (ss ++ record { name = name; desk = []; jobs = [] } ∷ []) ≡ all_names ss ++ name ∷ []
+names_system : (name : List ℕ) (ss : List SystemDef)
+    → all_names (ss ++ record { name = name; desk = []; jobs = [] } ∷ []) ≡ all_names ss ++ name ∷ []
 names_system name ss = flat_map-append system_names ss (record { name = name; desk = []; jobs = [] } ∷ [])
 
 names_order : (at : ℕ) (o : Option Order) (ss : List SystemDef) → all_names (add_order at o ss) ≡ all_names ss
 names_order at None ss = refl
 names_order at (Some o) ss = flat_same system_names _ ss (λ s. refl)
 
-names_job : (name : List ℕ) (ss : List SystemDef) → 0 < length ss → all_names (add_job name ss) ≡ all_names ss ++ name ∷ []
+names_job : (name : List ℕ) (ss : List SystemDef) → 0 < length ss
+    → all_names (add_job name ss) ≡ all_names ss ++ name ∷ []
 names_job name ss lt = flat_last system_names _ (λ s. s.jobs) ss (name ∷ []) of_system lt
   where
-    of_system : (s : SystemDef) → jobs_now ss ≡ s.jobs → s.name ∷ flat_map job_names (s.jobs ++ record { name = name; tasks = [] } ∷ []) ≡ system_names s ++ name ∷ []
-    of_system s e = ap (λ (t : List (List ℕ)). s.name ∷ t) (flat_map-append job_names s.jobs (record { name = name; tasks = [] } ∷ []))
+    of_system : (s : SystemDef) → jobs_now ss ≡ s.jobs
+        → s.name ∷ flat_map job_names (s.jobs ++ record { name = name; tasks = [] } ∷ []) ≡ system_names s ++ name ∷ []
+    of_system s e =
+        ap (λ (t : List (List ℕ)). s.name ∷ t)
+        (flat_map-append job_names s.jobs (record { name = name; tasks = [] } ∷ []))
 
-names_task : (name : List ℕ) (ss : List SystemDef) → 0 < length (jobs_now ss) → all_names (in_jobs (add_task name) ss) ≡ all_names ss ++ name ∷ []
+names_task : (name : List ℕ) (ss : List SystemDef) → 0 < length (jobs_now ss)
+    → all_names (in_jobs (add_task name) ss) ≡ all_names ss ++ name ∷ []
 names_task name ss lt = flat_last system_names _ (λ s. s.jobs) ss (name ∷ []) of_system (not_empty (λ s. s.jobs) ss lt)
   where
-    of_job : (js : List JobDef) (j : JobDef) → tasks_now js ≡ j.tasks → j.name ∷ map task_name (j.tasks ++ record { name = name; lines = [] } ∷ []) ≡ job_names j ++ name ∷ []
-    of_job js j e = ap (λ (t : List (List ℕ)). j.name ∷ t) (map-append task_name j.tasks (record { name = name; lines = [] } ∷ []))
+    of_job : (js : List JobDef) (j : JobDef) → tasks_now js ≡ j.tasks
+        → j.name ∷ map task_name (j.tasks ++ record { name = name; lines = [] } ∷ []) ≡ job_names j ++ name ∷ []
+    of_job js j e =
+        ap (λ (t : List (List ℕ)). j.name ∷ t) (map-append task_name j.tasks (record { name = name; lines = [] } ∷ []))
 
-    of_system : (s : SystemDef) → jobs_now ss ≡ s.jobs → s.name ∷ flat_map job_names (add_task name s.jobs) ≡ system_names s ++ name ∷ []
-    of_system s e = ap (λ (t : List (List ℕ)). s.name ∷ t) (flat_last job_names _ (λ j. j.tasks) s.jobs (name ∷ []) (of_job s.jobs) (subst (λ (js : List JobDef). 0 < length js) e lt))
+    of_system : (s : SystemDef) → jobs_now ss ≡ s.jobs
+        → s.name ∷ flat_map job_names (add_task name s.jobs) ≡ system_names s ++ name ∷ []
+    of_system s e =
+        ap (λ (t : List (List ℕ)). s.name ∷ t) (flat_last job_names _ (λ j. j.tasks) s.jobs (name ∷ []) (of_job s.jobs)
+        (subst (λ (js : List JobDef). 0 < length js) e lt))
 
 names_line : (line : Line) (ss : List SystemDef) → all_names (in_jobs (in_tasks (add_line line)) ss) ≡ all_names ss
-names_line line ss = flat_same system_names _ ss (λ s. ap (λ (t : List (List ℕ)). s.name ∷ t) (flat_same job_names _ s.jobs of_job))
+names_line line ss =
+    flat_same system_names _ ss (λ s. ap (λ (t : List (List ℕ)). s.name ∷ t) (flat_same job_names _ s.jobs of_job))
   where
     of_job : (j : JobDef) → j.name ∷ map task_name (add_line line j.tasks) ≡ job_names j
-    of_job j = ap (λ (t : List (List ℕ)). j.name ∷ t) (map_same task_name (λ t. record { name = t.name; lines = t.lines ++ line ∷ [] }) j.tasks (λ t. refl))
+    of_job j =
+        ap (λ (t : List (List ℕ)). j.name ∷ t)
+        (map_same task_name (λ t. record { name = t.name; lines = t.lines ++ line ∷ [] }) j.tasks (λ t. refl))
 
 -- ---- one line
 
@@ -171,7 +211,11 @@ built : (q : List ℕ) → is_qname q ≡ true → IsQname (trim_blanks q)
 built q h =
     let k = and_parts (leb (length q) 8) (leb 1 (length (trim_blanks q))) h in
     let few = le-leb (length (trim_blanks q)) 8 (omega (arith, trim_blanks-le q, leb-true (length q) 8 k.0)) in
-    record { made = and_from (leb (length (trim_blanks q)) 8) _ few (ap (λ (t : List ℕ). leb 1 (length t)) (trim_twice q) ∙ k.1); trimmed = trim_twice q }
+    record {
+      made =
+          and_from (leb (length (trim_blanks q)) 8) _ few (ap (λ (t : List ℕ). leb 1 (length t)) (trim_twice q) ∙ k.1);
+      trimmed = trim_twice q;
+    }
 
 not_either : (a b : Bool) → (not a || not b) ≡ false → (a ≡ true) × (b ≡ true)
 not_either true true h = (refl, refl)
@@ -184,8 +228,11 @@ not_bad true true h = absurd cc
 not_bad false b h = absurd cc
 
 -- behind a first word
-behind_bytes : (w : List ℕ) (ts behind : List Token) → ts ≡ Word w ∷ behind → list_all says_bytes ts ≡ true → list_all says_bytes behind ≡ true
-behind_bytes w ts behind is all = (and_parts (are_bytes w) (list_all says_bytes behind) (subst (λ (x : List Token). list_all says_bytes x ≡ true) is all)).1
+behind_bytes : (w : List ℕ) (ts behind : List Token) → ts ≡ Word w ∷ behind → list_all says_bytes ts ≡ true
+    → list_all says_bytes behind ≡ true
+behind_bytes w ts behind is all =
+    (and_parts (are_bytes w) (list_all says_bytes behind)
+    (subst (λ (x : List Token). list_all says_bytes x ≡ true) is all)).1
 
 -- a line as it is built, which shows nothing
 abbrev IsBuiltLine : Line → Type 0
@@ -196,23 +243,31 @@ named q r good bytes =
     let k = not_either (is_qname q) (is_rname r) good in
     record { qname = built q k.0; q_bytes = trim_bytes q bytes.0; rname = k.1; r_bytes = bytes.1 }
 
-asked : (front ts : List Token) (a : ResAsk) → IsResAsk front ts a → list_all says_bytes ts ≡ true → are_bad_names a.q a.r ≡ false → AreNames (trim_blanks a.q) a.r
+asked : (front ts : List Token) (a : ResAsk) → IsResAsk front ts a → list_all says_bytes ts ≡ true
+    → are_bad_names a.q a.r ≡ false → AreNames (trim_blanks a.q) a.r
 asked front ts a h all good = named a.q a.r good (ask_bytes front ts a h all)
 
-line_ask_built : (ts : List Token) (s : LineAsk) (h : IsLineAsk ts s) → is_unbuilt_word h.word ≡ false → list_all says_bytes h.behind ≡ true → line_has_bad_name s ≡ false → IsBuiltLine (line_of s)
+line_ask_built : (ts : List Token) (s : LineAsk) (h : IsLineAsk ts s) → is_unbuilt_word h.word ≡ false
+    → list_all says_bytes h.behind ≡ true → line_has_bad_name s ≡ false → IsBuiltLine (line_of s)
 unfolding is_unbuilt_word
 line_ask_built ts (asks.Enq e) h known all good = ((_, refl, asked _ h.behind e.ask h.is_behind.0 all good), refl)
-line_ask_built ts (asks.Reserve e) h known all good = ((asked _ h.behind e.ask h.is_behind.0 all good, unit_or e.ask.opts.unit (ask_unit _ h.behind e.ask h.is_behind.0)), refl)
-line_ask_built ts (asks.Deq a) h known all good = ((asked _ h.behind a h.is_behind.0 all good, ask_unit _ h.behind a h.is_behind.0), refl)
+line_ask_built ts (asks.Reserve e) h known all good = (
+  (asked _ h.behind e.ask h.is_behind.0 all good, unit_or e.ask.opts.unit (ask_unit _ h.behind e.ask h.is_behind.0)),
+  refl,
+)
+line_ask_built ts (asks.Deq a) h known all
+    good = ((asked _ h.behind a h.is_behind.0 all good, ask_unit _ h.behind a h.is_behind.0), refl)
 line_ask_built ts (asks.Wait a) h known all good = (asked _ h.behind a h.is_behind.0 all good, refl)
-line_ask_built ts (asks.Gqscan x) h known all good = absurd (let k : true ≡ false = subst (λ (w : List ℕ). is_unbuilt_word w ≡ false) h.is_word known in cc)
+line_ask_built ts (asks.Gqscan x) h known all good =
+    absurd (let k : true ≡ false = subst (λ (w : List ℕ). is_unbuilt_word w ≡ false) h.is_word known in cc)
 line_ask_built ts (asks.Display x) h known all good = absurd (other h.is_word)
   where
     other : (h.word ≡ codes "DISPLAY") ⊎ (h.word ≡ codes "D") → ⊥
     other (inl is) = let k : true ≡ false = subst (λ (w : List ℕ). is_unbuilt_word w ≡ false) is known in cc
     other (inr is) = let k : true ≡ false = subst (λ (w : List ℕ). is_unbuilt_word w ≡ false) is known in cc
 
-line_built : (ts : List Token) (s : LineAsk) → list_all says_bytes ts ≡ true → IsFirst ts (stmts.Line s) → line_has_bad_name s ≡ false → IsBuiltLine (line_of s)
+line_built : (ts : List Token) (s : LineAsk) → list_all says_bytes ts ≡ true → IsFirst ts (stmts.Line s)
+    → line_has_bad_name s ≡ false → IsBuiltLine (line_of s)
 line_built ts s all h good = line_ask_built ts s h.0 h.1 (behind_bytes h.0.word ts h.0.behind h.0.parts all) good
 
 -- ---- a deck so far
@@ -234,7 +289,8 @@ keeps_none names = record {
 }
 
 -- no line more
-no_line : (d e : Draft) → Keeps d → all_lines e.deck.systems ≡ all_lines d.deck.systems → e.room ≡ d.room → All IsShortName (all_names e.deck.systems) → AreEntries e.deck.lists → Keeps e
+no_line : (d e : Draft) → Keeps d → all_lines e.deck.systems ≡ all_lines d.deck.systems → e.room ≡ d.room
+    → All IsShortName (all_names e.deck.systems) → AreEntries e.deck.lists → Keeps e
 no_line d e h same room names entries = record {
   names = names;
   lines = subst (All IsDeckLine) (sym same) h.lines;
@@ -244,13 +300,19 @@ no_line d e h same room names entries = record {
 }
 
 -- a name more
-name_more : (d : Draft) (name : List ℕ) (all : List (List ℕ)) → Keeps d → all ≡ all_names d.deck.systems ++ name ∷ [] → IsShortName name → All IsShortName all
-name_more d name all h is short = subst (All IsShortName) (sym is) (All-push IsShortName (all_names d.deck.systems) name h.names short)
+name_more : (d : Draft) (name : List ℕ) (all : List (List ℕ)) → Keeps d → all ≡ all_names d.deck.systems ++ name ∷ []
+    → IsShortName name → All IsShortName all
+name_more d name all h is short =
+    subst (All IsShortName) (sym is) (All-push IsShortName (all_names d.deck.systems) name h.names short)
 
-entry_more : (r : Rnldef) (lists : Lists) → IsEntry (entry_of r) → AreEntries lists → (which : Which) → AreEntries (in_list which (entry_of r) lists)
-entry_more r lists e h Incl = record { incl = All-push IsEntry lists.incl.entries (entry_of r) h.incl e; excl = h.excl; con = h.con }
-entry_more r lists e h Excl = record { incl = h.incl; excl = All-push IsEntry lists.excl.entries (entry_of r) h.excl e; con = h.con }
-entry_more r lists e h Con = record { incl = h.incl; excl = h.excl; con = All-push IsEntry lists.con.entries (entry_of r) h.con e }
+entry_more : (r : Rnldef) (lists : Lists) → IsEntry (entry_of r) → AreEntries lists → (which : Which)
+    → AreEntries (in_list which (entry_of r) lists)
+entry_more r lists e h
+    Incl = record { incl = All-push IsEntry lists.incl.entries (entry_of r) h.incl e; excl = h.excl; con = h.con }
+entry_more r lists e h
+    Excl = record { incl = h.incl; excl = All-push IsEntry lists.excl.entries (entry_of r) h.excl e; con = h.con }
+entry_more r lists e h
+    Con = record { incl = h.incl; excl = h.excl; con = All-push IsEntry lists.con.entries (entry_of r) h.con e }
 
 maybe_rname : (o : Option (List ℕ)) → is_bad_rname o ≡ false → IsMaybeBytes o → IsMaybeRname o
 maybe_rname None h bytes = tt
@@ -260,7 +322,8 @@ maybe_rname (Some r) h bytes = (not_false (is_rname r) h, bytes)
     not_false true e = refl
     not_false false e = absurd cc
 
-entry_built : (ts : List Token) (r : Rnldef) → list_all says_bytes ts ≡ true → IsRnldef ts r → rnldef_has_bad_name r ≡ false → IsEntry (entry_of r)
+entry_built : (ts : List Token) (r : Rnldef) → list_all says_bytes ts ≡ true → IsRnldef ts r
+    → rnldef_has_bad_name r ≡ false → IsEntry (entry_of r)
 entry_built ts r all h good =
     let k = not_bad (is_qname r.q) (is_bad_rname r.r) good in
     let bytes = rnldef_bytes ts r h all in
@@ -269,47 +332,77 @@ entry_built ts r all h good =
 room_same : (n : ℕ) → n - 0 ≡ n
 room_same n = omega arith
 
-line_more : (d : Draft) (line : Line) → Keeps d → 0 < length (tasks_now (jobs_now d.deck.systems)) → 0 < d.room → IsBuiltLine line → (e : Draft) → e.deck.systems ≡ in_jobs (in_tasks (add_line line)) d.deck.systems → e.room ≡ d.room - 1 → e.deck.lists ≡ d.deck.lists → Keeps e
+line_more : (d : Draft) (line : Line) → Keeps d → 0 < length (tasks_now (jobs_now d.deck.systems)) → 0 < d.room
+    → IsBuiltLine line → (e : Draft) → e.deck.systems ≡ in_jobs (in_tasks (add_line line)) d.deck.systems
+    → e.room ≡ d.room - 1 → e.deck.lists ≡ d.deck.lists → Keeps e
 line_more d line h task some new e is room lists =
-    let all : all_lines e.deck.systems ≡ all_lines d.deck.systems ++ line ∷ [] = ap all_lines is ∙ lines_line line d.deck.systems task in
+    let all : all_lines e.deck.systems ≡ all_lines d.deck.systems ++ line ∷ [] =
+    ap all_lines is ∙ lines_line line d.deck.systems task in
     record {
       names = subst (All IsShortName) (sym (ap all_names is ∙ names_line line d.deck.systems)) h.names;
       lines = subst (All IsDeckLine) (sym all) (All-push IsDeckLine (all_lines d.deck.systems) line h.lines new.0);
-      displays = ap (filter is_display) all ∙ filter-append is_display (all_lines d.deck.systems) (line ∷ []) ∙ rw (h.displays, new.1) refl;
-      room = (let long : length (all_lines e.deck.systems) ≡ length (all_lines d.deck.systems) + 1 = ap length all ∙ length-append (all_lines d.deck.systems) (line ∷ []) in omega (arith, long, room, some, h.room));
+      displays =
+          ap (filter is_display) all
+          ∙ filter-append is_display (all_lines d.deck.systems) (line ∷ [])
+          ∙ rw (h.displays, new.1) refl;
+      room =
+          (let long : length (all_lines e.deck.systems) ≡ length (all_lines d.deck.systems) + 1 =
+          ap length all ∙ length-append (all_lines d.deck.systems) (line ∷ []) in
+          omega (arith, long, room, some, h.room));
       entries = subst AreEntries (sym lists) h.entries;
     }
 
-first_keeps : (d : Draft) (ts : List Token) (st : Stmt) → list_all says_bytes ts ≡ true → IsFirst ts st → IsRight d st → Keeps d → Keeps (grow d st)
-first_keeps d ts stmts.Unbuilt all s right h = no_line d (grow d stmts.Unbuilt) h refl (room_same d.room) h.names h.entries
-first_keeps d ts (stmts.Complex c) all s right h = no_line d (grow d (stmts.Complex c)) h refl (room_same d.room) h.names h.entries
+first_keeps : (d : Draft) (ts : List Token) (st : Stmt) → list_all says_bytes ts ≡ true → IsFirst ts st → IsRight d st
+    → Keeps d → Keeps (grow d st)
+first_keeps d ts stmts.Unbuilt all s right h =
+    no_line d (grow d stmts.Unbuilt) h refl (room_same d.room) h.names h.entries
+first_keeps d ts (stmts.Complex c) all s right h =
+    no_line d (grow d (stmts.Complex c)) h refl (room_same d.room) h.names h.entries
 first_keeps d ts (stmts.Rnldef r) all s right h =
-    let e = entry_built s.0 r (behind_bytes (codes "RNLDEF") ts s.0 s.1 all) s.2 (no_test d (stmts.Rnldef r) right).long in
-    no_line d (grow d (stmts.Rnldef r)) h refl (room_same d.room) h.names (entry_more r d.deck.lists e h.entries r.which)
+    let e =
+    entry_built s.0 r (behind_bytes (codes "RNLDEF") ts s.0 s.1 all) s.2 (no_test d (stmts.Rnldef r) right).long in
+    no_line d (grow d (stmts.Rnldef r)) h refl (room_same d.room) h.names
+    (entry_more r d.deck.lists e h.entries r.which)
 first_keeps d ts (stmts.System n) all s right h =
-    no_line d (grow d (stmts.System n)) h (lines_system n d.deck.systems) (room_same d.room) (name_more d n _ h (names_system n d.deck.systems) (s.1, right.0.sized)) h.entries
+    no_line d (grow d (stmts.System n)) h (lines_system n d.deck.systems) (room_same d.room)
+    (name_more d n _ h (names_system n d.deck.systems) (s.1, right.0.sized)) h.entries
 first_keeps d ts (stmts.Job n) all s right h =
-    no_line d (grow d (stmts.Job n)) h (lines_job n d.deck.systems) (room_same d.room) (name_more d n _ h (names_job n d.deck.systems right.0.placed) (s.1, right.0.sized)) h.entries
+    no_line d (grow d (stmts.Job n)) h (lines_job n d.deck.systems) (room_same d.room)
+    (name_more d n _ h (names_job n d.deck.systems right.0.placed) (s.1, right.0.sized)) h.entries
 first_keeps d ts (stmts.Task n) all s right h =
-    no_line d (grow d (stmts.Task n)) h (lines_task n d.deck.systems) (room_same d.room) (name_more d n _ h (names_task n d.deck.systems right.0.placed) (s.1, right.0.sized)) h.entries
+    no_line d (grow d (stmts.Task n)) h (lines_task n d.deck.systems) (room_same d.room)
+    (name_more d n _ h (names_task n d.deck.systems right.0.placed) (s.1, right.0.sized)) h.entries
 first_keeps d ts (stmts.Line x) all s right h =
-    line_more d (line_of x) h right.0.placed right.0.room (line_built ts x all s (no_test d (stmts.Line x) right).long) (grow d (stmts.Line x)) refl refl refl
+    line_more d (line_of x) h right.0.placed right.0.room (line_built ts x all s (no_test d (stmts.Line x) right).long)
+    (grow d (stmts.Line x)) refl refl refl
 first_keeps d ts (stmts.Command c) all s right h =
     let same = names_order c.at (order_by (place_ordered d.names c.order) c.order) d.deck.systems in
-    no_line d (grow d (stmts.Command c)) h (lines_order c.at (order_by (place_ordered d.names c.order) c.order) d.deck.systems) (room_same d.room) (subst (All IsShortName) (sym same) h.names) h.entries
-first_keeps d ts stmts.Schedule all s right h = no_line d (grow d stmts.Schedule) h refl (room_same d.room) h.names h.entries
+    no_line d (grow d (stmts.Command c)) h
+    (lines_order c.at (order_by (place_ordered d.names c.order) c.order) d.deck.systems) (room_same d.room)
+    (subst (All IsShortName) (sym same) h.names) h.entries
+first_keeps d ts stmts.Schedule all s right h =
+    no_line d (grow d stmts.Schedule) h refl (room_same d.room) h.names h.entries
 first_keeps d ts (stmts.Event n a) all s right h = absurd s
 
-event_keeps : (d : Draft) (o : Option Event) (e : Draft) → e.deck ≡ with_event o d.deck → e.room ≡ d.room → Keeps d → Keeps e
-event_keeps d None e is room h = no_line d e h (ap (λ (x : Deck). all_lines x.systems) is) room (subst (λ (x : Deck). All IsShortName (all_names x.systems)) (sym is) h.names) (subst (λ (x : Deck). AreEntries x.lists) (sym is) h.entries)
-event_keeps d (Some v) e is room h = no_line d e h (ap (λ (x : Deck). all_lines x.systems) is) room (subst (λ (x : Deck). All IsShortName (all_names x.systems)) (sym is) h.names) (subst (λ (x : Deck). AreEntries x.lists) (sym is) h.entries)
+event_keeps : (d : Draft) (o : Option Event) (e : Draft) → e.deck ≡ with_event o d.deck → e.room ≡ d.room → Keeps d
+    → Keeps e
+event_keeps d None e is room h =
+    no_line d e h (ap (λ (x : Deck). all_lines x.systems) is) room
+    (subst (λ (x : Deck). All IsShortName (all_names x.systems)) (sym is) h.names)
+    (subst (λ (x : Deck). AreEntries x.lists) (sym is) h.entries)
+event_keeps d (Some v) e is room h =
+    no_line d e h (ap (λ (x : Deck). all_lines x.systems) is) room
+    (subst (λ (x : Deck). All IsShortName (all_names x.systems)) (sym is) h.names)
+    (subst (λ (x : Deck). AreEntries x.lists) (sym is) h.entries)
 
 -- A statement that is right keeps the limits of names, task lines and entries.
-pub keeps_grow : (d : Draft) (l : TokenLine) (st : Stmt) → are_of_bytes l ≡ true → Spells d.scheduled d.deck.entries l st → IsRight d st → Keeps d → Keeps (grow d st)
+pub keeps_grow : (d : Draft) (l : TokenLine) (st : Stmt) → are_of_bytes l ≡ true
+    → Spells d.scheduled d.deck.entries l st → IsRight d st → Keeps d → Keeps (grow d st)
 keeps_grow d l st all s right h = go d.scheduled s
   where
     event : (x : Stmt) → Spells true d.deck.entries l x → Keeps (grow d x)
-    event (stmts.Event n a) k = event_keeps d (event_of d.deck.systems n a) (grow d (stmts.Event n a)) refl (room_same d.room) h
+    event (stmts.Event n a) k =
+        event_keeps d (event_of d.deck.systems n a) (grow d (stmts.Event n a)) refl (room_same d.room) h
     event _ k = absurd k
 
     go : (b : Bool) → Spells b d.deck.entries l st → Keeps (grow d st)

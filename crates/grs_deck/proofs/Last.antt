@@ -20,6 +20,7 @@ pub at_last-is : {A B : Type 0} (f : A → List B) (all xs : List A) (x : A) →
 at_last-is f all xs x e = rw (e, at_last-snoc) refl
 
 -- the last item was taken, changed and put back
-pub changed : {A : Type 0} (f : A → A) (all xs : List A) (x y : A) (r : Result (Unit {0}) NoMemory) (new : List A) → all ≡ xs ++ x ∷ [] → y ≡ f x → OnOk r (new ≡ xs ++ y ∷ []) → OnOk r (new ≡ on_last f all)
+pub changed : {A : Type 0} (f : A → A) (all xs : List A) (x y : A) (r : Result (Unit {0}) NoMemory) (new : List A)
+    → all ≡ xs ++ x ∷ [] → y ≡ f x → OnOk r (new ≡ xs ++ y ∷ []) → OnOk r (new ≡ on_last f all)
 changed f all xs x y (Ok u) new e h made = rw (e, made, h, on_last-snoc) refl
 changed f all xs x y (Err d) new e h made = tt

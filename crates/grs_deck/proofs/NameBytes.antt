@@ -1,5 +1,6 @@
 -- The names and units that a task line or an RNLDEF of bytes says.
-use Rattle.std.proofs.Common.{◌≡◌, ◌∙◌, ℕ, ◌+◌, ◌*◌, ◌<◌, Bool, true, false, cond, eqb, ltb, List, [], ◌∷◌, length, Option, Some, None, refl, sym, subst, arith}
+use Rattle.std.proofs.Common.{◌≡◌, ◌∙◌, ℕ, ◌+◌, ◌*◌, ◌<◌, Bool, true, false, cond, eqb, ltb, List, [], ◌∷◌, length}
+use Rattle.std.proofs.Common.{Option, Some, None, refl, sym, subst, arith}
 use Rattle.std.specs.Prelude.{unwrap_or}
 use Rattle.std.specs.List.{list_all, flat_map}
 use Rattle.std.proofs.lemmas.Bool.{and_parts, and_from}
@@ -35,13 +36,15 @@ before_bytes b (c ∷ cs) h k = and_from (ltb b 256) (are_bytes (c ∷ cs)) h k
 
 pub trim_bytes : (q : List ℕ) → are_bytes q ≡ true → are_bytes (trim_blanks q) ≡ true
 trim_bytes [] h = refl
-trim_bytes (b ∷ bs) h = let k = and_parts (ltb b 256) (are_bytes bs) h in before_bytes b (trim_blanks bs) k.0 (trim_bytes bs k.1)
+trim_bytes (b ∷ bs) h =
+    let k = and_parts (ltb b 256) (are_bytes bs) h in before_bytes b (trim_blanks bs) k.0 (trim_bytes bs k.1)
 
 -- both names of a resource are bytes
 abbrev pub BothBytes : List ℕ → List ℕ → Type 0
 BothBytes q r = (are_bytes q ≡ true) × (are_bytes r ≡ true)
 
-pub ask_bytes : (front ts : List Token) (a : ResAsk) → IsResAsk front ts a → list_all says_bytes ts ≡ true → BothBytes a.q a.r
+pub ask_bytes : (front ts : List Token) (a : ResAsk) → IsResAsk front ts a → list_all says_bytes ts ≡ true
+    → BothBytes a.q a.r
 ask_bytes front ts a h all =
     let said = subst (λ (x : List Token). list_all says_bytes x ≡ true) h.spelled all in
     let q = and_parts (says_bytes h.q) _ said in
@@ -70,12 +73,20 @@ unit_from a b c d = cond (eqb (length d.1) 0) (Some (a.0 * 4096 + b.0 * 256 + c.
 unit_below : (w : List ℕ) (n : ℕ) → unit_of w ≡ Some n → n < 65536
 unfolding unit_of
 unit_below w n h =
-    let a = bind_some (hex_at w) (λ a. hex_at a.1 >>= λ b. hex_at b.1 >>= λ c. hex_at c.1 >>= λ d. unit_from a b c d) n h in
+    let a =
+    bind_some (hex_at w) (λ a. hex_at a.1 >>= λ b. hex_at b.1 >>= λ c. hex_at c.1 >>= λ d. unit_from a b c d) n h in
     let b = bind_some (hex_at a.0.1) (λ b. hex_at b.1 >>= λ c. hex_at c.1 >>= λ d. unit_from a.0 b c d) n a.2 in
     let c = bind_some (hex_at b.0.1) (λ c. hex_at c.1 >>= λ d. unit_from a.0 b.0 c d) n b.2 in
     let d = bind_some (hex_at c.0.1) (λ d. unit_from a.0 b.0 c.0 d) n c.2 in
     let is = (guard_some (eqb (length d.0.1) 0) (a.0.0 * 4096 + b.0.0 * 256 + c.0.0 * 16 + d.0.0) n d.2).1 in
-    omega (arith, is, digit_below w a.0 a.1, digit_below a.0.1 b.0 b.1, digit_below b.0.1 c.0 c.1, digit_below c.0.1 d.0 d.1)
+    omega (
+      arith,
+      is,
+      digit_below w a.0 a.1,
+      digit_below a.0.1 b.0 b.1,
+      digit_below b.0.1 c.0 c.1,
+      digit_below c.0.1 d.0 d.1,
+    )
 
 option_unit : (x : Opt) (o : Opts) → IsFree x o → IsMaybeUnit o.unit → IsMaybeUnit (set x o).unit
 option_unit (WithRet r) o free h = h
@@ -104,21 +115,30 @@ record AreBytes (o : Operands) : Type 0 where
   q : IsMaybeBytes o.q
   r : IsMaybeBytes o.r
 
-operand_bytes : (x : Operand) (o : Operands) → list_all says_bytes (operand x) ≡ true → IsFreeOperand x o → AreBytes o → AreBytes (set_operand x o)
+operand_bytes : (x : Operand) (o : Operands) → list_all says_bytes (operand x) ≡ true → IsFreeOperand x o → AreBytes o
+    → AreBytes (set_operand x o)
 operand_bytes (WithRnl which) o all free h = record { q = h.q; r = h.r }
 operand_bytes (WithType form) o all free h = record { q = h.q; r = h.r }
-operand_bytes (WithQname t q) o all free h = record { q = named_bytes t q free.1 (and_parts (says_bytes t) _ all).0; r = h.r }
-operand_bytes (WithRname t r) o all free h = record { q = h.q; r = named_bytes t r free.1 (and_parts (says_bytes t) _ all).0 }
+operand_bytes (WithQname t q) o all free
+    h = record { q = named_bytes t q free.1 (and_parts (says_bytes t) _ all).0; r = h.r }
+operand_bytes (WithRname t r) o all free
+    h = record { q = h.q; r = named_bytes t r free.1 (and_parts (says_bytes t) _ all).0 }
 
-operands_bytes : (xs : List Operand) (o p : Operands) → Sets IsFreeOperand set_operand o xs p → list_all says_bytes (flat_map operand xs) ≡ true → AreBytes o → AreBytes p
+operands_bytes : (xs : List Operand) (o p : Operands) → Sets IsFreeOperand set_operand o xs p
+    → list_all says_bytes (flat_map operand xs) ≡ true → AreBytes o → AreBytes p
 operands_bytes [] o p s all h = subst AreBytes (sym s) h
 operands_bytes (x ∷ xs) o p s all h =
-    let k = and_parts (list_all says_bytes (operand x)) (list_all says_bytes (flat_map operand xs)) (sym (list_all-append says_bytes (operand x) (flat_map operand xs)) ∙ all) in
+    let k =
+    and_parts (list_all says_bytes (operand x)) (list_all says_bytes (flat_map operand xs))
+    (sym (list_all-append says_bytes (operand x) (flat_map operand xs)) ∙ all) in
     operands_bytes xs (set_operand x o) p s.1 k.1 (operand_bytes x o k.0 s.0 h)
 
 -- an RNLDEF of bytes names bytes
-pub rnldef_bytes : (ts : List Token) (d : Rnldef) → IsRnldef ts d → list_all says_bytes ts ≡ true → (are_bytes d.q ≡ true) × IsMaybeBytes d.r
+pub rnldef_bytes : (ts : List Token) (d : Rnldef) → IsRnldef ts d → list_all says_bytes ts ≡ true
+    → (are_bytes d.q ≡ true) × IsMaybeBytes d.r
 rnldef_bytes ts d h all =
     let said = subst (λ (x : List Token). list_all says_bytes x ≡ true) h.spelled all in
-    let k = operands_bytes h.given no_operands (record { which = Some d.which; form = Some d.form; q = Some d.q; r = d.r }) h.operands said (record { q = tt; r = tt }) in
+    let k =
+    operands_bytes h.given no_operands (record { which = Some d.which; form = Some d.form; q = Some d.q; r = d.r })
+    h.operands said (record { q = tt; r = tt }) in
     (k.q, k.r)

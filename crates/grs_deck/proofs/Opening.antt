@@ -15,17 +15,27 @@ use Rattle.deck_form.specs.SystemNames.{system_names, names_in}
 use Rattle.grs_deck.specs.declared.judge.Draft.{Draft}
 use Rattle.grs_deck.specs.Reading.{no_draft, judge_all, ended, reading}
 
-names_read : (text : List ℕ) (lines : List TokenLine) → lines_or_fault text ≡ Ok lines → names_in text ≡ system_names (statements lines)
-names_read text lines h = ap (λ (ls : List TokenLine). system_names (statements ls)) (spelled_is (readable text) lines (any_text text lines (read_text text lines h).spelled))
+names_read : (text : List ℕ) (lines : List TokenLine) → lines_or_fault text ≡ Ok lines
+    → names_in text ≡ system_names (statements lines)
+names_read text lines h =
+    ap (λ (ls : List TokenLine). system_names (statements ls))
+    (spelled_is (readable text) lines (any_text text lines (read_text text lines h).spelled))
 
 -- what is judged of the lines of a text, where these are its names and statements
-judged : (text : List ℕ) (lines ss : List TokenLine) (names : List (List ℕ)) → lines_or_fault text ≡ Ok lines → names ≡ names_in text → ss ≡ statements lines → reading text ≡ (judge_all (no_draft names) ss >>= ended)
+judged : (text : List ℕ) (lines ss : List TokenLine) (names : List (List ℕ)) → lines_or_fault text ≡ Ok lines
+    → names ≡ names_in text → ss ≡ statements lines → reading text ≡ (judge_all (no_draft names) ss >>= ended)
 unfolding reading
 judged text lines ss names read named made = rw (read, named, made, names_read text lines read) refl
 
-pub judged_ok : (text : List ℕ) (lines ss : List TokenLine) (names : List (List ℕ)) (d : Draft) (r : Result Deck ReadError) → lines_or_fault text ≡ Ok lines → names ≡ names_in text → ss ≡ statements lines → judge_all (no_draft names) ss ≡ Ok d → Gives r (ended d) → Gives r (reading text)
+pub judged_ok :
+    (text : List ℕ) (lines ss : List TokenLine) (names : List (List ℕ)) (d : Draft) (r : Result Deck ReadError)
+    → lines_or_fault text ≡ Ok lines → names ≡ names_in text → ss ≡ statements lines
+    → judge_all (no_draft names) ss ≡ Ok d → Gives r (ended d) → Gives r (reading text)
 judged_ok text lines ss names d r read named made all h = rw (judged text lines ss names read named made, all) h
 
-pub judged_err : (text : List ℕ) (lines ss : List TokenLine) (names : List (List ℕ)) (e : ReadError) → lines_or_fault text ≡ Ok lines → names ≡ names_in text → ss ≡ statements lines → Fails e (judge_all (no_draft names) ss) → Fails e (reading text)
+pub judged_err : (text : List ℕ) (lines ss : List TokenLine) (names : List (List ℕ)) (e : ReadError)
+    → lines_or_fault text ≡ Ok lines → names ≡ names_in text → ss ≡ statements lines
+    → Fails e (judge_all (no_draft names) ss) → Fails e (reading text)
 judged_err text lines ss names errors.NoMemory read named made h = tt
-judged_err text lines ss names (errors.Fault f) read named made h = rw (judged text lines ss names read named made, h) refl
+judged_err text lines ss names (errors.Fault f) read named made h =
+    rw (judged text lines ss names read named made, h) refl

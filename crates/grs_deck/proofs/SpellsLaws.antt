@@ -1,5 +1,6 @@
 -- What is read is spelled, and what is spelled is read.
-use Rattle.std.proofs.Common.{◌≡◌, ℕ, suc, ltb, ◌+◌, ◌<◌, Bool, true, false, cond, not, eqb, leb, List, [], ◌∷◌, length, Option, Some, None, Result, Ok, Err, refl, sym, ap, subst, ◌∙◌, arith}
+use Rattle.std.proofs.Common.{◌≡◌, ℕ, suc, ltb, ◌+◌, ◌<◌, Bool, true, false, cond, not, eqb, leb, List, [], ◌∷◌, length}
+use Rattle.std.proofs.Common.{Option, Some, None, Result, Ok, Err, refl, sym, ap, subst, ◌∙◌, arith}
 use Rattle.std.specs.List.{list_any, position, position_or_len}
 use Rattle.std.proofs.lemmas.Bool.Decides.{nat_tests}
 use Rattle.std.specs.Prelude.{◌||◌, ◌≢◌, Contains, is_some, is_none}
@@ -38,11 +39,14 @@ use Rattle.deck_form.proofs.Taken.{form_taken}
 use Rattle.deck_form.proofs.Again.{form_again}
 use Rattle.deck_form.specs.Unbuilt.{is_unbuilt}
 use Rattle.grs_deck.specs.declared.judge.Draft.{Draft}
-use Rattle.grs_deck.specs.Places.{name_now, desk_now, jobs_now, tasks_now, system_place, job_place, task_place, event_of}
-use Rattle.grs_deck.specs.Judge.{is_too_long, list_of, has_long_name, has_long_order, has_bad_name, is_repeated, is_misplaced, is_full, removes_unknown, is_unknown, verdict}
+use Rattle.grs_deck.specs.Places.{name_now, desk_now, jobs_now, tasks_now, system_place, job_place, task_place}
+use Rattle.grs_deck.specs.Places.{event_of}
+use Rattle.grs_deck.specs.Judge.{is_too_long, list_of, has_long_name, has_long_order, has_bad_name, is_repeated}
+use Rattle.grs_deck.specs.Judge.{is_misplaced, is_full, removes_unknown, is_unknown, verdict}
 use Rattle.grs_deck.specs.Grow.{grow}
 use Rattle.grs_deck.specs.Reading.{judge, judge_all, first_draft, ended, reading, fault, fault_of}
-use Rattle.grs_deck.specs.Spells.{IsShort, IsShortAct, IsShortOrder, MakeNames, HasNames, IsSized, IsNew, IsPlaced, HasRoom, IsKnownOrder, IsKnown, IsRight, Says, SpellsDeck}
+use Rattle.grs_deck.specs.Spells.{IsShort, IsShortAct, IsShortOrder, MakeNames, HasNames, IsSized, IsNew, IsPlaced}
+use Rattle.grs_deck.specs.Spells.{HasRoom, IsKnownOrder, IsKnown, IsRight, Says, SpellsDeck}
 use Rattle.grs_deck.proofs.Distinct.{differs}
 use Rattle.grs_deck.proofs.FitsLaws.{NoFault, tests_of, judged}
 
@@ -138,7 +142,8 @@ place_any p (x ∷ xs) = go (p x) refl (place_any p xs)
     first : (n : ℕ) → ltb 0 (suc n) ≡ true
     first n = grind (arith, nat_tests)
 
-    go : (b : Bool) → p x ≡ b → ltb (position_or_len p xs) (length xs) ≡ list_any p xs → ltb (position_or_len p (x ∷ xs)) (length (x ∷ xs)) ≡ list_any p (x ∷ xs)
+    go : (b : Bool) → p x ≡ b → ltb (position_or_len p xs) (length xs) ≡ list_any p xs
+        → ltb (position_or_len p (x ∷ xs)) (length (x ∷ xs)) ≡ list_any p (x ∷ xs)
     go true is h = rw is (first (length xs))
     go false is h = rw is (further (position_or_len p xs) (length xs) ∙ h)
 
@@ -165,12 +170,16 @@ there_named names n h = list_any_at (bytes_eq n) names h.0 n h.1 ((bytes_eq-Deci
 known_order : (d : Draft) (o : GivenOrder) → removes_unknown d o ≡ false → IsKnownOrder d o
 known_order d orders.Star h = tt
 known_order d (orders.Vary n) h =
-    let k = or_parts (bytes_eq (name_now d.deck.systems) n) (not (is_named d.names n)) (ap (λ (b : Bool). bytes_eq (name_now d.deck.systems) n || b) (sym (placed_named d.names n)) ∙ h) in
+    let k =
+    or_parts (bytes_eq (name_now d.deck.systems) n) (not (is_named d.names n))
+    (ap (λ (b : Bool). bytes_eq (name_now d.deck.systems) n || b) (sym (placed_named d.names n)) ∙ h) in
     (named_there d.names n (passed (is_named d.names n) k.1), λ e. differs (name_now d.deck.systems) n k.0 (sym e))
 
 order_known : (d : Draft) (o : GivenOrder) → IsKnownOrder d o → removes_unknown d o ≡ false
 order_known d orders.Star h = refl
-order_known d (orders.Vary n) h = both_false (bytes_eq (name_now d.deck.systems) n) (is_none (name_place d.names n)) (not_equal (name_now d.deck.systems) n h.1) (placed_named d.names n ∙ rw (there_named d.names n h.0) refl)
+order_known d (orders.Vary n) h =
+    both_false (bytes_eq (name_now d.deck.systems) n) (is_none (name_place d.names n))
+    (not_equal (name_now d.deck.systems) n h.1) (placed_named d.names n ∙ rw (there_named d.names n h.0) refl)
 
 -- ---- a statement that may stand there
 
@@ -193,7 +202,8 @@ none_yet [] h = refl
 none_yet (x ∷ xs) h = absurd (omega (arith, h))
 
 pub sized_by : (st : Stmt) → has_bad_name st ≡ false → IsSized st
-sized_by (stmts.Rnldef r) h = let k = or_parts (not (is_qname r.q)) (is_bad_rname r.r) h in (passed (is_qname r.q) k.0, k.1)
+sized_by (stmts.Rnldef r) h =
+    let k = or_parts (not (is_qname r.q)) (is_bad_rname r.r) h in (passed (is_qname r.q) k.0, k.1)
 sized_by (stmts.System n) h = short_of n h
 sized_by (stmts.Job n) h = short_of n h
 sized_by (stmts.Task n) h = short_of n h
@@ -210,13 +220,17 @@ new_by d _ h = tt
 
 pub placed_by : (d : Draft) (st : Stmt) → is_misplaced d st ≡ false → IsPlaced d st
 placed_by d (stmts.Complex c) h = h
-placed_by d (stmts.Rnldef r) h = none_yet d.deck.systems (eqb-true (length d.deck.systems) 0 (passed (eqb (length d.deck.systems) 0) h))
+placed_by d (stmts.Rnldef r) h =
+    none_yet d.deck.systems (eqb-true (length d.deck.systems) 0 (passed (eqb (length d.deck.systems) 0) h))
 placed_by d (stmts.Job n) h = there (length d.deck.systems) h
 placed_by d (stmts.Task n) h = there (length (jobs_now d.deck.systems)) h
 placed_by d (stmts.Line s) h = there (length (tasks_now (jobs_now d.deck.systems))) h
 placed_by d (stmts.Command c) h =
-    let k = or_parts (eqb (length d.deck.systems) 0) (not (eqb (length (jobs_now d.deck.systems)) 0)) h in
-    (there (length d.deck.systems) k.0, none_yet (jobs_now d.deck.systems) (eqb-true (length (jobs_now d.deck.systems)) 0 (passed (eqb (length (jobs_now d.deck.systems)) 0) k.1)))
+    let k = or_parts (eqb (length d.deck.systems) 0) (not (eqb (length (jobs_now d.deck.systems)) 0)) h in (
+      there (length d.deck.systems) k.0,
+      none_yet (jobs_now d.deck.systems)
+          (eqb-true (length (jobs_now d.deck.systems)) 0 (passed (eqb (length (jobs_now d.deck.systems)) 0) k.1)),
+    )
 placed_by d stmts.Schedule h = there (length d.deck.systems) h
 placed_by d _ h = tt
 
@@ -236,8 +250,16 @@ known_by d _ h = tt
 
 pub right_of : (d : Draft) (st : Stmt) → verdict d st ≡ None → IsRight d st
 right_of d st h =
-    let t = tests_of d st h in
-    (record { sized = sized_by st t.long; new = new_by d st t.repeated; placed = placed_by d st t.misplaced; room = room_by d st t.full; known = known_by d st t.unknown }, t.unbuilt)
+    let t = tests_of d st h in (
+      record {
+        sized = sized_by st t.long;
+        new = new_by d st t.repeated;
+        placed = placed_by d st t.misplaced;
+        room = room_by d st t.full;
+        known = known_by d st t.unknown;
+      },
+      t.unbuilt,
+    )
 
 names_fail : (q r : List ℕ) → MakeNames q r → are_bad_names q r ≡ false
 names_fail q r h = rw (h.0, h.1) refl
@@ -273,7 +295,9 @@ of_placed d (stmts.Rnldef r) h = rw h refl
 of_placed d (stmts.Job n) h = there_not (length d.deck.systems) h
 of_placed d (stmts.Task n) h = there_not (length (jobs_now d.deck.systems)) h
 of_placed d (stmts.Line s) h = there_not (length (tasks_now (jobs_now d.deck.systems))) h
-of_placed d (stmts.Command c) h = both_false (eqb (length d.deck.systems) 0) (not (eqb (length (jobs_now d.deck.systems)) 0)) (there_not (length d.deck.systems) h.0) (rw h.1 refl)
+of_placed d (stmts.Command c) h =
+    both_false (eqb (length d.deck.systems) 0) (not (eqb (length (jobs_now d.deck.systems)) 0))
+    (there_not (length d.deck.systems) h.0) (rw h.1 refl)
 of_placed d stmts.Schedule h = there_not (length d.deck.systems) h
 of_placed d _ h = refl
 
@@ -292,15 +316,24 @@ of_known d (stmts.Command c) h = order_known d c.order h
 of_known d _ h = refl
 
 -- no test applies to a statement that is right
-pub no_test : (d : Draft) (st : Stmt) → IsRight d st → NoFault (has_bad_name st) (is_repeated d st) (is_misplaced d st) (is_full d st) (is_unknown d st) (is_unbuilt st)
-no_test d st h = record { long = of_sized st h.0.sized; repeated = of_new d st h.0.new; misplaced = of_placed d st h.0.placed; full = of_room d st h.0.room; unknown = of_known d st h.0.known; unbuilt = h.1 }
+pub no_test : (d : Draft) (st : Stmt) → IsRight d st
+    → NoFault (has_bad_name st) (is_repeated d st) (is_misplaced d st) (is_full d st) (is_unknown d st) (is_unbuilt st)
+no_test d st h = record {
+  long = of_sized st h.0.sized;
+  repeated = of_new d st h.0.new;
+  misplaced = of_placed d st h.0.placed;
+  full = of_room d st h.0.room;
+  unknown = of_known d st h.0.known;
+  unbuilt = h.1;
+}
 
 pub of_right : (d : Draft) (st : Stmt) → IsRight d st → verdict d st ≡ None
 of_right d st h = let t = no_test d st h in rw (t.long, t.repeated, t.misplaced, t.full, t.unknown, t.unbuilt) refl
 
 -- ---- lines
 
-pub judged_again : (d : Draft) (l : TokenLine) (st : Stmt) → Spells d.scheduled d.deck.entries l st → IsRight d st → judge d l ≡ Ok (grow d st)
+pub judged_again : (d : Draft) (l : TokenLine) (st : Stmt) → Spells d.scheduled d.deck.entries l st → IsRight d st
+    → judge d l ≡ Ok (grow d st)
 unfolding judge
 judged_again d l st h k = rw (form_again d.scheduled d.deck.entries l st h, of_right d st k) refl
 
@@ -321,8 +354,12 @@ unfolding judge_all
 says [] d e h = draft_is d e h
 says (l ∷ ls) d e h =
     let b = bind_ok (judge d l) (λ new. judge_all new ls) e h in
-    let j = judged d b.0 l b.1 in
-    (j.st, form_taken d.scheduled d.deck.entries l j.st j.formed, right_of d j.st j.right, says ls (grow d j.st) e (ap (λ (x : Draft). judge_all x ls) j.grown ∙ b.2))
+    let j = judged d b.0 l b.1 in (
+      j.st,
+      form_taken d.scheduled d.deck.entries l j.st j.formed,
+      right_of d j.st j.right,
+      says ls (grow d j.st) e (ap (λ (x : Draft). judge_all x ls) j.grown ∙ b.2),
+    )
 
 pub says_again : (ls : List TokenLine) (d e : Draft) → Says d ls e → judge_all d ls ≡ Ok e
 unfolding judge_all
@@ -334,7 +371,8 @@ says_again (l ∷ ls) d e h = rw (judged_again d l h.0 h.1 h.2) (says_again ls (
 ended_there : (d : Draft) (e : Deck) → ended d ≡ Ok e → (0 < length d.deck.systems) × (d.deck ≡ e)
 ended_there d e h = go (eqb (length d.deck.systems) 0) refl h
   where
-    go : (b : Bool) → eqb (length d.deck.systems) 0 ≡ b → cond b (refused 0 NoSystem) (no_error d.deck) ≡ no_error e → (0 < length d.deck.systems) × (d.deck ≡ e)
+    go : (b : Bool) → eqb (length d.deck.systems) 0 ≡ b → cond b (refused 0 NoSystem) (no_error d.deck) ≡ no_error e
+        → (0 < length d.deck.systems) × (d.deck ≡ e)
     go true is k = absurd cc
     go false is k = (there (length d.deck.systems) is, deck_is d.deck e k)
 
@@ -342,7 +380,8 @@ ended_there d e h = go (eqb (length d.deck.systems) 0) refl h
 pub reading_spells : (text : List ℕ) (deck : Deck) → reading text ≡ Ok deck → SpellsDeck text deck
 unfolding reading
 reading_spells text deck h =
-    let b = bind_ok (lines_or_fault text) (λ ls. judge_all (first_draft (statements ls)) (statements ls) >>= ended) deck h in
+    let b =
+    bind_ok (lines_or_fault text) (λ ls. judge_all (first_draft (statements ls)) (statements ls) >>= ended) deck h in
     let t = read_text text b.0 b.1 in
     let j = bind_ok (judge_all (first_draft (statements b.0)) (statements b.0)) ended deck b.2 in
     let e = ended_there j.0 deck j.2 in
@@ -361,7 +400,12 @@ pub spells_reading : (text : List ℕ) (deck : Deck) → SpellsDeck text deck �
 unfolding reading
 spells_reading text deck h =
     let some : 0 < length h.draft.deck.systems = subst (λ (x : Deck). 0 < length x.systems) (sym h.is) h.system in
-    rw (text_read text h.lines h.short h.spelled, says_again (statements h.lines) (first_draft (statements h.lines)) h.draft h.says, there_not (length h.draft.deck.systems) some) (ap no_error h.is)
+    rw (
+      text_read text h.lines h.short h.spelled,
+      says_again (statements h.lines) (first_draft (statements h.lines)) h.draft h.says,
+      there_not (length h.draft.deck.systems) some,
+    )
+    (ap no_error h.is)
 
 -- ---- the answers of the reader
 
@@ -373,10 +417,12 @@ pub fault_is : (text : List ℕ) (f : DeckFault) → reading text ≡ Err f → 
 unfolding fault
 fault_is text f h = ap fault_of h
 
-pub only : (text : List ℕ) (r : Result Deck ReadError) → Gives r (reading text) → (d : Deck) → SpellsDeck text d → IsOkUnlessMemory r d
+pub only : (text : List ℕ) (r : Result Deck ReadError) → Gives r (reading text) → (d : Deck) → SpellsDeck text d
+    → IsOkUnlessMemory r d
 only text (Ok e) h d s = deck_is e d (sym h ∙ spells_reading text d s)
 only text (Err read_errors.NoMemory) h d s = tt
-only text (Err (read_errors.Fault f)) h d s = absurd (let k : no_error d ≡ Err f = sym (spells_reading text d s) ∙ h in cc)
+only text (Err (read_errors.Fault f)) h d s =
+    absurd (let k : no_error d ≡ Err f = sym (spells_reading text d s) ∙ h in cc)
 
 pub one : (text : List ℕ) (d e : Deck) → SpellsDeck text d → SpellsDeck text e → d ≡ e
 one text d e h k = deck_is d e (sym (spells_reading text d h) ∙ spells_reading text e k)

@@ -1,5 +1,6 @@
 -- What each statement adds to a deck.
-use Rattle.std.specs.Prelude.{ℕ, Bool, true, false, ◌||◌, ◌-◌, nat_lt, List, [], ◌∷◌, ◌++◌, Option, Some, None, unwrap_or, cond}
+use Rattle.std.specs.Prelude.{ℕ, Bool, true, false, ◌||◌, ◌-◌, nat_lt, List, [], ◌∷◌, ◌++◌, Option, Some, None}
+use Rattle.std.specs.Prelude.{unwrap_or, cond}
 use Rattle.grs_base.specs.Limits.{most_systems}
 use Rattle.grs_base.specs.Rnl.{RnlView}
 use Rattle.grs_base.specs.declared.line.Line.{Line}
@@ -36,8 +37,8 @@ on_last f (x ∷ y ∷ ys) = x ∷ on_last f (y ∷ ys)
 abbrev pub add_command : Desk → List SystemDef → List SystemDef
 add_command c systems = on_last (λ s. record s { desk = s.desk ++ c ∷ [] }) systems
 
--- The removal of the system whose name has this place among those that SYSTEM statements give. Behind as many as a deck may
--- have no name gives a system.
+-- The removal of the system whose name has this place among those that SYSTEM statements give. Behind as many as a deck
+-- may have no name gives a system.
 abbrev pub removal_of : Option ℕ → Option Order
 removal_of None = None
 removal_of (Some p) = cond (nat_lt p most_systems) (Some (Vary (system_id p))) None
@@ -58,7 +59,8 @@ add_job name systems = on_last (λ s. record s { jobs = s.jobs ++ record { name 
 
 -- A task more in the last job.
 abbrev pub add_task : List ℕ → List JobDef → List JobDef
-add_task name jobs = on_last (λ j. record { name = j.name; tasks = j.tasks ++ record { name = name; lines = [] } ∷ [] }) jobs
+add_task name jobs =
+    on_last (λ j. record { name = j.name; tasks = j.tasks ++ record { name = name; lines = [] } ∷ [] }) jobs
 
 -- A line more in the last task.
 abbrev pub add_line : Line → List TaskDef → List TaskDef
@@ -78,7 +80,12 @@ with_line line deck = record deck { systems = in_jobs (in_tasks (add_line line))
 
 -- The operands of COMPLEX, and the values without them.
 abbrev pub with_setup : Setup → Deck → Deck
-with_setup c deck = record deck { star = unwrap_or c.star false; entries = unwrap_or c.entries default_entries; limit = unwrap_or c.limit default_limit }
+with_setup c deck =
+    record deck {
+      star = unwrap_or c.star false;
+      entries = unwrap_or c.entries default_entries;
+      limit = unwrap_or c.limit default_limit;
+    }
 
 abbrev pub with_event : Option Event → Deck → Deck
 with_event None deck = deck
@@ -102,7 +109,8 @@ abbrev pub grow_deck : Option ℕ → Deck → Stmt → Deck
 grow_deck place deck stmts.Unbuilt = deck
 grow_deck place deck (stmts.Complex c) = with_setup c deck
 grow_deck place deck (stmts.Rnldef r) = record deck { lists = with_entry (entry_of r) deck.lists }
-grow_deck place deck (stmts.System n) = record deck { systems = deck.systems ++ record { name = n; desk = []; jobs = [] } ∷ [] }
+grow_deck place deck (stmts.System n) =
+    record deck { systems = deck.systems ++ record { name = n; desk = []; jobs = [] } ∷ [] }
 grow_deck place deck (stmts.Job n) = record deck { systems = add_job n deck.systems }
 grow_deck place deck (stmts.Task n) = record deck { systems = in_jobs (add_task n) deck.systems }
 grow_deck place deck (stmts.Line s) = with_line (line_of s) deck
@@ -121,4 +129,10 @@ line_count _ = 0
 
 -- A deck so far with a statement more.
 abbrev pub grow : Draft → Stmt → Draft
-grow d st = record d { deck = grow_deck (place_in d.names st) d.deck st; begun = true; scheduled = d.scheduled || is_schedule st; room = d.room - line_count st }
+grow d st =
+    record d {
+      deck = grow_deck (place_in d.names st) d.deck st;
+      begun = true;
+      scheduled = d.scheduled || is_schedule st;
+      room = d.room - line_count st;
+    }

@@ -1,12 +1,14 @@
 -- What is wrong with a statement, where a deck has been read so far.
-use Rattle.std.specs.Prelude.{ℕ, Bool, false, not, ◌||◌, ◌==◌, nat_lt, nat_le, List, length, Option, Some, None, is_some, is_none, if◌then◌else◌}
+use Rattle.std.specs.Prelude.{ℕ, Bool, false, not, ◌||◌, ◌==◌, nat_lt, nat_le, List, length, Option, Some, None}
+use Rattle.std.specs.Prelude.{is_some, is_none, if◌then◌else◌}
 use Rattle.std.specs.Str.{bytes_eq}
 use Rattle.grs_base.specs.Rnl.{RnlView}
 use Rattle.grs_base.specs.declared.rnl.Which.{Which}
 use Rattle.grs_base.specs.declared.rnl.Which.TheVariants.{Incl, Excl, Con}
 use Rattle.grs_base.specs.declared.rnl.Lists.{Lists}
 use Rattle.grs_base.specs.declared.fault.Kind.{Kind}
-use Rattle.grs_base.specs.declared.fault.Kind.TheVariants.{NameLength, Repeated, OutOfPlace, TooMany, UnknownName, NotBuilt}
+use Rattle.grs_base.specs.declared.fault.Kind.TheVariants.{NameLength, Repeated, OutOfPlace, TooMany, UnknownName}
+use Rattle.grs_base.specs.declared.fault.Kind.TheVariants.{NotBuilt}
 use Rattle.grs_wire.specs.declared.deck.SystemDef.{SystemDef}
 use Rattle.grs_wire.specs.declared.deck.Deck.{Deck}
 use Rattle.grs_wire.specs.Decks.{task_count}
@@ -22,7 +24,8 @@ use Rattle.deck_form.specs.SystemNames.{name_place}
 use Rattle.deck_form.specs.Unbuilt.{is_unbuilt}
 use Rattle.grs_deck.specs.declared.judge.Draft.{Draft}
 use Rattle.grs_base.specs.Limits.{most_systems, most_entries, most_name_bytes, most_commands, most_jobs, most_tasks}
-use Rattle.grs_deck.specs.Places.{name_now, desk_now, jobs_now, tasks_now, system_place, job_place, task_place, event_of}
+use Rattle.grs_deck.specs.Places.{name_now, desk_now, jobs_now, tasks_now, system_place, job_place, task_place}
+use Rattle.grs_deck.specs.Places.{event_of}
 
 -- A name of a system, job or task is too long.
 abbrev pub is_too_long : List ℕ → Bool

@@ -1,5 +1,6 @@
 -- The deck of a text, or its first fault.
-use Rattle.std.specs.Prelude.{◌≡◌, ℕ, false, ◌==◌, List, [], ◌∷◌, length, Option, Some, None, Result, Ok, Err, if◌then◌else◌}
+use Rattle.std.specs.Prelude.{◌≡◌, ℕ, false, ◌==◌, List, [], ◌∷◌, length, Option, Some, None, Result, Ok, Err}
+use Rattle.std.specs.Prelude.{if◌then◌else◌}
 use Rattle.grs_base.specs.declared.fault.DeckFault.{DeckFault}
 use Rattle.grs_base.specs.declared.fault.Kind.{Kind}
 use Rattle.grs_base.specs.declared.fault.Kind.TheVariants.{NoSystem}
@@ -31,7 +32,14 @@ no_lists = record { incl = no_entries Incl; excl = no_entries Excl; con = no_ent
 
 -- The values without COMPLEX, and no entry of a name list.
 abbrev pub no_deck : Deck
-no_deck = record { star = false; entries = default_entries; limit = default_limit; lists = no_lists; systems = []; events = [] }
+no_deck = record {
+  star = false;
+  entries = default_entries;
+  limit = default_limit;
+  lists = no_lists;
+  systems = [];
+  events = [];
+}
 
 -- A deck of which nothing was read, with the names that its SYSTEM statements give.
 abbrev pub no_draft : List (List ℕ) → Draft

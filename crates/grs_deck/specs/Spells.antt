@@ -23,7 +23,8 @@ use Rattle.deck_form.specs.Statements.{statements}
 use Rattle.deck_form.specs.Unbuilt.{is_unbuilt}
 use Rattle.grs_deck.specs.declared.judge.Draft.{Draft}
 use Rattle.grs_base.specs.Limits.{most_systems, most_entries, most_name_bytes, most_commands, most_jobs, most_tasks}
-use Rattle.grs_deck.specs.Places.{name_now, desk_now, jobs_now, tasks_now, system_place, job_place, task_place, event_of}
+use Rattle.grs_deck.specs.Places.{name_now, desk_now, jobs_now, tasks_now, system_place, job_place, task_place}
+use Rattle.grs_deck.specs.Places.{event_of}
 use Rattle.grs_deck.specs.Judge.{list_of}
 use Rattle.grs_deck.specs.Grow.{grow}
 use Rattle.grs_deck.specs.Reading.{first_draft}
@@ -83,8 +84,9 @@ IsNew d (stmts.Job n) = job_place (jobs_now d.deck.systems) n ≡ None
 IsNew d (stmts.Task n) = task_place (tasks_now (jobs_now d.deck.systems)) n ≡ None
 IsNew d _ = Unit {0}
 
--- It stands at its place: COMPLEX is first, and an RNLDEF stands before each system; a command stands behind a system and
--- before its first job, a job behind a system, a task behind a job, a task line behind a task, SCHEDULE behind a system.
+-- It stands at its place: COMPLEX is first, and an RNLDEF stands before each system; a command stands behind a system
+-- and before its first job, a job behind a system, a task behind a job, a task line behind a task, SCHEDULE behind a
+-- system.
 abbrev pub IsPlaced : Draft → Stmt → Type 0
 IsPlaced d (stmts.Complex c) = d.begun ≡ false
 IsPlaced d (stmts.Rnldef r) = d.deck.systems ≡ []
@@ -95,8 +97,8 @@ IsPlaced d (stmts.Command c) = (0 < length d.deck.systems) × (jobs_now d.deck.s
 IsPlaced d stmts.Schedule = 0 < length d.deck.systems
 IsPlaced d _ = Unit {0}
 
--- There is room for it: in its name list, among the systems, the commands, the jobs and the tasks of its system, the task
--- lines.
+-- There is room for it: in its name list, among the systems, the commands, the jobs and the tasks of its system, the
+-- task lines.
 abbrev pub HasRoom : Draft → Stmt → Type 0
 HasRoom d (stmts.Rnldef r) = length (list_of r.which d.deck.lists).entries < most_entries
 HasRoom d (stmts.System n) = length d.deck.systems < most_systems

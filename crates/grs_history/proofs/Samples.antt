@@ -39,12 +39,14 @@ event s choice = record { system = sys s; choice = choice }
 events : List JEntry → List (List StepDone) → List Event
 events journal logs = map event_of (in_order journal logs)
 
--- The quiet steps before any of the journal come first, system by system; then each of the journal's in its order, and the quiet
--- ones behind it.
+-- The quiet steps before any of the journal come first, system by system; then each of the journal's in its order, and
+-- the quiet ones behind it.
 orders :
-    (events (entry 1 ∷ entry 0 ∷ entry 1 ∷ []) ((step Settle false ∷ step Turn true ∷ step Take false ∷ []) ∷ (step Turn false ∷ step Rest true ∷ step Settle false ∷ step Take true ∷ []) ∷ [])
+    (events (entry 1 ∷ entry 0 ∷ entry 1 ∷ []) ((step Settle false ∷ step Turn true ∷ step Take false ∷ [])
+    ∷ (step Turn false ∷ step Rest true ∷ step Settle false ∷ step Take true ∷ []) ∷ [])
     ≡ event 0 Settle ∷ event 1 Turn ∷ event 1 Rest ∷ event 1 Settle ∷ event 0 Turn ∷ event 0 Take ∷ event 1 Take ∷ [])
-    × (events (entry 0 ∷ entry 1 ∷ entry 1 ∷ []) ((step Settle false ∷ step Turn true ∷ step Take false ∷ []) ∷ (step Turn false ∷ step Rest true ∷ step Settle false ∷ step Take true ∷ []) ∷ [])
+    × (events (entry 0 ∷ entry 1 ∷ entry 1 ∷ []) ((step Settle false ∷ step Turn true ∷ step Take false ∷ [])
+    ∷ (step Turn false ∷ step Rest true ∷ step Settle false ∷ step Take true ∷ []) ∷ [])
     ≡ event 0 Settle ∷ event 1 Turn ∷ event 0 Turn ∷ event 0 Take ∷ event 1 Rest ∷ event 1 Settle ∷ event 1 Take ∷ [])
     × (events [] ((step Settle false ∷ []) ∷ [] ∷ (step Turn false ∷ []) ∷ []) ≡ event 0 Settle ∷ event 2 Turn ∷ [])
 unfolding events
@@ -64,10 +66,13 @@ asking s = record {
 
 -- The history goes by the order of the journal, and so do the replies of the lists; a line has the number of its event.
 shows :
-    merged (entry 1 ∷ entry 0 ∷ []) (record { steps = step Settle false ∷ asking 0 ∷ [] } ∷ record { steps = asking 1 ∷ [] } ∷ [])
+    merged (entry 1 ∷ entry 0 ∷ [])
+    (record { steps = step Settle false ∷ asking 0 ∷ [] } ∷ record { steps = asking 1 ∷ [] } ∷ [])
     ≡ record {
       events = event 0 Settle ∷ event 1 Take ∷ event 0 Take ∷ [];
       hist = Enq (task 1) res E RetNone C00 ∷ Enq (task 0) res E RetNone Wait ∷ [];
-      told = record { event = 2; system = sys 1; line = Ended (task 1) 1 } ∷ record { event = 3; system = sys 0; line = Ended (task 0) 0 } ∷ [];
+      told =
+          record { event = 2; system = sys 1; line = Ended (task 1) 1 }
+          ∷ record { event = 3; system = sys 0; line = Ended (task 0) 0 } ∷ [];
     }
 shows = refl

@@ -1,6 +1,6 @@
--- The events of several systems in one order: those that a journal has in its order, and behind each the quiet ones that
--- its system made before its next one of the journal. Before all stand the quiet ones that came before any of the journal,
--- system by system.
+-- The events of several systems in one order: those that a journal has in its order, and behind each the quiet ones
+-- that its system made before its next one of the journal. Before all stand the quiet ones that came before any of the
+-- journal, system by system.
 use Rattle.std.specs.Prelude.{ℕ, suc, ◌+◌, cond, List, [], ◌∷◌, ◌++◌, map, take, drop, get_or, set}
 use Rattle.std.specs.List.{flat_map}
 use Rattle.grs_base.specs.declared.resource.SysId.{SysId}
@@ -71,8 +71,8 @@ abbrev pub told_behind : ℕ → List Step → List Told
 told_behind n [] = []
 told_behind n (x ∷ xs) = told_in (n + 1) x ++ told_behind (n + 1) xs
 
--- The events, the history of what was fixed, with the replies of the plain lists, and the told lines, each with the number
--- of its event.
+-- The events, the history of what was fixed, with the replies of the plain lists, and the told lines, each with the
+-- number of its event.
 abbrev pub shown : List Step → Merged
 shown xs = record { events = map event_of xs; hist = answered (flat_map fixed_in xs); told = told_behind 0 xs }
 

@@ -20,7 +20,7 @@ shown_with elements m xs = record {
   told = m.told ++ told_behind (length m.events) xs;
 }
 
--- With these steps the lists and what is shown become the others, so that whatever steps come then, the same is shown in the
--- end.
+-- With these steps the lists and what is shown become the others, so that whatever steps come then, the same is shown
+-- in the end.
 abbrev pub Leads : State → Merged → List Step → State → Merged → Type 0
 Leads elements m xs elements' m' = (ys : List Step) → shown_with elements' m' ys ≡ shown_with elements m (xs ++ ys)

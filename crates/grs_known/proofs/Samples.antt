@@ -1,5 +1,6 @@
 -- Worked items, and what is known by them: what the definitions accept and what they refuse.
-use Rattle.std.proofs.Common.{◌≡◌, ◌∙◌, ℕ, Bool, true, false, List, [], ◌∷◌, ◌++◌, take, Some, None, refl, ap, sym, subst}
+use Rattle.std.proofs.Common.{◌≡◌, ◌∙◌, ℕ, Bool, true, false, List, [], ◌∷◌, ◌++◌, take, Some, None, refl, ap, sym}
+use Rattle.std.proofs.Common.{subst}
 use Rattle.grs_base.specs.Same.{same_res}
 use Rattle.grs_base.specs.Lists.{owns}
 use Rattle.grs_base.specs.State.{list_of}
@@ -20,8 +21,10 @@ use Rattle.grs_wire.specs.declared.request.Answer.TheVariants.{Coded}
 use Rattle.grs_wire.specs.declared.request.Fixed.{Fixed}
 use Rattle.grs_wire.specs.declared.request.Fixed.TheVariants.{Asked, Purged}
 use Rattle.grs_wire.specs.declared.request.Want.TheVariants as wants
-use Rattle.grs_known.specs.Items.{RunItem, rounds, is_of, removes_system_of, took, gave, owns_after, tells, reply_in, lists, Made, history, items, Counts, mine}
-use Rattle.grs_known.specs.Known.{Known, learned, outstanding, Still, IsRight, learns_item, learns_control, Answers, Grants, Coming, after_news}
+use Rattle.grs_known.specs.Items.{RunItem, rounds, is_of, removes_system_of, took, gave, owns_after, tells, reply_in}
+use Rattle.grs_known.specs.Items.{lists, Made, history, items, Counts, mine}
+use Rattle.grs_known.specs.Known.{Known, learned, outstanding, Still, IsRight, learns_item, learns_control, Answers}
+use Rattle.grs_known.specs.Known.{Grants, Coming, after_news}
 use Rattle.grs_known.specs.Reading.{gives_among, Keeps, all_known, all_but, after_read}
 use Rattle.grs_known.specs.Past.{own_told, Fits, after_entry, after_entries, past_of, Speaks}
 
@@ -48,7 +51,9 @@ deq s = (system 0, Asked (record { task = task_of s; want = wants.Deq file false
 abbrev run : List RunItem
 run = items (enq 0 RetNone ∷ enq 1 RetEcb ∷ deq 0 ∷ deq 1 ∷ [])
 
-entries : history run ≡ Enq (task_of 0) file E RetNone C00 ∷ Enq (task_of 1) file E RetEcb C04 ∷ Deq (task_of 0) file false C00 ∷ Deq (task_of 1) file false C00 ∷ []
+entries : history run
+    ≡ Enq (task_of 0) file E RetNone C00 ∷ Enq (task_of 1) file E RetEcb C04 ∷ Deq (task_of 0) file false C00
+    ∷ Deq (task_of 1) file false C00 ∷ []
 entries = refl
 
 empty_behind : lists run ≡ []
@@ -114,7 +119,9 @@ flag_wrong : Counts 1 (lists (take 1 run)) (enq 0 RetNone).1 → ⊥
 flag_wrong e = absurd (cc)
 
 -- an item with another reply isn't made by the lists
-not_made : Made [] (record { by = system 0; fixed = (enq 0 RetNone).1; entries = Enq (task_of 0) file E RetNone Wait ∷ [] }) → ⊥
+not_made :
+    Made [] (record { by = system 0; fixed = (enq 0 RetNone).1; entries = Enq (task_of 0) file E RetNone Wait ∷ [] })
+    → ⊥
 not_made e = absurd (cc)
 
 -- ---- what is known
@@ -138,7 +145,12 @@ none_outstanding = refl
 
 -- it owns behind the other's DEQ, not before; and who gave the file back doesn't
 owner_right : IsRight (task_of 1) (has_file false) (take 3 run)
-owner_right = record { waits = λ e. absurd (cc); owned = λ r e. subst (λ q. owns (list_of (lists (take 3 run)) q) (task_of 1) ≡ true) (sym (same_res-exact r file e)) refl; given = tt }
+owner_right = record {
+  waits = λ e. absurd (cc);
+  owned = λ r e.
+      subst (λ q. owns (list_of (lists (take 3 run)) q) (task_of 1) ≡ true) (sym (same_res-exact r file e)) refl;
+  given = tt;
+}
 
 waiter_wrong : IsRight (task_of 1) (has_file false) (take 2 run) → ⊥
 waiter_wrong h = let g : false ≡ true = h.owned file refl in absurd (cc)
@@ -150,7 +162,9 @@ leaver_wrong h = let g : false ≡ true = h.owned file refl in absurd (cc)
 leaver_behind : IsRight (task_of 0) (has_file true) (take 3 run)
 leaver_behind = record {
   waits = λ e. refl;
-  owned = λ r e. subst (λ q. Still q (task_of 0) (take 3 run) (Some (at 2 (deq 0)))) (sym (same_res-exact r file e)) ((λ f. absurd (cc)), (λ f. refl));
+  owned = λ r e.
+      subst (λ q. Still q (task_of 0) (take 3 run) (Some (at 2 (deq 0)))) (sym (same_res-exact r file e))
+      ((λ f. absurd (cc)), (λ f. refl));
   given = λ r e. absurd (cc);
 }
 
@@ -169,7 +183,8 @@ refused_owner : Fits (past_of (task_of 0) (has_file false) (take 1 run)) (Deq (t
 refused_owner h = let g : true ≡ false = h refl in absurd (cc)
 
 -- ---- what is read by a table
--- by the other's DEQ the task of system 1 gets the file, also while it waits for an answer; and the asker has it no more
+-- by the other's DEQ the task of system 1 gets the file, also while it waits for an answer; and the asker has it no
+-- more
 reads_control : (after_read (task_of 1) (has_none true) (lists (rounds (take 2 run))) (at 2 (deq 0))).owns file ≡ true
 reads_control = refl
 
@@ -180,7 +195,8 @@ reads_left : (after_read (task_of 0) (has_file true) (lists (rounds (take 2 run)
 reads_left = refl
 
 -- one that comes to wait gets nothing
-reads_wait : (after_read (task_of 1) (has_none true) (lists (rounds (take 1 run))) (at 1 (enq 1 RetEcb))).owns file ≡ false
+reads_wait : (after_read (task_of 1) (has_none true) (lists (rounds (take 1 run))) (at 1 (enq 1 RetEcb))).owns file
+    ≡ false
 reads_wait = refl
 
 -- an outstanding DEQ may give back what a task is known to own; one that was learned may not
@@ -188,12 +204,19 @@ keeps_outstanding : Keeps (task_of 1) file (has_file true) (at 3 (deq 1) ∷ [])
 keeps_outstanding = all_but [] (at 3 (deq 1)) [] refl refl refl refl
 
 keeps_learned : (xs : List RunItem) → xs ≡ at 3 (deq 1) ∷ [] → Keeps (task_of 1) file (has_file false) xs → ⊥
-keeps_learned xs is (all_known ys e none) = let g : true ≡ false = sym (ap (gives_among (task_of 1) file) is) ∙ none in absurd (cc)
+keeps_learned xs is (all_known ys e none) =
+    let g : true ≡ false = sym (ap (gives_among (task_of 1) file) is) ∙ none in absurd (cc)
 keeps_learned xs is (all_but mid x rest e none own last) = absurd (cc)
 
 -- ---- its past
 -- a task that asked by ECB has its element, and doesn't own
-waits_past : past_of (task_of 1) (has_none true) run ≡ record { own = (file, E) ∷ []; owns = λ r. false; asked = Enq (task_of 1) file E RetEcb C04 ∷ []; last = Some (Enq (task_of 1) file E RetEcb C04) }
+waits_past : past_of (task_of 1) (has_none true) run
+    ≡ record {
+      own = (file, E) ∷ [];
+      owns = λ r. false;
+      asked = Enq (task_of 1) file E RetEcb C04 ∷ [];
+      last = Some (Enq (task_of 1) file E RetEcb C04);
+    }
 waits_past = refl
 
 -- behind its DEQ it has none
@@ -204,7 +227,8 @@ left_past = refl
 refused_past : own_told (Deq (task_of 1) file true C08) ((file, E) ∷ []) ≡ (file, E) ∷ []
 refused_past = refl
 
-release_past : (after_entry (Release (task_of 1) file) (past_of (task_of 1) (has_none true) run)).asked ≡ Enq (task_of 1) file E RetEcb C04 ∷ []
+release_past : (after_entry (Release (task_of 1) file) (past_of (task_of 1) (has_none true) run)).asked
+    ≡ Enq (task_of 1) file E RetEcb C04 ∷ []
 release_past = refl
 
 changed_past : own_told (Enq (task_of 1) file E RetChng C00) ((file, S) ∷ []) ≡ (file, E) ∷ []
@@ -226,11 +250,16 @@ in_order = (
 )
 
 -- Behind it no control may come; nor may the answer hold another code, or come twice.
-out_of_order : Coming (task_of 1) (has_none true) run (Answers (task_of 1) (Coded C00) ∷ Grants (task_of 1) file ∷ []) → ⊥
+out_of_order : Coming (task_of 1) (has_none true) run (Answers (task_of 1) (Coded C00) ∷ Grants (task_of 1) file ∷ [])
+    → ⊥
 out_of_order h = let g : false ≡ true = (((h.0 refl).3).0 refl).0 in absurd (cc)
 
 another_code : Coming (task_of 1) (has_none true) run (Answers (task_of 1) (Coded C08) ∷ []) → ⊥
-another_code h = let c = h.0 refl in let same : at 3 (deq 1) ≡ c.0 = cc in let g : Coded C00 ≡ Coded C08 = subst (λ (x : RunItem). reply_in x.entries ≡ Coded C08) (sym same) c.2 in absurd (cc)
+another_code h =
+    let c = h.0 refl in
+    let same : at 3 (deq 1) ≡ c.0 = cc in
+    let g : Coded C00 ≡ Coded C08 = subst (λ (x : RunItem). reply_in x.entries ≡ Coded C08) (sym same) c.2 in
+    absurd (cc)
 
 none_asked : Coming (task_of 1) (has_none false) run (Answers (task_of 1) (Coded C00) ∷ []) → ⊥
 none_asked h = let c = h.0 refl in absurd (let e : None ≡ Some c.0 = c.1 in cc)
@@ -239,7 +268,8 @@ none_asked h = let c = h.0 refl in absurd (let e : None ≡ Some c.0 = c.1 in cc
 for_another : Coming (task_of 0) (has_none false) run (Grants (task_of 1) file ∷ [])
 for_another = ((λ e. absurd (cc)), λ e. tt)
 
-read_all : after_news (task_of 1) (has_none true) run (Grants (task_of 1) file ∷ Answers (task_of 1) (Coded C00) ∷ []) ≡ learns_item (learns_control (has_none true) file) (at 3 (deq 1))
+read_all : after_news (task_of 1) (has_none true) run (Grants (task_of 1) file ∷ Answers (task_of 1) (Coded C00) ∷ [])
+    ≡ learns_item (learns_control (has_none true) file) (at 3 (deq 1))
 read_all = refl
 
 owns_no_more : (learns_item (learns_control (has_none true) file) (at 3 (deq 1))).owns file ≡ false
@@ -247,13 +277,25 @@ owns_no_more = refl
 
 -- ---- the message
 -- what the message carried alone
-own_lists_stay : rounds (record { by = system 0; fixed = Asked (record { task = task_of 0; want = wants.Release (kinds.System (system 0) (65 ∷ []) (1 ∷ [])) }); entries = [] } ∷ run) ≡ run
+own_lists_stay :
+    rounds (record {
+      by = system 0;
+      fixed = Asked (record { task = task_of 0; want = wants.Release (kinds.System (system 0) (65 ∷ []) (1 ∷ [])) });
+      entries = [];
+    }
+    ∷ run)
+    ≡ run
 own_lists_stay = refl
 
 -- ---- a look at two slices
-looks_last : (f : Filter) → (after_entries (Look (task_of 1) (Slice 0) f [] ∷ Look (task_of 1) (Slice 1) f [] ∷ []) (past_of (task_of 1) (has_none true) run)).last ≡ Some (Look (task_of 1) (Slice 1) f [])
+looks_last : (f : Filter)
+    → (after_entries (Look (task_of 1) (Slice 0) f [] ∷ Look (task_of 1) (Slice 1) f [] ∷ [])
+    (past_of (task_of 1) (has_none true) run)).last
+    ≡ Some (Look (task_of 1) (Slice 1) f [])
 looks_last f = refl
 
 -- what is given up last isn't owned
-given_then_taken : owns_after (λ r. false) (Enq (task_of 1) file E RetNone C00 ∷ Deq (task_of 1) file false C00 ∷ []) file ≡ false
+given_then_taken :
+    owns_after (λ r. false) (Enq (task_of 1) file E RetNone C00 ∷ Deq (task_of 1) file false C00 ∷ []) file
+    ≡ false
 given_then_taken = refl

@@ -152,7 +152,8 @@ history (x ∷ xs) = x.entries ++ history xs
 -- the items of what was fixed, in order
 abbrev pub items_from : State → List (SysId × Fixed) → List RunItem
 items_from s [] = []
-items_from s (x ∷ xs) = record { by = x.0; fixed = x.1; entries = fixed_entries s x.0 x.1 } ∷ items_from (after_fixed s x.1) xs
+items_from s (x ∷ xs) =
+    record { by = x.0; fixed = x.1; entries = fixed_entries s x.0 x.1 } ∷ items_from (after_fixed s x.1) xs
 
 abbrev pub items : List (SysId × Fixed) → List RunItem
 items xs = items_from [] xs

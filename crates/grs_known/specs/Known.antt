@@ -38,7 +38,9 @@ outstanding t k T = cond k.behind (last_of (mine t T)) None
 -- reply of one that does took it.
 abbrev pub Still : Res → TaskId → List RunItem → Option RunItem → Type 0
 Still r t T None = owns (list_of (lists T) r) t ≡ true
-Still r t T (Some x) = (gives_back r x.fixed ≡ false → owns (list_of (lists T) r) t ≡ true) × (gives_back r x.fixed ≡ true → list_any (took r) x.entries ≡ true)
+Still r t T (Some x) =
+    (gives_back r x.fixed ≡ false → owns (list_of (lists T) r) t ≡ true)
+    × (gives_back r x.fixed ≡ true → list_any (took r) x.entries ≡ true)
 
 -- Control that the outstanding item's reply tells is there by the lists after all items.
 abbrev pub Given : TaskId → List RunItem → Option RunItem → Type 0
@@ -90,13 +92,19 @@ is_answer_to t (Wants q) = false
 -- way, so that nothing is lost, isn't said here; a task may be behind with nothing that comes.
 abbrev pub Coming : TaskId → Known → List RunItem → List News → Type 0
 Coming t k T [] = Unit {0}
-Coming t k T (Answers u a ∷ ns) = (same_task t u ≡ true → (x : RunItem) × (outstanding t k T ≡ Some x) × (reply_in x.entries ≡ a) × Coming t (learns_item k x) T ns) × (same_task t u ≡ false → Coming t k T ns)
-Coming t k T (Grants u r ∷ ns) = (same_task t u ≡ true → Still r t T (outstanding t k T) × Coming t (learns_control k r) T ns) × (same_task t u ≡ false → Coming t k T ns)
+Coming t k T (Answers u a ∷ ns) =
+    (same_task t u ≡ true
+    → (x : RunItem) × (outstanding t k T ≡ Some x) × (reply_in x.entries ≡ a) × Coming t (learns_item k x) T ns)
+    × (same_task t u ≡ false → Coming t k T ns)
+Coming t k T (Grants u r ∷ ns) =
+    (same_task t u ≡ true → Still r t T (outstanding t k T) × Coming t (learns_control k r) T ns)
+    × (same_task t u ≡ false → Coming t k T ns)
 Coming t k T (Wants q ∷ ns) = Coming t k T ns
 
 -- what is known once all of this was read
 abbrev pub after_news : TaskId → Known → List RunItem → List News → Known
 after_news t k T [] = k
-after_news t k T (Answers u a ∷ ns) = cond (same_task t u) (after_news t (learns_any k (outstanding t k T)) T ns) (after_news t k T ns)
+after_news t k T (Answers u a ∷ ns) =
+    cond (same_task t u) (after_news t (learns_any k (outstanding t k T)) T ns) (after_news t k T ns)
 after_news t k T (Grants u r ∷ ns) = cond (same_task t u) (after_news t (learns_control k r) T ns) (after_news t k T ns)
 after_news t k T (Wants q ∷ ns) = after_news t k T ns

@@ -13,8 +13,10 @@ use Rattle.grs_wire.specs.Wants.{answer_to}
 use Rattle.grs_wire.specs.declared.request.Answer.{Answer}
 use Rattle.grs_wire.specs.declared.request.Fixed.{Fixed}
 use Rattle.grs_wire.specs.declared.request.Want.{Want}
-use Rattle.grs_known.specs.Items.{RunItem, is_of, removes_system_of, gives_back, mine, tells, reply_in, lists, Made, AllMade, history, items, AllCount}
-use Rattle.grs_known.specs.Known.{Known, learned, outstanding, Still, IsRight, falls_behind, learns_item, learns_control, News, Answers, Grants, Wants, is_answer_to, Coming, after_news}
+use Rattle.grs_known.specs.Items.{RunItem, is_of, removes_system_of, gives_back, mine, tells, reply_in, lists, Made}
+use Rattle.grs_known.specs.Items.{AllMade, history, items, AllCount}
+use Rattle.grs_known.specs.Known.{Known, learned, outstanding, Still, IsRight, falls_behind, learns_item}
+use Rattle.grs_known.specs.Known.{learns_control, News, Answers, Grants, Wants, is_answer_to, Coming, after_news}
 
 -- ---- items
 
@@ -28,7 +30,8 @@ RepliesAreAnswers = (s : State) (t : TaskId) (w : Want) → reply_in (entries_fo
 
 -- The lists after the items are those to which their history leads.
 abbrev pub ListsAreReplayed : Type 0
-ListsAreReplayed = (limit : ℕ) (T : List RunItem) → AllMade [] T → AllCount limit [] T → lists T ≡ replay limit (history T)
+ListsAreReplayed =
+    (limit : ℕ) (T : List RunItem) → AllMade [] T → AllCount limit [] T → lists T ≡ replay limit (history T)
 
 -- The entries of a task are those of its items.
 abbrev pub EntriesAreOfItems : Type 0
@@ -43,7 +46,9 @@ pub record KeptAll (t : TaskId) (k : Known) (T : List RunItem) (x : RunItem) (ns
   pub same : learned t k (T ++ x ∷ []) ≡ learned t k T
 
 abbrev pub OthersKeep : Type 0
-OthersKeep = (t : TaskId) (k : Known) (T : List RunItem) (x : RunItem) (ns : List News) → is_of t x.fixed ≡ false → removes_system_of t x.fixed ≡ false →
+OthersKeep =
+    (t : TaskId) (k : Known) (T : List RunItem) (x : RunItem) (ns : List News) → is_of t x.fixed ≡ false
+    → removes_system_of t x.fixed ≡ false →
     IsRight t k T → Coming t k T ns → KeptAll t k T x ns
 
 -- An item of the task that another system fixes, as a manager does with a Settle: what is known is right and is as
@@ -54,7 +59,9 @@ pub record FixedElsewhere (t : TaskId) (k : Known) (T : List RunItem) (x : RunIt
   pub same : learned t (falls_behind k) (T ++ x ∷ []) ≡ learned t k T
 
 abbrev pub AnswerIsSent : Type 0
-AnswerIsSent = (t : TaskId) (k : Known) (T : List RunItem) (x : RunItem) (ns : List News) → is_of t x.fixed ≡ true → k.behind ≡ false → Made T x →
+AnswerIsSent =
+    (t : TaskId) (k : Known) (T : List RunItem) (x : RunItem) (ns : List News) → is_of t x.fixed ≡ true
+    → k.behind ≡ false → Made T x →
     list_any (is_answer_to t) ns ≡ false → IsRight t k T → Coming t k T ns → FixedElsewhere t k T x ns
 
 -- whether it is control of a resource for this task that what was fixed gives up
@@ -71,7 +78,9 @@ pub record DecidedHere (t : TaskId) (k : Known) (T : List RunItem) (x : RunItem)
   pub longer : learned t (learns_item k x) (T ++ x ∷ []) ≡ learned t k T ++ x ∷ []
 
 abbrev pub DecidedAtOnce : Type 0
-DecidedAtOnce = (t : TaskId) (k : Known) (T : List RunItem) (x : RunItem) (ns : List News) → is_of t x.fixed ≡ true → k.behind ≡ false → Made T x →
+DecidedAtOnce =
+    (t : TaskId) (k : Known) (T : List RunItem) (x : RunItem) (ns : List News) → is_of t x.fixed ≡ true
+    → k.behind ≡ false → Made T x →
     list_any (is_given_back t x.fixed) ns ≡ false → IsRight t k T → Coming t k T ns → DecidedHere t k T x ns
 
 -- The answer comes: it is the reply in the outstanding item, which is learned with it; control that it tells is there
@@ -85,7 +94,9 @@ pub record ItemLearned (t : TaskId) (k : Known) (T : List RunItem) (a : Answer) 
   pub coming : Coming t (learns_item k item) T ns
 
 abbrev pub AnswerIsLearned : Type 0
-AnswerIsLearned = (t : TaskId) (k : Known) (T : List RunItem) (a : Answer) (ns : List News) → IsRight t k T → Coming t k T (Answers t a ∷ ns) → ItemLearned t k T a ns
+AnswerIsLearned =
+    (t : TaskId) (k : Known) (T : List RunItem) (a : Answer) (ns : List News) → IsRight t k T
+    → Coming t k T (Answers t a ∷ ns) → ItemLearned t k T a ns
 
 -- Control comes: it is still there, and what is known, and what comes behind, is right.
 pub record ControlLearned (t : TaskId) (k : Known) (T : List RunItem) (r : Res) (ns : List News) : Type 0 where
@@ -95,11 +106,15 @@ pub record ControlLearned (t : TaskId) (k : Known) (T : List RunItem) (r : Res) 
   pub coming : Coming t (learns_control k r) T ns
 
 abbrev pub ControlIsLearned : Type 0
-ControlIsLearned = (t : TaskId) (k : Known) (T : List RunItem) (r : Res) (ns : List News) → IsRight t k T → Coming t k T (Grants t r ∷ ns) → ControlLearned t k T r ns
+ControlIsLearned =
+    (t : TaskId) (k : Known) (T : List RunItem) (r : Res) (ns : List News) → IsRight t k T
+    → Coming t k T (Grants t r ∷ ns) → ControlLearned t k T r ns
 
 -- Control that is still there once all before it was read may come last.
 abbrev pub ControlIsSent : Type 0
-ControlIsSent = (t : TaskId) (k : Known) (T : List RunItem) (ns : List News) (r : Res) → Coming t k T ns → Still r t T (outstanding t (after_news t k T ns) T) → Coming t k T (ns ++ Grants t r ∷ [])
+ControlIsSent =
+    (t : TaskId) (k : Known) (T : List RunItem) (ns : List News) (r : Res) → Coming t k T ns
+    → Still r t T (outstanding t (after_news t k T ns) T) → Coming t k T (ns ++ Grants t r ∷ [])
 
 -- Reading the first of what comes leaves what is known, and the rest, right.
 pub record ReadRight (t : TaskId) (k : Known) (T : List RunItem) (first rest : List News) : Type 0 where
@@ -107,11 +122,15 @@ pub record ReadRight (t : TaskId) (k : Known) (T : List RunItem) (first rest : L
   pub coming : Coming t (after_news t k T first) T rest
 
 abbrev pub ReadInOrder : Type 0
-ReadInOrder = (t : TaskId) (k : Known) (T : List RunItem) (first rest : List News) → IsRight t k T → Coming t k T (first ++ rest) → ReadRight t k T first rest
+ReadInOrder =
+    (t : TaskId) (k : Known) (T : List RunItem) (first rest : List News) → IsRight t k T → Coming t k T (first ++ rest)
+    → ReadRight t k T first rest
 
 -- Of a task without an outstanding item all items are known, and what it owns by them it owns by the lists.
 abbrev pub AllIsKnown : Type 0
-AllIsKnown = (t : TaskId) (k : Known) (T : List RunItem) → k.behind ≡ false → IsRight t k T → (learned t k T ≡ mine t T) × ((r : Res) → k.owns r ≡ true → owns (list_of (lists T) r) t ≡ true)
+AllIsKnown =
+    (t : TaskId) (k : Known) (T : List RunItem) → k.behind ≡ false → IsRight t k T
+    → (learned t k T ≡ mine t T) × ((r : Res) → k.owns r ≡ true → owns (list_of (lists T) r) t ≡ true)
 
 -- the first of a task's items among these
 abbrev pub first_mine : TaskId → List RunItem → Option RunItem
@@ -121,5 +140,8 @@ first_mine t (x ∷ xs) = cond (is_of t x.fixed) (Some x) (first_mine t xs)
 -- An owner by a front of the items, behind which its task has at most one, is still one by all of them. So what a
 -- system of the ring sees in its table is right.
 abbrev pub FrontOwnersStay : Type 0
-FrontOwnersStay = (t : TaskId) (r : Res) (front rest : List RunItem) → AllMade front rest → list_any (λ x. removes_system_of t x.fixed) rest ≡ false → (mine t rest ≡ []) ⊎ ((x : RunItem) × (mine t rest ≡ x ∷ [])) →
+FrontOwnersStay =
+    (t : TaskId) (r : Res) (front rest : List RunItem) → AllMade front rest
+    → list_any (λ x. removes_system_of t x.fixed) rest ≡ false
+    → (mine t rest ≡ []) ⊎ ((x : RunItem) × (mine t rest ≡ x ∷ [])) →
     owns (list_of (lists front) r) t ≡ true → Still r t (front ++ rest) (first_mine t rest)

@@ -14,4 +14,5 @@ systems_part s = filter (λ h. is_systems h.0) s
 -- What the items that went with the message lead to is the history's part on resources of the whole complex: first the
 -- table of a system of the ring, and then what it has still to see.
 abbrev pub TableIsPart : Type 0
-TableIsPart = (front rest : List RunItem) → lists_from (lists (rounds front)) (rounds rest) ≡ systems_part (lists (front ++ rest))
+TableIsPart =
+    (front rest : List RunItem) → lists_from (lists (rounds front)) (rounds rest) ≡ systems_part (lists (front ++ rest))

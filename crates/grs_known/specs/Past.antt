@@ -1,6 +1,7 @@
 -- What a task's standing depends on: its own elements, what it owns, and its entries; and what each entry makes of that
 -- by its reply alone.
-use Rattle.std.specs.Prelude.{◌≡◌, ℕ, Bool, true, false, not, cond, filter, map, List, [], ◌∷◌, ◌++◌, Option, Some, None}
+use Rattle.std.specs.Prelude.{◌≡◌, ℕ, Bool, true, false, not, cond, filter, map, List, [], ◌∷◌, ◌++◌, Option, Some}
+use Rattle.std.specs.Prelude.{None}
 use Rattle.std.specs.List.{list_any}
 use Rattle.grs_base.specs.Same.{same_res, same_task}
 use Rattle.grs_base.specs.Lists.{owns}
@@ -18,7 +19,8 @@ use Rattle.grs_wire.specs.History.{replay}
 use Rattle.grs_wire.specs.declared.history.HistEntry.{HistEntry}
 use Rattle.grs_wire.specs.declared.history.HistEntry.TheVariants.{Enq, Deq, Release, Look, Remove}
 use Rattle.task_state.specs.Replies.{is_granted, is_queued, is_changed}
-use Rattle.grs_known.specs.Items.{RunItem, gives_back, owns_told, removes_system_of, lists, mine, history, AllMade, AllCount}
+use Rattle.grs_known.specs.Items.{RunItem, gives_back, owns_told, removes_system_of, lists, mine, history, AllMade}
+use Rattle.grs_known.specs.Items.{AllCount}
 use Rattle.grs_known.specs.Known.{Known, learned, outstanding, IsRight, learns_item}
 
 -- a task's own elements: their resources, each with its control, in the order in which they were queued
@@ -50,7 +52,8 @@ abbrev pub own_after : List (Res × Ctl) → List HistEntry → List (Res × Ctl
 own_after ks [] = ks
 own_after ks (h ∷ hs) = own_after (own_told h ks) hs
 
--- A task's past: its own elements, whether it owns a resource, the entries that its lines asked for, and its last entry.
+-- A task's past: its own elements, whether it owns a resource, the entries that its lines asked for, and its last
+-- entry.
 pub record Past : Type 0 where
   pub own : List (Res × Ctl)
   pub owns : Res → Bool
@@ -114,20 +117,32 @@ Fits p (Remove by target) = Unit {0}
 
 -- A task's elements are those which its items queued, by their replies, unless its system was removed.
 abbrev pub ElementsAreOfItems : Type 0
-ElementsAreOfItems = (t : TaskId) (T : List RunItem) → AllMade [] T → list_any (λ x. removes_system_of t x.fixed) T ≡ false → own_elements (lists T) t ≡ own_after [] (history (mine t T))
+ElementsAreOfItems =
+    (t : TaskId) (T : List RunItem) → AllMade [] T → list_any (λ x. removes_system_of t x.fixed) T ≡ false
+    → own_elements (lists T) t ≡ own_after [] (history (mine t T))
 
 -- Learning an item makes the past longer by its entries.
 abbrev pub PastGrows : Type 0
-PastGrows = (t : TaskId) (k : Known) (T : List RunItem) (x : RunItem) → outstanding t k T ≡ Some x → past_of t (learns_item k x) T ≡ after_entries x.entries (past_of t k T)
+PastGrows =
+    (t : TaskId) (k : Known) (T : List RunItem) (x : RunItem) → outstanding t k T ≡ Some x
+    → past_of t (learns_item k x) T ≡ after_entries x.entries (past_of t k T)
 
 -- Of a resource that the outstanding item doesn't give up the past by what is known is that of the history.
 abbrev pub PastSpeaksOf : Type 0
-PastSpeaksOf = (limit : ℕ) (t : TaskId) (r : Res) (k : Known) (T : List RunItem) → AllMade [] T → AllCount limit [] T → may_leave r (outstanding t k T) ≡ false → IsRight t k T → SpeaksOf limit t r (past_of t k T) (history T)
+PastSpeaksOf =
+    (limit : ℕ) (t : TaskId) (r : Res) (k : Known) (T : List RunItem) → AllMade [] T → AllCount limit [] T
+    → may_leave r (outstanding t k T) ≡ false → IsRight t k T → SpeaksOf limit t r (past_of t k T) (history T)
 
 -- Of a task with nothing outstanding the past by what is known is that of the history.
 abbrev pub PastSpeaks : Type 0
-PastSpeaks = (limit : ℕ) (t : TaskId) (k : Known) (T : List RunItem) → AllMade [] T → AllCount limit [] T → list_any (λ x. removes_system_of t x.fixed) T ≡ false → k.behind ≡ false → IsRight t k T → Speaks limit t (past_of t k T) (history T)
+PastSpeaks =
+    (limit : ℕ) (t : TaskId) (k : Known) (T : List RunItem) → AllMade [] T → AllCount limit [] T
+    → list_any (λ x. removes_system_of t x.fixed) T ≡ false → k.behind ≡ false → IsRight t k T
+    → Speaks limit t (past_of t k T) (history T)
 
 -- The reply in a task's outstanding item fits its past by what is known.
 abbrev pub ReplyFits : Type 0
-ReplyFits = (t : TaskId) (k : Known) (T : List RunItem) (x : RunItem) (h : HistEntry) → AllMade [] T → list_any (λ y. removes_system_of t y.fixed) T ≡ false → outstanding t k T ≡ Some x → x.entries ≡ h ∷ [] → IsRight t k T → Fits (past_of t k T) h
+ReplyFits =
+    (t : TaskId) (k : Known) (T : List RunItem) (x : RunItem) (h : HistEntry) → AllMade [] T
+    → list_any (λ y. removes_system_of t y.fixed) T ≡ false → outstanding t k T ≡ Some x → x.entries ≡ h ∷ []
+    → IsRight t k T → Fits (past_of t k T) h

@@ -1,5 +1,6 @@
 -- When a line that is told to a task agrees with a history, behind the lines that were told before.
-use Rattle.std.specs.Prelude.{◌≡◌, ◌<◌, ℕ, Bool, true, false, not, ◌&&◌, ◌||◌, ◌==◌, nat_lt, ◌-◌, List, [], length, take, drop, cond, Option, Some, None, slice_get, unwrap_or}
+use Rattle.std.specs.Prelude.{◌≡◌, ◌<◌, ℕ, Bool, true, false, not, ◌&&◌, ◌||◌, ◌==◌, nat_lt, ◌-◌, List, [], length}
+use Rattle.std.specs.Prelude.{take, drop, cond, Option, Some, None, slice_get, unwrap_or}
 use Rattle.std.specs.List.{list_all, list_any}
 use Rattle.grs_base.specs.Same.{same_res, same_task}
 use Rattle.grs_base.specs.Lists.{owns, has_task}
@@ -51,7 +52,8 @@ gets_control ret code = is_granted code && has_control ret
 
 -- a line tells a task the code of an ENQ or RESERVE: the reply of its entry; and control only to an owner
 abbrev pub TellsEnq : State → TaskId → Code → Option HistEntry → Type 0
-TellsEnq s t code (Some (Enq u r c ret reply)) = (told_as reply ≡ code) × (gets_control ret code ≡ true → owns (list_of s r) t ≡ true)
+TellsEnq s t code (Some (Enq u r c ret reply)) =
+    (told_as reply ≡ code) × (gets_control ret code ≡ true → owns (list_of s r) t ≡ true)
 TellsEnq s t code _ = ⊥
 
 -- a line tells a task the code of a DEQ
@@ -79,7 +81,8 @@ entries_behind ls entries k = drop (length (asks_of (take k ls))) entries
 -- whether a task's line is the last one whose entry queued an element on a resource: so that element, and no
 -- earlier one, is what the task has there now
 abbrev pub queued_last : List Meaning → List HistEntry → Res → ℕ → Bool
-queued_last ls entries r k = queues_at r (entry_of_line ls entries k) && not (list_any (queues r) (entries_behind ls entries k))
+queued_last ls entries r k =
+    queues_at r (entry_of_line ls entries k) && not (list_any (queues r) (entries_behind ls entries k))
 
 -- whether this code of a line of this kind tells control
 abbrev pub is_control : Verb → Code → Bool
@@ -89,7 +92,8 @@ is_control _ _ = false
 -- whether a line tells a task control of the element that it has on a resource: it is the code or the post of
 -- the line that queued this element
 abbrev pub tells_control : TaskId → List Meaning → List HistEntry → Res → ToldLine → Bool
-tells_control t ls entries r (Coded u k part verb code) = same_task t u && (is_control verb code && queued_last ls entries r k)
+tells_control t ls entries r (Coded u k part verb code) =
+    same_task t u && (is_control verb code && queued_last ls entries r k)
 tells_control t ls entries r (Shown u k verb code rows) = false
 tells_control t ls entries r (Post u k) = same_task t u && queued_last ls entries r k
 tells_control t ls entries r (Ended u code) = false
@@ -97,7 +101,8 @@ tells_control t ls entries r (Desk k said) = false
 
 -- a WAIT is told 00 to an owner that was told control of its element before, and 08 to a task without an element
 abbrev pub TellsWaitOf : TaskId → List Meaning → List HistEntry → List ToldLine → State → Res → Code → Type 0
-TellsWaitOf t ls entries before s r C00 = (owns (list_of s r) t ≡ true) × (list_any (tells_control t ls entries r) before ≡ true)
+TellsWaitOf t ls entries before s r C00 =
+    (owns (list_of s r) t ≡ true) × (list_any (tells_control t ls entries r) before ≡ true)
 TellsWaitOf t ls entries before s r C08 = has_task (list_of s r) t ≡ false
 TellsWaitOf t ls entries before s r _ = ⊥
 
@@ -134,11 +139,13 @@ is_end_of t _ = false
 
 -- a code line agrees by its verb
 abbrev pub CodeAgrees : ℕ → TaskId → List Meaning → List HistEntry → List ToldLine → ℕ → Code → Verb → Type 0
-CodeAgrees limit t ls history before k code verbs.Enq = TellsEnq (replay limit history) t code (entry_of_line ls (line_entries t history) k)
+CodeAgrees limit t ls history before k code verbs.Enq =
+    TellsEnq (replay limit history) t code (entry_of_line ls (line_entries t history) k)
 CodeAgrees limit t ls history before k code verbs.Deq = TellsDeq code (entry_of_line ls (line_entries t history) k)
 CodeAgrees limit t ls history before k code verbs.Gqscan = ⊥
 CodeAgrees limit t ls history before k code verbs.Display = ⊥
-CodeAgrees limit t ls history before k code verbs.Wait = TellsWait t ls (line_entries t history) before (replay limit history) code (slice_get ls (k - 1))
+CodeAgrees limit t ls history before k code verbs.Wait =
+    TellsWait t ls (line_entries t history) before (replay limit history) code (slice_get ls (k - 1))
 
 -- A line that tells a task of these lines something agrees with the history up to its event, behind the
 -- lines told before. Code lines come in the order of their lines, an ECB is posted once, behind its code,
@@ -149,7 +156,8 @@ LineAgrees limit ls history before (Coded t k part verb code) =
     × (list_all (is_code_before t k) before ≡ true) × (list_any (is_end_of t) before ≡ false)
 LineAgrees limit ls history before (Post t k) =
     (0 < k) × Posts (replay limit history) t (entry_of_line ls (line_entries t history) k)
-    × (list_any (is_code_of t k) before ≡ true) × (list_any (is_post_of t k) before ≡ false) × (list_any (is_end_of t) before ≡ false)
+    × (list_any (is_code_of t k) before ≡ true) × (list_any (is_post_of t k) before ≡ false)
+    × (list_any (is_end_of t) before ≡ false)
 LineAgrees limit ls history before (Shown t k verb code rows) = ⊥
 LineAgrees limit ls history before (Desk k said) = ⊥
 LineAgrees limit ls history before (Ended t code) =

@@ -1,4 +1,5 @@
--- Worked histories, by which the definition is checked: entries that may stand where they stand, and entries that may not.
+-- Worked histories, by which the definition is checked: entries that may stand where they stand, and entries that may
+-- not.
 use Rattle.std.proofs.Common.{◌≡◌, ℕ, true, false, List, [], ◌∷◌, ◌++◌, Some, None, refl, arith}
 use Rattle.grs_base.specs.declared.decision.Code.{Code}
 use Rattle.grs_base.specs.declared.decision.Code.TheVariants.{C00, C04, Wait, End}
@@ -35,8 +36,8 @@ enq n ret code = Enq (task_of n) (res 66) E ret code
 abbrev deq : ℕ → Code → HistEntry
 deq n code = Deq (task_of n) (res 66) false code
 
--- the lines of a task that asks for the resource and gives it back, and of one that asks by ECB, waits for the post, and
--- gives it back
+-- the lines of a task that asks for the resource and gives it back, and of one that asks by ECB, waits for the post,
+-- and gives it back
 abbrev asks_and_gives : List Meaning
 asks_and_gives = lines.Enq (res 66) E RetNone None ∷ lines.Deq (res 66) false ∷ []
 
@@ -74,11 +75,16 @@ releases = record { reply = refl; live = refl; next = refl; waited = λ e. absur
 releases_before : IsLegal 9 (task_of 0) asks_and_gives (enq 0 RetNone C00 ∷ []) (Release (task_of 0) (res 66)) → ⊥
 releases_before l = let e : Some (AsksDeq (res 66) false) ≡ Some (AsksRelease (res 66)) = l.next in absurd (cc)
 
-releases_nothing : IsLegal 9 (task_of 0) asks_and_gives (enq 0 RetNone C00 ∷ deq 0 C00 ∷ []) (Release (task_of 0) (res 66)) → ⊥
+releases_nothing :
+    IsLegal 9 (task_of 0) asks_and_gives (enq 0 RetNone C00 ∷ deq 0 C00 ∷ []) (Release (task_of 0) (res 66))
+    → ⊥
 releases_nothing l = let e : None ≡ Some (AsksRelease (res 66)) = l.next in absurd (cc)
 
 -- an end code is the last of a task's lines
-goes_on_ended : IsLegal 9 (task_of 0) (lines.Deq (res 66) false ∷ lines.Enq (res 66) E RetNone None ∷ []) (deq 0 (End 130) ∷ []) (enq 0 RetNone C00) → ⊥
+goes_on_ended :
+    IsLegal 9 (task_of 0) (lines.Deq (res 66) false ∷ lines.Enq (res 66) E RetNone None ∷ []) (deq 0 (End 130) ∷ [])
+    (enq 0 RetNone C00)
+    → ⊥
 goes_on_ended l = let e : None ≡ Some (AsksEnq (res 66) E RetNone) = l.next in absurd (cc)
 
 -- ---- behind another's
@@ -114,7 +120,12 @@ deck = record {
   limit = 9;
   lists = record { incl = no_entries which.Incl; excl = no_entries which.Excl; con = no_entries which.Con };
   systems = record { name = 65 ∷ []; desk = []; jobs = [] }
-      ∷ record { name = 66 ∷ []; desk = record { at = 0; order = orders.Star } ∷ record { at = 0; order = orders.Vary (system 0) } ∷ []; jobs = [] } ∷ [];
+      ∷ record {
+        name = 66 ∷ [];
+        desk = record { at = 0; order = orders.Star } ∷ record { at = 0; order = orders.Vary (system 0) } ∷ [];
+        jobs = [];
+      }
+      ∷ [];
   events = [];
 }
 
@@ -135,5 +146,6 @@ without_command : MayRemove deck [] (system 0) (system 1) → ⊥
 without_command m = let e : false ≡ true = m.commanded in absurd (cc)
 
 -- a task of a removed system asks nothing any more
-asks_removed : IsLegal 9 (task_of 0) asks_and_gives (enq 0 RetNone C00 ∷ Remove (system 1) (system 0) ∷ []) (deq 0 C00) → ⊥
+asks_removed : IsLegal 9 (task_of 0) asks_and_gives (enq 0 RetNone C00 ∷ Remove (system 1) (system 0) ∷ []) (deq 0 C00)
+    → ⊥
 asks_removed l = let e : true ≡ false = l.live in absurd (cc)

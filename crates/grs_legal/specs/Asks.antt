@@ -1,5 +1,6 @@
 -- What the lines of a task ask.
-use Rattle.std.specs.Prelude.{ℕ, suc, Bool, true, false, if◌then◌else◌, ◌==◌, List, [], ◌∷◌, ◌++◌, length, map, cond, Option, Some, None, slice_get}
+use Rattle.std.specs.Prelude.{ℕ, suc, Bool, true, false, if◌then◌else◌, ◌==◌, List, [], ◌∷◌, ◌++◌, length, map, cond}
+use Rattle.std.specs.Prelude.{Option, Some, None, slice_get}
 use Rattle.grs_base.specs.declared.resource.Ctl.{Ctl}
 use Rattle.grs_base.specs.declared.resource.Ret.{Ret}
 use Rattle.grs_base.specs.declared.resource.Res.{Res}
@@ -40,7 +41,8 @@ reserved found ctl unit ret = Enq found.res ctl ret (if found.hardware then Some
 abbrev pub meaning_of : Lists → TaskId → Line → Meaning
 meaning_of lists t (lines.Enq [] ret rnl) = Nothing
 meaning_of lists t (lines.Enq (i ∷ more) ret rnl) = Enq (named lists t i.scope i.q i.r rnl) i.ctl ret None
-meaning_of lists t (lines.Reserve q r ctl unit ret rnl) = reserved (resolved lists true Systems rnl t.system t.job q r) ctl unit ret
+meaning_of lists t (lines.Reserve q r ctl unit ret rnl) =
+    reserved (resolved lists true Systems rnl t.system t.job q r) ctl unit ret
 meaning_of lists t (lines.Deq q r scope have unit rnl) = Deq (named lists t scope q r rnl) have
 meaning_of lists t (lines.Wait q r scope rnl) = Wait (named lists t scope q r rnl)
 meaning_of lists t (lines.Gqscan global filter) = Nothing

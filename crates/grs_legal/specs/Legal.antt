@@ -1,5 +1,6 @@
 -- Which histories are legal.
-use Rattle.std.specs.Prelude.{◌≡◌, ◌≢◌, ◌==◌, ℕ, zero, suc, Bool, true, false, not, ◌&&◌, ◌||◌, nat_lt, ◌-◌, List, [], ◌∷◌, ◌++◌, length, filter, cond, Option, Some, None, slice_get, is_some, IfSome}
+use Rattle.std.specs.Prelude.{◌≡◌, ◌≢◌, ◌==◌, ℕ, zero, suc, Bool, true, false, not, ◌&&◌, ◌||◌, nat_lt, ◌-◌, List, []}
+use Rattle.std.specs.Prelude.{◌∷◌, ◌++◌, length, filter, cond, Option, Some, None, slice_get, is_some, IfSome}
 use Rattle.std.specs.List.{list_all, list_any}
 use Rattle.grs_base.specs.Lists.{owns, has_task}
 use Rattle.grs_base.specs.State.{State, list_of, queued_by}
@@ -78,7 +79,8 @@ next_ask limit t ls hist =
 abbrev pub passed_behind : ℕ → List Meaning → List Meaning
 passed_behind n [] = []
 passed_behind zero (l ∷ ls) = cond (is_silent l) (l ∷ passed_behind zero ls) []
-passed_behind (suc n) (l ∷ ls) = cond (nat_lt (suc n) (length (asks_in l))) [] (passed_behind (suc n - length (asks_in l)) ls)
+passed_behind (suc n) (l ∷ ls) =
+    cond (nat_lt (suc n) (length (asks_in l))) [] (passed_behind (suc n - length (asks_in l)) ls)
 
 -- the lines that ask nothing which a task passes before its next entry: none after an end
 abbrev pub passed_lines : TaskId → List Meaning → List HistEntry → List Meaning

@@ -1,5 +1,6 @@
 -- A call that is said to change the medium changes it.
-use Rattle.std.proofs.Common.{◌≡◌, ℕ, ◌+◌, ◌<◌, ◌≤◌, Bool, true, false, cond, not, ◌&&◌, ◌||◌, List, [], ◌∷◌, ◌++◌, length, drop, refl, ap, sym, ◌∙◌, subst, arith}
+use Rattle.std.proofs.Common.{◌≡◌, ℕ, ◌+◌, ◌<◌, ◌≤◌, Bool, true, false, cond, not, ◌&&◌, ◌||◌, List, [], ◌∷◌, ◌++◌}
+use Rattle.std.proofs.Common.{length, drop, refl, ap, sym, ◌∙◌, subst, arith}
 use Rattle.std.specs.Prelude.{Option, Some, None, is_none, map, filter, ◌==◌, nat_lt, slice_set}
 use Rattle.std.specs.List.{list_any}
 use Rattle.std.proofs.lemmas.Bool.{and_parts, true≢false}
@@ -18,15 +19,19 @@ use Rattle.grs_wire.specs.Masks.{has, only}
 use Rattle.grs_wire.proofs.MaskLaws.{has-without_same, has-with_same}
 use Rattle.lock_structure.specs.Words.{word_at, route_by, route, submitted_words}
 use Rattle.lock_structure.proofs.WordLaws.{submitted-unmanaged, left_word-changed}
-use Rattle.rsa_message.specs.Message.{Message, stands_at, or_else, first_after, first_number, any_unseen, left_by, cleared, stamped, is_due, moves, turned_open, turned_closed, turned, turn_changes}
+use Rattle.rsa_message.specs.Message.{Message, stands_at, or_else, first_after, first_number, any_unseen, left_by}
+use Rattle.rsa_message.specs.Message.{cleared, stamped, is_due, moves, turned_open, turned_closed, turned, turn_changes}
 use Rattle.grs_wire.specs.Unseen.{is_unseen, unseen}
-use Rattle.grs_medium.specs.Apply.{turn_row, switch_ring, switch_row, joined, submit_on, submit_row, take_from, take_row, mail_row, leave_row, purge_row, rest_row, row, row_changes, apply, changes, is_live, without_system}
+use Rattle.grs_medium.specs.Apply.{turn_row, switch_ring, switch_row, joined, submit_on, submit_row, take_from}
+use Rattle.grs_medium.specs.Apply.{take_row, mail_row, leave_row, purge_row, rest_row, row, row_changes, apply, changes}
+use Rattle.grs_medium.specs.Apply.{is_live, without_system}
 use Rattle.grs_medium.specs.Inboxes.{inbox_of, is_empty, with_mail, without_first}
 use Rattle.grs_medium.specs.Medium.{MediumState, systems_of, awake, inbox, live, word}
 use Rattle.grs_medium.specs.Changes.{ChangesWhatItSays, NamesWhatIsThere, WaitsForItsHolder}
 
 -- a call that isn't refused by the checks is its row
-behind_checks : {M : Type 0} (b k r : Bool) (m : M) (x : Reply × M) (y z : Reply) → (r ≡ true → ¬ (x.1 ≡ m)) → (not b && k && r) ≡ true → ¬ ((cond b (y, m) (cond k x (z, m))).1 ≡ m)
+behind_checks : {M : Type 0} (b k r : Bool) (m : M) (x : Reply × M) (y z : Reply) → (r ≡ true → ¬ (x.1 ≡ m))
+    → (not b && k && r) ≡ true → ¬ ((cond b (y, m) (cond k x (z, m))).1 ≡ m)
 behind_checks true k r m x y z moves h = absurd cc
 behind_checks false true r m x y z moves h = moves h
 behind_checks false false r m x y z moves h = absurd cc
@@ -37,7 +42,8 @@ is_false false e = refl
 
 -- a test tells two values apart
 apart_by : {A : Type 0} (test : A → Bool) (x y : A) → test x ≡ true → test y ≡ false → ¬ (x ≡ y)
-apart_by test x y holds fails e = let same : test x ≡ test y = ap test e in let clash : true ≡ false = sym holds ∙ same ∙ fails in true≢false clash
+apart_by test x y holds fails e =
+    let same : test x ≡ test y = ap test e in let clash : true ≡ false = sym holds ∙ same ∙ fails in true≢false clash
 
 -- nothing is unseen by s once s has left all masks
 pub unseen-cleared : (s : SysId) (es : List RingEntry) → any_unseen s (cleared s es) ≡ false
@@ -46,33 +52,45 @@ unseen-cleared s [] = refl
 unseen-cleared s (e ∷ es) = by_mask (e.mask == only s.0) (unseen-cleared s es)
   where
     by_mask : (b : Bool) → list_any (is_unseen s) (map (left_by s) (filter (λ x. not (x.mask == only s.0)) es)) ≡ false
-        → list_any (is_unseen s) (map (left_by s) (cond (not b) (e ∷ filter (λ x. not (x.mask == only s.0)) es) (filter (λ x. not (x.mask == only s.0)) es))) ≡ false
+        → list_any (is_unseen s) (map (left_by s)
+        (cond (not b) (e ∷ filter (λ x. not (x.mask == only s.0)) es) (filter (λ x. not (x.mask == only s.0)) es)))
+        ≡ false
     by_mask true none = none
     by_mask false none = rw (has-without_same e.mask s.0) none
 
 -- a Turn at the open message that is said to move something
 open_moves : (m : Message) (c : SysId) (out : List Req) (lives rest : ℕ) → stands_at m.holder c ≡ true
-    → (moves m c (length out) || not (stands_at (Some (or_else (first_after m.systems c (is_due m.entries lives rest)) c)) c)) ≡ true → ¬ (turned_open m c out lives rest ≡ m)
+    → (moves m c (length out)
+    || not (stands_at (Some (or_else (first_after m.systems c (is_due m.entries lives rest)) c)) c))
+    ≡ true
+    → ¬ (turned_open m c out lives rest ≡ m)
 unfolding stamped
-open_moves m c (r ∷ rs) lives rest here h e = let same : m.next + length (r ∷ rs) ≡ m.next = ap (λ (x : Message). x.next) e in absurd (omega arith)
+open_moves m c (r ∷ rs) lives rest here h e =
+    let same : m.next + length (r ∷ rs) ≡ m.next = ap (λ (x : Message). x.next) e in absurd (omega arith)
 open_moves m c [] lives rest here h e = by_unseen (any_unseen c m.entries) refl
   where
     entries : cleared c m.entries ≡ m.entries
     entries = sym (append-nil (cleared c m.entries)) ∙ ap (λ (x : Message). x.entries) e
 
     by_unseen : (b : Bool) → any_unseen c m.entries ≡ b → ⊥
-    by_unseen true u = apart_by (any_unseen c) m.entries (cleared c m.entries) u (unseen-cleared c m.entries) (sym entries)
+    by_unseen true u =
+        apart_by (any_unseen c) m.entries (cleared c m.entries) u (unseen-cleared c m.entries) (sym entries)
     by_unseen false u =
-        let asked : not (stands_at (Some (or_else (first_after m.systems c (is_due m.entries lives rest)) c)) c) ≡ true = rw u at h in
+        let asked : not (stands_at (Some (or_else (first_after m.systems c (is_due m.entries lives rest)) c)) c)
+        ≡ true =
+        rw u at h in
         let moved = rw u at (ap (λ (x : Message). x.holder) e) in
         let holder : Some (or_else (first_after m.systems c (is_due m.entries lives rest)) c) ≡ m.holder =
-        subst (λ (es : List RingEntry). Some (or_else (first_after m.systems c (is_due es lives rest)) c) ≡ m.holder) (append-nil (cleared c m.entries) ∙ entries) moved in
+        subst (λ (es : List RingEntry). Some (or_else (first_after m.systems c (is_due es lives rest)) c) ≡ m.holder)
+        (append-nil (cleared c m.entries) ∙ entries) moved in
         apart_by (λ (x : Option SysId). stands_at x c) m.holder _ here (is_false _ asked) (sym holder)
 
 closed_moves : (m : Message) (c : SysId) → has m.still c.0 ≡ true → ¬ (turned_closed m c ≡ m)
-closed_moves m c waits e = apart_by (λ (x : Message). has x.still c.0) m (turned_closed m c) waits (has-without_same m.still c.0) (sym e)
+closed_moves m c waits e =
+    apart_by (λ (x : Message). has x.still c.0) m (turned_closed m c) waits (has-without_same m.still c.0) (sym e)
 
-turned_moves : (m : Message) (c : SysId) (out : List Req) (lives rest : ℕ) → (m.closed ≡ true → (s : SysId) → stands_at m.holder s ≡ true → has m.still s.0 ≡ true)
+turned_moves : (m : Message) (c : SysId) (out : List Req) (lives rest : ℕ)
+    → (m.closed ≡ true → (s : SysId) → stands_at m.holder s ≡ true → has m.still s.0 ≡ true)
     → turn_changes m c (length out) lives rest ≡ true → ¬ (turned m c out lives rest ≡ m)
 unfolding turned turn_changes
 turned_moves m c out lives rest waits h =
@@ -80,30 +98,38 @@ turned_moves m c out lives rest waits h =
     rw parts.0 (by_closed m.closed refl parts.0 parts.1)
   where
     by_closed : (b : Bool) → m.closed ≡ b → stands_at m.holder c ≡ true
-        → (m.closed || moves m c (length out) || not (stands_at (Some (or_else (first_after m.systems c (is_due m.entries lives rest)) c)) c)) ≡ true
+        → (m.closed || moves m c (length out)
+        || not (stands_at (Some (or_else (first_after m.systems c (is_due m.entries lives rest)) c)) c))
+        ≡ true
         → ¬ (cond b (turned_closed m c) (turned_open m c out lives rest) ≡ m)
     by_closed true closed here g = closed_moves m c (waits closed c here)
     by_closed false closed here g = open_moves m c out lives rest here (rw closed at g)
 
-purge_moves : {M : Type 0} (s l : Bool) (m : M) (x : Reply × M) (y z : Reply) → (not s && l) ≡ true → ¬ (x.1 ≡ m) → ¬ ((cond s (y, m) (cond l x (z, m))).1 ≡ m)
+purge_moves : {M : Type 0} (s l : Bool) (m : M) (x : Reply × M) (y z : Reply) → (not s && l) ≡ true → ¬ (x.1 ≡ m)
+    → ¬ ((cond s (y, m) (cond l x (z, m))).1 ≡ m)
 purge_moves true l m x y z h moves = absurd cc
 purge_moves false true m x y z h moves = moves
 purge_moves false false m x y z h moves = absurd cc
 
 -- a Switch that changes the mode
-switch_moves : (m : MediumState) (c : SysId) (words : List ℕ) (star : Bool) → m.star ≡ star → (o : Option ℕ) → (not star && is_none o) ≡ true → ¬ ((cond star (Already, m) (switch_ring m c words o)).1 ≡ m)
+switch_moves : (m : MediumState) (c : SysId) (words : List ℕ) (star : Bool) → m.star ≡ star → (o : Option ℕ)
+    → (not star && is_none o) ≡ true → ¬ ((cond star (Already, m) (switch_ring m c words o)).1 ≡ m)
 switch_moves m c words true is o h = absurd cc
 switch_moves m c words false is (Some n) h = absurd cc
 switch_moves m c words false is None h = λ e. apart_by (λ (x : MediumState). x.star) _ m refl is e
 
 -- a word in place of another
-word_moves : (words : List ℕ) (entry w : ℕ) → entry < length words → ¬ (w ≡ word_at words entry) → ¬ (slice_set words entry w ≡ words)
-word_moves words entry w inside other e = other (sym (get_or-set_same words entry w 0 inside) ∙ ap (λ (x : List ℕ). word_at x entry) e)
+word_moves : (words : List ℕ) (entry w : ℕ) → entry < length words → ¬ (w ≡ word_at words entry)
+    → ¬ (slice_set words entry w ≡ words)
+word_moves words entry w inside other e =
+    other (sym (get_or-set_same words entry w 0 inside) ∙ ap (λ (x : List ℕ). word_at x entry) e)
 
 -- a mail more, and a mail less
 mail_moves : (boxes : List (List Mail)) (s : ℕ) (mail : Mail) → s < length boxes → ¬ (with_mail boxes s mail ≡ boxes)
 mail_moves boxes s mail inside e =
-    let got : inbox_of boxes s ++ mail ∷ [] ≡ inbox_of boxes s = sym (get_or-set_same boxes s (inbox_of boxes s ++ mail ∷ []) [] inside) ∙ ap (λ (x : List (List Mail)). inbox_of x s) e in
+    let got : inbox_of boxes s ++ mail ∷ [] ≡ inbox_of boxes s =
+    sym (get_or-set_same boxes s (inbox_of boxes s ++ mail ∷ []) [] inside)
+    ∙ ap (λ (x : List (List Mail)). inbox_of x s) e in
     let same : length (inbox_of boxes s ++ mail ∷ []) ≡ length (inbox_of boxes s) = ap length got in
     absurd (omega (arith, length_push (inbox_of boxes s) mail))
 
@@ -112,45 +138,71 @@ taking_moves boxes s filled e = by_place (dec_lt s (length boxes))
   where
     by_place : Dec (s < length boxes) → ⊥
     by_place (yes inside) =
-        let got : drop 1 (inbox_of boxes s) ≡ inbox_of boxes s = sym (get_or-set_same boxes s (drop 1 (inbox_of boxes s)) [] inside) ∙ ap (λ (x : List (List Mail)). inbox_of x s) e in
+        let got : drop 1 (inbox_of boxes s) ≡ inbox_of boxes s =
+        sym (get_or-set_same boxes s (drop 1 (inbox_of boxes s)) [] inside)
+        ∙ ap (λ (x : List (List Mail)). inbox_of x s) e in
         let same : length (drop 1 (inbox_of boxes s)) ≡ length (inbox_of boxes s) = ap length got in
         absurd (omega (arith, length-drop 1 (inbox_of boxes s)))
-    by_place (no outside) = let none : length (inbox_of boxes s) ≡ 0 = ap length (get_or_past boxes s [] (omega arith)) in absurd (omega arith)
+    by_place (no outside) =
+        let none : length (inbox_of boxes s) ≡ 0 = ap length (get_or_past boxes s [] (omega arith)) in
+        absurd (omega arith)
 
 -- a Submit of another than the manager
 unless : {M : Type 0} (b : Bool) (m x : M) → b ≡ false → cond b m x ≡ x
 unless true m x e = absurd cc
 unless false m x e = refl
 
-submit_moves : (m : MediumState) (c : SysId) (entry : ℕ) (req : Req) (o : Option SysId) → manager (word m entry) ≡ o → entry < length m.words → manager_number o ≤ length m.inboxes → not (is_manager o c) ≡ true
-    → joined m c entry ≡ record m { words = submitted_words m.words entry c; rest = awake m c } → ¬ ((submit_on m c entry req (route_by o c)).1 ≡ m)
+submit_moves : (m : MediumState) (c : SysId) (entry : ℕ) (req : Req) (o : Option SysId) → manager (word m entry) ≡ o
+    → entry < length m.words → manager_number o ≤ length m.inboxes → not (is_manager o c) ≡ true
+    → joined m c entry ≡ record m { words = submitted_words m.words entry c; rest = awake m c }
+    → ¬ ((submit_on m c entry req (route_by o c)).1 ≡ m)
 submit_moves m c entry req None is inside there h joins =
-    λ e. word_moves m.words entry (submitted (word m entry) c) inside (submitted-unmanaged (word m entry) c is) (ap (λ (x : MediumState). x.words) (sym joins ∙ e))
-submit_moves m c entry req (Some s) is inside there h joins = rw (is_false (s.0 == c.0) h) (λ e. mail_moves m.inboxes s.0 _ (omega arith) (ap (λ (x : MediumState). x.inboxes) e))
+    λ e.
+    word_moves m.words entry (submitted (word m entry) c) inside (submitted-unmanaged (word m entry) c is)
+    (ap (λ (x : MediumState). x.words) (sym joins ∙ e))
+submit_moves m c entry req (Some s) is inside there h joins =
+    rw (is_false (s.0 == c.0) h) (λ e. mail_moves m.inboxes s.0 _ (omega arith) (ap (λ (x : MediumState). x.inboxes) e))
 
-take_moves : (m : MediumState) (c : SysId) (mails : List Mail) → inbox m c.0 ≡ mails → not (is_empty mails) ≡ true → ¬ ((take_from m c mails).1 ≡ m)
+take_moves : (m : MediumState) (c : SysId) (mails : List Mail) → inbox m c.0 ≡ mails → not (is_empty mails) ≡ true
+    → ¬ ((take_from m c mails).1 ≡ m)
 take_moves m c [] is h = absurd cc
-take_moves m c (mail ∷ rest) is h = λ e. let filled : length (inbox m c.0) ≡ length (mail ∷ rest) = ap length is in taking_moves m.inboxes c.0 (omega arith) (ap (λ (x : MediumState). x.inboxes) e)
+take_moves m c (mail ∷ rest) is h = λ e. let filled : length (inbox m c.0) ≡ length (mail ∷ rest) = ap length is in
+    taking_moves m.inboxes c.0 (omega arith) (ap (λ (x : MediumState). x.inboxes) e)
 
-leave_moves : (m : MediumState) (c : SysId) (entry : ℕ) → entry < length m.words → leave_changes (word m entry) c ≡ true → ¬ ((leave_row m c entry).1 ≡ m)
+leave_moves : (m : MediumState) (c : SysId) (entry : ℕ) → entry < length m.words → leave_changes (word m entry) c ≡ true
+    → ¬ ((leave_row m c entry).1 ≡ m)
 unfolding leave_row
-leave_moves m c entry inside h = rw h (λ e. word_moves m.words entry (left_word (word m entry) c) inside (left_word-changed (word m entry) c h) (ap (λ (x : MediumState). x.words) e))
+leave_moves m c entry inside h =
+    rw h (λ e.
+    word_moves m.words entry (left_word (word m entry) c) inside (left_word-changed (word m entry) c h)
+    (ap (λ (x : MediumState). x.words) e))
 
-row_moves : (m : MediumState) (c : SysId) (act : Act) → NamesWhatIsThere m act → WaitsForItsHolder m → row_changes m c act ≡ true → ¬ ((row m c act).1 ≡ m)
+row_moves : (m : MediumState) (c : SysId) (act : Act) → NamesWhatIsThere m act → WaitsForItsHolder m
+    → row_changes m c act ≡ true → ¬ ((row m c act).1 ≡ m)
 unfolding row row_changes turn_row switch_row submit_row route take_row mail_row purge_row rest_row
-row_moves m c (Turn out) there waits h = λ e. turned_moves m.message c out (live m) m.rest waits h (ap (λ (x : MediumState). x.message) e)
+row_moves m c (Turn out) there waits
+    h = λ e. turned_moves m.message c out (live m) m.rest waits h (ap (λ (x : MediumState). x.message) e)
 row_moves m c (Purge t) there waits h =
     let living = and_parts (not m.star) (is_live m t) h in
     let present = and_parts (nat_lt t.0 (systems_of m)) (not (has m.removed t.0)) living.1 in
-    purge_moves m.star (is_live m t) m _ _ _ h (λ e. apart_by (λ (x : MediumState). has x.removed t.0) (without_system m c t) m (has-with_same m.removed t.0) (is_false (has m.removed t.0) present.1) e)
-row_moves m c Rest there waits h = λ e. apart_by (λ (x : MediumState). has x.rest c.0) _ m (has-with_same m.rest c.0) (is_false (has m.rest c.0) h) e
-row_moves m c (Switch words) there waits h = switch_moves m c words m.star refl (first_number (unseen c m.message.entries)) h
-row_moves m c (Submit entry req) there waits h = submit_moves m c entry req (manager (word m entry)) refl there.0 there.1 h (unless _ m _ (is_false _ h))
+    purge_moves m.star (is_live m t) m _ _ _ h (λ e.
+    apart_by (λ (x : MediumState). has x.removed t.0) (without_system m c t) m (has-with_same m.removed t.0)
+    (is_false (has m.removed t.0) present.1) e)
+row_moves m c Rest there waits h = λ e.
+    apart_by (λ (x : MediumState). has x.rest c.0) _ m (has-with_same m.rest c.0) (is_false (has m.rest c.0) h) e
+row_moves m c (Switch words) there waits h =
+    switch_moves m c words m.star refl (first_number (unseen c m.message.entries)) h
+row_moves m c (Submit entry req) there waits h =
+    submit_moves m c entry req (manager (word m entry)) refl there.0 there.1 h (unless _ m _ (is_false _ h))
 row_moves m c Take there waits h = take_moves m c (inbox m c.0) refl h
-row_moves m c (Settle to mail) there waits h = λ e. mail_moves m.inboxes to.0 mail there (ap (λ (x : MediumState). x.inboxes) e)
-row_moves m c (Tell to mail) there waits h = λ e. mail_moves m.inboxes to.0 mail there (ap (λ (x : MediumState). x.inboxes) e)
+row_moves m c (Settle to mail) there waits
+    h = λ e. mail_moves m.inboxes to.0 mail there (ap (λ (x : MediumState). x.inboxes) e)
+row_moves m c (Tell to mail) there waits
+    h = λ e. mail_moves m.inboxes to.0 mail there (ap (λ (x : MediumState). x.inboxes) e)
 row_moves m c (Leave entry) there waits h = leave_moves m c entry there h
 
 pub changes_what_it_says : ChangesWhatItSays
 unfolding apply changes
-changes_what_it_says m c call there waits h = behind_checks (has m.removed c.0) (call.known == m.removed) (row_changes m c call.act) m (row m c call.act) _ _ (row_moves m c call.act there waits) h
+changes_what_it_says m c call there waits h =
+    behind_checks (has m.removed c.0) (call.known == m.removed) (row_changes m c call.act) m (row m c call.act) _ _
+    (row_moves m c call.act there waits) h

@@ -1,5 +1,5 @@
--- There are as many lock words and systems as before, whatever a call does that the medium may be asked. So what the medium can be asked it can be
--- asked behind any other call as well.
+-- There are as many lock words and systems as before, whatever a call does that the medium may be asked. So what the
+-- medium can be asked it can be asked behind any other call as well.
 use Rattle.std.proofs.Common.{◌≡◌, ◌<◌, ℕ, Bool, true, false, cond, List, [], ◌∷◌, length, refl, ap, sym, ◌∙◌, subst}
 use Rattle.std.specs.Prelude.{◌==◌, Option, Some, None}
 use Rattle.std.specs.List.{list_all}
@@ -19,7 +19,9 @@ use Rattle.lock_structure.specs.declared.word.Route.{Route}
 use Rattle.lock_structure.specs.declared.word.Route.TheVariants as routes
 use Rattle.rsa_message.specs.Message.{first_number, stands_at, closed_by, turned_closed, turned_open, turned, dropped}
 use Rattle.grs_wire.specs.Unseen.{unseen}
-use Rattle.grs_medium.specs.Apply.{turn_row, switch_ring, switch_row, manages, joined, submit_on, submit_row, take_from, take_row, mail_row, leave_row, is_live, without_system, purge_row, rest_row, row, apply, medium_after, ActFits, MayCall}
+use Rattle.grs_medium.specs.Apply.{turn_row, switch_ring, switch_row, manages, joined, submit_on, submit_row, take_from}
+use Rattle.grs_medium.specs.Apply.{take_row, mail_row, leave_row, is_live, without_system, purge_row, rest_row, row}
+use Rattle.grs_medium.specs.Apply.{apply, medium_after, ActFits, MayCall}
 use Rattle.grs_medium.specs.Medium.{MediumState, systems_of, live, inbox, word}
 
 -- as many lock words, and as many systems
@@ -34,12 +36,15 @@ turns : (m : MediumState) (c : SysId) (out : List Req) → Keeps m (turn_row m c
 unfolding turn_row turned
 turns m c out = (refl, go (stands_at m.message.holder c) m.message.closed)
   where
-    go : (b d : Bool) → (cond b (cond d (turned_closed m.message c) (turned_open m.message c out (live m) m.rest)) m.message).systems ≡ m.message.systems
+    go : (b d : Bool)
+        → (cond b (cond d (turned_closed m.message c) (turned_open m.message c out (live m) m.rest)) m.message).systems
+        ≡ m.message.systems
     go true true = refl
     go true false = refl
     go false d = refl
 
-switches : (m : MediumState) (c : SysId) (words : List ℕ) → length words ≡ length m.words → Keeps m (switch_row m c words).1
+switches : (m : MediumState) (c : SysId) (words : List ℕ) → length words ≡ length m.words
+    → Keeps m (switch_row m c words).1
 unfolding switch_row closed_by
 switches m c words same = go m.star (first_number (unseen c m.message.entries))
   where
@@ -75,7 +80,8 @@ purges : (m : MediumState) (c t : SysId) → Keeps m (purge_row m c t).1
 unfolding purge_row dropped
 purges m c t = go m.star (is_live m t)
   where
-    go : (b d : Bool) → Keeps m (cond {A = Reply × MediumState} b (InStar, m) (cond d (Purged, without_system m c t) (NoSuch, m))).1
+    go : (b d : Bool)
+        → Keeps m (cond {A = Reply × MediumState} b (InStar, m) (cond d (Purged, without_system m c t) (NoSuch, m))).1
     go true d = (refl, refl)
     go false true = (refl, refl)
     go false false = (refl, refl)
@@ -96,7 +102,8 @@ keeps_both : (m : MediumState) (c : SysId) (call : Call) → ActFits m c call.ac
 unfolding apply
 keeps_both m c call h = go (has m.removed c.0) (call.known == m.removed)
   where
-    go : (b d : Bool) → Keeps m (cond {A = Reply × MediumState} b (Removed, m) (cond d (row m c call.act) (Stale m.removed, m))).1
+    go : (b d : Bool)
+        → Keeps m (cond {A = Reply × MediumState} b (Removed, m) (cond d (row m c call.act) (Stale m.removed, m))).1
     go true d = (refl, refl)
     go false true = rows m c call.act h
     go false false = (refl, refl)
@@ -113,15 +120,20 @@ fits_also m after c (acts.Leave e) k h = subst (λ n. e < n) (sym k.0) h
 fits_also m after c (acts.Purge t) k h = h
 fits_also m after c acts.Rest k h = tt
 
-pub may_call_behind : (m : MediumState) (c : SysId) (call : Call) (d : SysId) (other : Call) → ActFits m c call.act → MayCall m d other → MayCall (medium_after m c call) d other
-may_call_behind m c call d other h may = let k = keeps_both m c call h in (subst (λ n. d.0 < n) (sym k.1) may.0, fits_also m (medium_after m c call) d other.act k may.1)
+pub may_call_behind : (m : MediumState) (c : SysId) (call : Call) (d : SysId) (other : Call) → ActFits m c call.act
+    → MayCall m d other → MayCall (medium_after m c call) d other
+may_call_behind m c call d other h may =
+    let k = keeps_both m c call h in
+    (subst (λ n. d.0 < n) (sym k.1) may.0, fits_also m (medium_after m c call) d other.act k may.1)
 
 -- the lock words alone
-pub keeps_words : (m : MediumState) (c : SysId) (call : Call) → ActFits m c call.act → length (medium_after m c call).words ≡ length m.words
+pub keeps_words : (m : MediumState) (c : SysId) (call : Call) → ActFits m c call.act
+    → length (medium_after m c call).words ≡ length m.words
 keeps_words m c call h = (keeps_both m c call h).0
 
 -- and the systems
-pub keeps_systems : (m : MediumState) (c : SysId) (call : Call) → ActFits m c call.act → systems_of (medium_after m c call) ≡ systems_of m
+pub keeps_systems : (m : MediumState) (c : SysId) (call : Call) → ActFits m c call.act
+    → systems_of (medium_after m c call) ≡ systems_of m
 keeps_systems m c call h = (keeps_both m c call h).1
 
 pub ruleset sizes = (keeps_words)

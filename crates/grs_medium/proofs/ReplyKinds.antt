@@ -10,14 +10,17 @@ use Rattle.grs_wire.specs.declared.medium.Call.{Call}
 use Rattle.grs_wire.specs.declared.medium.Mail.{Mail}
 use Rattle.grs_wire.specs.declared.medium.RingEntry.{RingEntry}
 use Rattle.grs_wire.specs.declared.medium.Reply.{Reply}
-use Rattle.grs_wire.specs.declared.medium.Reply.TheVariants.{Turned, NotYours, Already, Sole, Sent, Taken, Empty, Settled, Told, Left, Kept, Purged, NoSuch, InStar, Resting, Over, Stale, Removed}
+use Rattle.grs_wire.specs.declared.medium.Reply.TheVariants.{Turned, NotYours, Already, Sole, Sent, Taken, Empty}
+use Rattle.grs_wire.specs.declared.medium.Reply.TheVariants.{Settled, Told, Left, Kept, Purged, NoSuch, InStar, Resting}
+use Rattle.grs_wire.specs.declared.medium.Reply.TheVariants.{Over, Stale, Removed}
 use Rattle.grs_wire.specs.LockWords.{is_kept, interest, leave_reply}
 use Rattle.lock_structure.specs.Words.{route}
 use Rattle.lock_structure.specs.declared.word.Route.{Route}
 use Rattle.lock_structure.specs.declared.word.Route.TheVariants as routes
 use Rattle.rsa_message.specs.Message.{first_number, turn_reply, stands_at}
 use Rattle.grs_wire.specs.Unseen.{unseen}
-use Rattle.grs_medium.specs.Apply.{turn_row, switch_ring, switch_row, submit_on, submit_row, take_from, take_row, mail_row, leave_row, is_live, purge_row, resting, rest_row, row, apply, reply_to}
+use Rattle.grs_medium.specs.Apply.{turn_row, switch_ring, switch_row, submit_on, submit_row, take_from, take_row}
+use Rattle.grs_medium.specs.Apply.{mail_row, leave_row, is_live, purge_row, resting, rest_row, row, apply, reply_to}
 use Rattle.grs_medium.specs.Medium.{MediumState, inbox, word, all_rest, medium_at_end}
 use Rattle.grs_medium.specs.Causes.{is_removed, is_heard}
 
@@ -58,7 +61,8 @@ turn_kind : (m : MediumState) (c : SysId) (out : List Req) → kind (turn_row m 
 unfolding turn_row turn_reply
 turn_kind m c out = by_at (stands_at m.message.holder c) _ _ _ _
   where
-    by_at : (b : Bool) (entries : List RingEntry) (taken : ℕ) (closed : Bool) (at : Option SysId) → kind (cond b (Turned entries taken closed) (NotYours at)) ≡ 1
+    by_at : (b : Bool) (entries : List RingEntry) (taken : ℕ) (closed : Bool) (at : Option SysId)
+        → kind (cond b (Turned entries taken closed) (NotYours at)) ≡ 1
     by_at true entries taken closed at = refl
     by_at false entries taken closed at = refl
 
@@ -95,7 +99,8 @@ leave_kind m c entry = by_kept (is_kept (word m entry) c) (interest (word m entr
     by_kept true mask = refl
     by_kept false mask = refl
 
-purge_kind : {M : Type 0} (star living : Bool) (m gone : M) → kind (cond {A = Reply × M} star (InStar, m) (cond living (Purged, gone) (NoSuch, m))).0 ≡ 2
+purge_kind : {M : Type 0} (star living : Bool) (m gone : M)
+    → kind (cond {A = Reply × M} star (InStar, m) (cond living (Purged, gone) (NoSuch, m))).0 ≡ 2
 purge_kind true living m gone = refl
 purge_kind false true m gone = refl
 purge_kind false false m gone = refl
@@ -125,18 +130,27 @@ pub apart : (x y : Reply) → eqb (kind x) (kind y) ≡ false → ¬ (x ≡ y)
 apart x y h e = true≢false (sym (eq-eqb (kind x) (kind y) (ap kind e)) ∙ h)
 
 -- an act is never answered by a reply of another kind
-pub other_reply : (m : MediumState) (c : SysId) (act : Act) (reply : Reply) → eqb (kind_of act) (kind reply) ≡ false → ¬ ((row m c act).0 ≡ reply)
-other_reply m c act reply h e = true≢false (sym (eq-eqb (kind_of act) (kind reply) (sym (row_kind m c act) ∙ ap kind e)) ∙ h)
+pub other_reply : (m : MediumState) (c : SysId) (act : Act) (reply : Reply) → eqb (kind_of act) (kind reply) ≡ false
+    → ¬ ((row m c act).0 ≡ reply)
+other_reply m c act reply h e =
+    true≢false (sym (eq-eqb (kind_of act) (kind reply) (sym (row_kind m c act) ∙ ap kind e)) ∙ h)
 
-pub never : (m : MediumState) (c : SysId) (act : Act) (reply : Reply) → eqb (kind_of act) (kind reply) ≡ false → ((row m c act).0 ≡ reply) ↔ (false ≡ true)
+pub never : (m : MediumState) (c : SysId) (act : Act) (reply : Reply) → eqb (kind_of act) (kind reply) ≡ false
+    → ((row m c act).0 ≡ reply) ↔ (false ≡ true)
 never m c act reply h = neither (other_reply m c act reply h) false≢true
 
 -- a reply that isn't one of the two checks comes exactly where the call is heard and its row gives it
-behind_checks : {M C : Type 0} (b k : Bool) (m : M) (x : Reply × M) (set : ℕ) (reply : Reply) → ¬ (Removed ≡ reply) → ¬ (Stale set ≡ reply) → ((x.0 ≡ reply) ↔ C) → ((cond {A = Reply × M} b (Removed, m) (cond k x (Stale set, m))).0 ≡ reply) ↔ (((not b && not (not k)) ≡ true) × C)
+behind_checks : {M C : Type 0} (b k : Bool) (m : M) (x : Reply × M) (set : ℕ) (reply : Reply) → ¬ (Removed ≡ reply)
+    → ¬ (Stale set ≡ reply) → ((x.0 ≡ reply) ↔ C)
+    → ((cond {A = Reply × M} b (Removed, m) (cond k x (Stale set, m))).0 ≡ reply)
+    ↔ (((not b && not (not k)) ≡ true) × C)
 behind_checks true k m x set reply other stale is = neither other (λ p. false≢true p.0)
 behind_checks false true m x set reply other stale is = (λ e. (refl, is.0 e), λ p. is.1 p.1)
 behind_checks false false m x set reply other stale is = neither stale (λ p. false≢true p.0)
 
-pub heard : {C : Type 0} (m : MediumState) (c : SysId) (call : Call) (reply : Reply) → eqb 4 (kind reply) ≡ false → (((row m c call.act).0 ≡ reply) ↔ C) → (reply_to m c call ≡ reply) ↔ ((is_heard m c call ≡ true) × C)
+pub heard : {C : Type 0} (m : MediumState) (c : SysId) (call : Call) (reply : Reply) → eqb 4 (kind reply) ≡ false
+    → (((row m c call.act).0 ≡ reply) ↔ C) → (reply_to m c call ≡ reply) ↔ ((is_heard m c call ≡ true) × C)
 unfolding apply
-heard m c call reply h law = behind_checks (is_removed m c) (call.known == m.removed) m (row m c call.act) m.removed reply (apart Removed reply h) (apart (Stale m.removed) reply h) law
+heard m c call reply h law =
+    behind_checks (is_removed m c) (call.known == m.removed) m (row m c call.act) m.removed reply
+    (apart Removed reply h) (apart (Stale m.removed) reply h) law

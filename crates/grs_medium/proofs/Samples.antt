@@ -15,16 +15,20 @@ use Rattle.grs_wire.specs.declared.medium.Act.TheVariants.{Turn, Switch, Submit,
 use Rattle.grs_wire.specs.declared.medium.Call.{Call}
 use Rattle.grs_wire.specs.declared.medium.Mail.TheVariants as mails
 use Rattle.grs_wire.specs.declared.medium.Reply.{Reply}
-use Rattle.grs_wire.specs.declared.medium.Reply.TheVariants.{Turned, NotYours, Behind, Switched, Already, Sole, Sent, Taken, Empty, Settled, Told, Left, Kept, Purged, NoSuch, InStar, Resting, Over, Stale, Removed}
+use Rattle.grs_wire.specs.declared.medium.Reply.TheVariants.{Turned, NotYours, Behind, Switched, Already, Sole, Sent}
+use Rattle.grs_wire.specs.declared.medium.Reply.TheVariants.{Taken, Empty, Settled, Told, Left, Kept, Purged, NoSuch}
+use Rattle.grs_wire.specs.declared.medium.Reply.TheVariants.{InStar, Resting, Over, Stale, Removed}
 use Rattle.grs_wire.specs.declared.medium.RingEntry.{RingEntry}
 use Rattle.grs_wire.specs.declared.medium.RingBody.TheVariants as bodies
 use Rattle.grs_wire.specs.Masks.{has, without, with_also}
 use Rattle.grs_wire.specs.LockWords.{manager, lock_word, submitted, leave_reply, leave_changes, left_word}
 use Rattle.lock_structure.specs.Words.{route}
-use Rattle.rsa_message.specs.Message.{first_after, any_unseen, cleared, stamped, turn_reply, wakes, rest_after_turn, turned, turn_changes, dropped, closed_by}
+use Rattle.rsa_message.specs.Message.{first_after, any_unseen, cleared, stamped, turn_reply, wakes, rest_after_turn}
+use Rattle.rsa_message.specs.Message.{turned, turn_changes, dropped, closed_by}
 use Rattle.grs_wire.specs.Unseen.{unseen}
 use Rattle.grs_medium.specs.Medium.{MediumState, first_medium, medium_at_end}
-use Rattle.grs_medium.specs.Apply.{turn_row, switch_row, submit_row, take_row, mail_row, leave_row, purge_row, rest_row, row, apply, row_changes, changes}
+use Rattle.grs_medium.specs.Apply.{turn_row, switch_row, submit_row, take_row, mail_row, leave_row, purge_row, rest_row}
+use Rattle.grs_medium.specs.Apply.{row, apply, row_changes, changes}
 
 abbrev sys : ℕ → SysId
 sys n = record { 0 = n }
@@ -65,17 +69,26 @@ turn = Turn []
 -- two systems in a ring: a request goes round, both rest, and one is removed
 abbrev ring_calls : List Made
 ring_calls =
-    (0, 0, Turn (ask 0 ∷ [])) ∷ (0, 0, turn) ∷ (1, 0, turn) ∷ (0, 0, turn) ∷ (0, 0, Rest) ∷ (1, 0, Rest) ∷ (0, 0, Purge (sys 1))
+    (0, 0, Turn (ask 0 ∷ [])) ∷ (0, 0, turn) ∷ (1, 0, turn) ∷ (0, 0, turn) ∷ (0, 0, Rest) ∷ (1, 0, Rest)
+    ∷ (0, 0, Purge (sys 1))
     ∷ (1, 0, Rest) ∷ (0, 0, Rest) ∷ (0, 2, Purge (sys 1)) ∷ []
 
 ring :
     (answers (first_medium 2 1 false) ring_calls
-    ≡ (Turned [] 1 false, true) ∷ (NotYours (Some (sys 1)), false) ∷ (Turned (entry 1 0 3 ∷ []) 0 false, true) ∷ (Turned (entry 1 0 1 ∷ []) 0 false, true)
+    ≡ (Turned [] 1 false, true) ∷ (NotYours (Some (sys 1)), false) ∷ (Turned (entry 1 0 3 ∷ []) 0 false, true)
+    ∷ (Turned (entry 1 0 1 ∷ []) 0 false, true)
     ∷ (Resting, true) ∷ (Over, true) ∷ (Purged, true) ∷ (Removed, false) ∷ (Stale 2, false) ∷ (NoSuch, false) ∷ [])
     × (after_all (first_medium 2 1 false) ring_calls
     ≡ record {
       star = false;
-      message = record { systems = 2; holder = Some (sys 0); closed = false; still = 0; entries = removal 2 0 1 1 ∷ []; next = 3 };
+      message = record {
+        systems = 2;
+        holder = Some (sys 0);
+        closed = false;
+        still = 0;
+        entries = removal 2 0 1 1 ∷ [];
+        next = 3;
+      };
       words = 0 ∷ [];
       inboxes = [] ∷ [] ∷ [];
       removed = 2;
@@ -83,58 +96,84 @@ ring :
     })
     × (medium_at_end (after_all (first_medium 2 1 false) ring_calls) ≡ false)
     -- its last entry, and then nothing is left
-    × (answers (after_all (first_medium 2 1 false) ring_calls) ((0, 2, turn) ∷ []) ≡ (Turned (removal 2 0 1 1 ∷ []) 0 false, true) ∷ [])
+    × (answers (after_all (first_medium 2 1 false) ring_calls) ((0, 2, turn) ∷ [])
+    ≡ (Turned (removal 2 0 1 1 ∷ []) 0 false, true) ∷ [])
     × (medium_at_end (after_all (after_all (first_medium 2 1 false) ring_calls) ((0, 2, turn) ∷ [])) ≡ true)
     -- a Turn that gives and puts in nothing moves the message on; a second Rest changes nothing
     × (answers (first_medium 2 1 false) ((1, 0, turn) ∷ (0, 0, turn) ∷ (1, 0, Rest) ∷ (1, 0, Rest) ∷ [])
     ≡ (NotYours (Some (sys 0)), false) ∷ (Turned [] 0 false, true) ∷ (Resting, true) ∷ (Resting, false) ∷ [])
-unfolding has without with_also first_after unseen any_unseen cleared stamped turn_reply wakes rest_after_turn turned turn_changes dropped closed_by manager lock_word submitted leave_reply leave_changes left_word medium_at_end turn_row switch_row submit_row route take_row mail_row leave_row purge_row rest_row row apply row_changes changes
+unfolding has without with_also first_after unseen any_unseen cleared stamped turn_reply wakes rest_after_turn turned
+    turn_changes dropped closed_by manager lock_word submitted leave_reply leave_changes left_word medium_at_end
+    turn_row switch_row submit_row route take_row mail_row leave_row purge_row rest_row row apply row_changes changes
 ring = (refl, refl, refl, refl, refl, refl)
 
 -- Three systems in a ring. Where the third is removed, its calls are answered Removed, and the others are told.
 removal_of_three :
-    (answers (first_medium 3 64 false) ((0, 0, Purge (sys 2)) ∷ (2, 0, turn) ∷ (2, 4, Rest) ∷ (1, 0, turn) ∷ (1, 4, Purge (sys 2)) ∷ (1, 4, Purge (sys 3)) ∷ (1, 4, turn) ∷ [])
-    ≡ (Purged, true) ∷ (Removed, false) ∷ (Removed, false) ∷ (Stale 4, false) ∷ (NoSuch, false) ∷ (NoSuch, false) ∷ (NotYours (Some (sys 0)), false) ∷ [])
+    (answers (first_medium 3 64 false) ((0, 0, Purge (sys 2)) ∷ (2, 0, turn) ∷ (2, 4, Rest) ∷ (1, 0, turn)
+    ∷ (1, 4, Purge (sys 2)) ∷ (1, 4, Purge (sys 3)) ∷ (1, 4, turn) ∷ [])
+    ≡ (Purged, true) ∷ (Removed, false) ∷ (Removed, false) ∷ (Stale 4, false) ∷ (NoSuch, false) ∷ (NoSuch, false)
+    ∷ (NotYours (Some (sys 0)), false) ∷ [])
     -- The system at which the message stands is removed: the message goes to the next live one, the removed
     -- system leaves the masks, and an entry that waited for it alone goes.
     × (after_all (first_medium 3 1 false) ((0, 0, Turn (ask 0 ∷ [])) ∷ (1, 0, turn) ∷ (0, 0, Purge (sys 2)) ∷ [])
     ≡ record {
       star = false;
-      message = record { systems = 3; holder = Some (sys 0); closed = false; still = 0; entries = entry 1 0 1 ∷ removal 2 0 2 3 ∷ []; next = 3 };
+      message = record {
+        systems = 3;
+        holder = Some (sys 0);
+        closed = false;
+        still = 0;
+        entries = entry 1 0 1 ∷ removal 2 0 2 3 ∷ [];
+        next = 3;
+      };
       words = 0 ∷ [];
       inboxes = [] ∷ [] ∷ [] ∷ [];
       removed = 4;
       rest = 0;
     })
-    × (answers (first_medium 3 1 false) ((0, 0, Turn (ask 0 ∷ [])) ∷ (1, 0, turn) ∷ (0, 0, Purge (sys 2)) ∷ (0, 4, Turn (ask 0 ∷ ask 0 ∷ [])) ∷ (1, 4, turn) ∷ (0, 4, turn) ∷ [])
-    ≡ (Turned [] 1 false, true) ∷ (Turned (entry 1 0 7 ∷ []) 0 false, true) ∷ (Purged, true) ∷ (Turned (entry 1 0 1 ∷ removal 2 0 2 3 ∷ []) 2 false, true)
-    ∷ (Turned (removal 2 0 2 2 ∷ entry 3 0 3 ∷ entry 4 0 3 ∷ []) 0 false, true) ∷ (Turned (entry 3 0 1 ∷ entry 4 0 1 ∷ []) 0 false, true) ∷ [])
-unfolding has without with_also first_after unseen any_unseen cleared stamped turn_reply wakes rest_after_turn turned turn_changes dropped closed_by manager lock_word submitted leave_reply leave_changes left_word medium_at_end turn_row switch_row submit_row route take_row mail_row leave_row purge_row rest_row row apply row_changes changes
+    × (answers (first_medium 3 1 false) ((0, 0, Turn (ask 0 ∷ [])) ∷ (1, 0, turn) ∷ (0, 0, Purge (sys 2))
+    ∷ (0, 4, Turn (ask 0 ∷ ask 0 ∷ [])) ∷ (1, 4, turn) ∷ (0, 4, turn) ∷ [])
+    ≡ (Turned [] 1 false, true) ∷ (Turned (entry 1 0 7 ∷ []) 0 false, true) ∷ (Purged, true)
+    ∷ (Turned (entry 1 0 1 ∷ removal 2 0 2 3 ∷ []) 2 false, true)
+    ∷ (Turned (removal 2 0 2 2 ∷ entry 3 0 3 ∷ entry 4 0 3 ∷ []) 0 false, true)
+    ∷ (Turned (entry 3 0 1 ∷ entry 4 0 1 ∷ []) 0 false, true) ∷ [])
+unfolding has without with_also first_after unseen any_unseen cleared stamped turn_reply wakes rest_after_turn turned
+    turn_changes dropped closed_by manager lock_word submitted leave_reply leave_changes left_word medium_at_end
+    turn_row switch_row submit_row route take_row mail_row leave_row purge_row rest_row row apply row_changes changes
 removal_of_three = (refl, refl, refl)
 
 -- Two systems in star mode: the first manages, the second asks it by mail, and each leaves.
 star_calls : List Made
 star_calls =
-    (0, 0, Submit 0 (ask 0)) ∷ (1, 0, Submit 0 (ask 1)) ∷ (0, 0, Take) ∷ (0, 0, Settle (sys 1) (mails.Answered (t_of 1) (Coded C00) 2)) ∷ (1, 0, Take)
+    (0, 0, Submit 0 (ask 0)) ∷ (1, 0, Submit 0 (ask 1)) ∷ (0, 0, Take)
+    ∷ (0, 0, Settle (sys 1) (mails.Answered (t_of 1) (Coded C00) 2)) ∷ (1, 0, Take)
     ∷ (0, 0, Leave 0) ∷ (1, 0, Leave 0) ∷ (0, 0, Leave 0) ∷ (0, 0, Take) ∷ (0, 0, Rest) ∷ (1, 0, Rest) ∷ []
 
 star :
     (answers (first_medium 2 1 true) star_calls
-    ≡ (Sole, true) ∷ (Sent, true) ∷ (Taken (mails.Request 0 (sys 1) (ask 1)), true) ∷ (Settled, true) ∷ (Taken (mails.Answered (t_of 1) (Coded C00) 2), true)
+    ≡ (Sole, true) ∷ (Sent, true) ∷ (Taken (mails.Request 0 (sys 1) (ask 1)), true) ∷ (Settled, true)
+    ∷ (Taken (mails.Answered (t_of 1) (Coded C00) 2), true)
     ∷ (Kept 3, false) ∷ (Left, true) ∷ (Left, true) ∷ (Empty, false) ∷ (Resting, true) ∷ (Over, true) ∷ [])
     × ((after_all (first_medium 2 1 true) ((0, 0, Submit 0 (ask 0)) ∷ (1, 0, Submit 0 (ask 1)) ∷ [])).words ≡ 259 ∷ [])
     × ((after_all (first_medium 2 1 true) ((0, 0, Submit 0 (ask 0)) ∷ [])).words ≡ 257 ∷ [])
     × ((after_all (first_medium 2 1 true) star_calls).words ≡ 0 ∷ [])
     -- in star mode nobody is removed, nobody changes it again, and the message stands nowhere
-    × (answers (first_medium 2 1 true) ((0, 0, Purge (sys 1)) ∷ (0, 0, Switch (0 ∷ [])) ∷ (0, 0, turn) ∷ (1, 0, Leave 0) ∷ (0, 0, Tell (sys 1) (mails.Granted (t_of 1) (Systems (65 ∷ []) (66 ∷ [])))) ∷ (1, 0, Take) ∷ [])
-    ≡ (InStar, false) ∷ (Already, false) ∷ (NotYours None, false) ∷ (Left, false) ∷ (Told, true) ∷ (Taken (mails.Granted (t_of 1) (Systems (65 ∷ []) (66 ∷ []))), true) ∷ [])
-unfolding star_calls has without with_also first_after unseen any_unseen cleared stamped turn_reply wakes rest_after_turn turned turn_changes dropped closed_by manager lock_word submitted leave_reply leave_changes left_word medium_at_end turn_row switch_row submit_row route take_row mail_row leave_row purge_row rest_row row apply row_changes changes
+    × (answers (first_medium 2 1 true) ((0, 0, Purge (sys 1)) ∷ (0, 0, Switch (0 ∷ [])) ∷ (0, 0, turn) ∷ (1, 0, Leave 0)
+    ∷ (0, 0, Tell (sys 1) (mails.Granted (t_of 1) (Systems (65 ∷ []) (66 ∷ [])))) ∷ (1, 0, Take) ∷ [])
+    ≡ (InStar, false) ∷ (Already, false) ∷ (NotYours None, false) ∷ (Left, false) ∷ (Told, true)
+    ∷ (Taken (mails.Granted (t_of 1) (Systems (65 ∷ []) (66 ∷ []))), true) ∷ [])
+unfolding star_calls has without with_also first_after unseen any_unseen cleared stamped turn_reply wakes
+    rest_after_turn turned turn_changes dropped closed_by manager lock_word submitted leave_reply leave_changes
+    left_word medium_at_end turn_row switch_row submit_row route take_row mail_row leave_row purge_row rest_row row
+    apply row_changes changes
 star = (refl, refl, refl, refl, refl)
 
 -- A request of a system that has interest already leaves the word, and yet goes to the manager and clears the flag of
 -- rest. The manager's own changes nothing, nor its flag.
 rested : MediumState
-rested = after_all (first_medium 2 1 true) ((0, 0, Submit 0 (ask 0)) ∷ (1, 0, Submit 0 (ask 1)) ∷ (0, 0, Rest) ∷ (1, 0, Rest) ∷ [])
+rested =
+    after_all (first_medium 2 1 true)
+    ((0, 0, Submit 0 (ask 0)) ∷ (1, 0, Submit 0 (ask 1)) ∷ (0, 0, Rest) ∷ (1, 0, Rest) ∷ [])
 
 further_calls : List Made
 further_calls = (1, 0, Submit 0 (ask 1)) ∷ (0, 0, Submit 0 (ask 0)) ∷ []
@@ -145,22 +184,35 @@ further :
     × (answers rested further_calls ≡ (Sent, true) ∷ (Sole, false) ∷ [])
     × ((after_all rested further_calls).words ≡ 259 ∷ [])
     × ((after_all rested further_calls).rest ≡ 1)
-    × ((after_all rested further_calls).inboxes ≡ (mails.Request 0 (sys 1) (ask 1) ∷ mails.Request 0 (sys 1) (ask 1) ∷ []) ∷ [] ∷ [])
-unfolding rested further_calls has without with_also first_after unseen any_unseen cleared stamped turn_reply wakes rest_after_turn turned turn_changes dropped closed_by manager lock_word submitted leave_reply leave_changes left_word medium_at_end turn_row switch_row submit_row route take_row mail_row leave_row purge_row rest_row row apply row_changes changes
+    × ((after_all rested further_calls).inboxes
+    ≡ (mails.Request 0 (sys 1) (ask 1) ∷ mails.Request 0 (sys 1) (ask 1) ∷ []) ∷ [] ∷ [])
+unfolding rested further_calls has without with_also first_after unseen any_unseen cleared stamped turn_reply wakes
+    rest_after_turn turned turn_changes dropped closed_by manager lock_word submitted leave_reply leave_changes
+    left_word medium_at_end turn_row switch_row submit_row route take_row mail_row leave_row purge_row rest_row row
+    apply row_changes changes
 further = (refl, refl, refl, refl, refl, refl)
 
 -- Three systems change to star mode: not before the caller has processed every entry. The others take their turn
 -- at the closed message, which gives what they have yet to process and takes nothing more.
 switch :
     (answers (first_medium 3 1 false)
-    ((0, 0, Turn (ask 0 ∷ [])) ∷ (0, 0, Switch (263 ∷ [])) ∷ (1, 0, turn) ∷ (2, 0, turn) ∷ (0, 0, turn) ∷ (1, 0, Turn (ask 1 ∷ [])) ∷ (0, 0, Switch (263 ∷ []))
+    ((0, 0, Turn (ask 0 ∷ [])) ∷ (0, 0, Switch (263 ∷ [])) ∷ (1, 0, turn) ∷ (2, 0, turn) ∷ (0, 0, turn)
+    ∷ (1, 0, Turn (ask 1 ∷ [])) ∷ (0, 0, Switch (263 ∷ []))
     ∷ (2, 0, turn) ∷ (0, 0, Switch (263 ∷ [])) ∷ [])
-    ≡ (Turned [] 1 false, true) ∷ (Behind 1, false) ∷ (Turned (entry 1 0 7 ∷ []) 0 false, true) ∷ (Turned (entry 1 0 5 ∷ []) 0 false, true) ∷ (Turned (entry 1 0 1 ∷ []) 0 false, true)
-    ∷ (Turned [] 1 false, true) ∷ (Behind 2, false) ∷ (Turned (entry 2 1 7 ∷ []) 0 false, true) ∷ (Behind 2, false) ∷ [])
+    ≡ (Turned [] 1 false, true) ∷ (Behind 1, false) ∷ (Turned (entry 1 0 7 ∷ []) 0 false, true)
+    ∷ (Turned (entry 1 0 5 ∷ []) 0 false, true) ∷ (Turned (entry 1 0 1 ∷ []) 0 false, true)
+    ∷ (Turned [] 1 false, true) ∷ (Behind 2, false) ∷ (Turned (entry 2 1 7 ∷ []) 0 false, true) ∷ (Behind 2, false)
+    ∷ [])
     × (answers (first_medium 3 1 false)
-    ((0, 0, Turn (ask 0 ∷ [])) ∷ (1, 0, turn) ∷ (1, 0, Switch (263 ∷ [])) ∷ (1, 0, turn) ∷ (2, 0, Turn (ask 2 ∷ [])) ∷ (0, 0, turn) ∷ (0, 0, turn) ∷ (0, 0, Switch (0 ∷ [])) ∷ [])
-    ≡ (Turned [] 1 false, true) ∷ (Turned (entry 1 0 7 ∷ []) 0 false, true) ∷ (Switched, true) ∷ (NotYours (Some (sys 2)), false) ∷ (Turned (entry 1 0 5 ∷ []) 0 true, true)
+    ((0, 0, Turn (ask 0 ∷ [])) ∷ (1, 0, turn) ∷ (1, 0, Switch (263 ∷ [])) ∷ (1, 0, turn) ∷ (2, 0, Turn (ask 2 ∷ []))
+    ∷ (0, 0, turn) ∷ (0, 0, turn) ∷ (0, 0, Switch (0 ∷ [])) ∷ [])
+    ≡ (Turned [] 1 false, true) ∷ (Turned (entry 1 0 7 ∷ []) 0 false, true) ∷ (Switched, true)
+    ∷ (NotYours (Some (sys 2)), false) ∷ (Turned (entry 1 0 5 ∷ []) 0 true, true)
     ∷ (Turned (entry 1 0 1 ∷ []) 0 true, true) ∷ (NotYours None, false) ∷ (Already, false) ∷ [])
-    × ((after_all (first_medium 3 1 false) ((0, 0, Turn (ask 0 ∷ [])) ∷ (1, 0, turn) ∷ (1, 0, Switch (263 ∷ [])) ∷ [])).words ≡ 263 ∷ [])
-unfolding has without with_also first_after unseen any_unseen cleared stamped turn_reply wakes rest_after_turn turned turn_changes dropped closed_by manager lock_word submitted leave_reply leave_changes left_word medium_at_end turn_row switch_row submit_row route take_row mail_row leave_row purge_row rest_row row apply row_changes changes
+    × ((after_all (first_medium 3 1 false)
+    ((0, 0, Turn (ask 0 ∷ [])) ∷ (1, 0, turn) ∷ (1, 0, Switch (263 ∷ [])) ∷ [])).words
+    ≡ 263 ∷ [])
+unfolding has without with_also first_after unseen any_unseen cleared stamped turn_reply wakes rest_after_turn turned
+    turn_changes dropped closed_by manager lock_word submitted leave_reply leave_changes left_word medium_at_end
+    turn_row switch_row submit_row route take_row mail_row leave_row purge_row rest_row row apply row_changes changes
 switch = (refl, refl, refl)

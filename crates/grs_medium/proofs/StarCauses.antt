@@ -1,5 +1,6 @@
 -- When the answers of star mode come.
-use Rattle.std.proofs.Common.{◌≡◌, ℕ, Bool, true, false, cond, not, ◌||◌, List, [], ◌∷◌, length, refl, ap, sym, subst, arith}
+use Rattle.std.proofs.Common.{◌≡◌, ℕ, Bool, true, false, cond, not, ◌||◌, List, [], ◌∷◌, length, refl, ap, sym, subst}
+use Rattle.std.proofs.Common.{arith}
 use Rattle.std.specs.Prelude.{◌↔◌, Option, Some, None, is_none, ◌==◌}
 use Rattle.std.proofs.lemmas.Bool.{eqb-true, false≢true}
 use Rattle.grs_base.specs.declared.resource.SysId.{SysId}
@@ -15,11 +16,14 @@ use Rattle.lock_structure.specs.declared.word.Route.TheVariants as routes
 use Rattle.grs_medium.specs.Apply.{submit_on, submit_row, take_from, take_row, mail_row, leave_row, row}
 use Rattle.grs_medium.specs.Inboxes.{is_empty, first_mail}
 use Rattle.grs_medium.specs.Medium.{MediumState, inbox, word}
-use Rattle.grs_medium.specs.Causes.{submits_alone, submits_to_another, taken_mail, takes_nothing, settles, tells, leaves_others, leaves, interested, SoleComes, SentComes, TakenComes, EmptyComes, SettledComes, ToldComes, KeptComes, LeftComes}
+use Rattle.grs_medium.specs.Causes.{submits_alone, submits_to_another, taken_mail, takes_nothing, settles, tells}
+use Rattle.grs_medium.specs.Causes.{leaves_others, leaves, interested, SoleComes, SentComes, TakenComes, EmptyComes}
+use Rattle.grs_medium.specs.Causes.{SettledComes, ToldComes, KeptComes, LeftComes}
 use Rattle.grs_medium.proofs.ReplyKinds.{neither, other_reply, never, heard}
 
 -- the rows of a Submit, a Take and a Leave
-submit_sole : (m : MediumState) (c : SysId) (entry : ℕ) (req : Req) (o : Option SysId) → ((submit_on m c entry req (route_by o c)).0 ≡ Sole) ↔ ((is_none o || is_manager o c) ≡ true)
+submit_sole : (m : MediumState) (c : SysId) (entry : ℕ) (req : Req) (o : Option SysId)
+    → ((submit_on m c entry req (route_by o c)).0 ≡ Sole) ↔ ((is_none o || is_manager o c) ≡ true)
 submit_sole m c entry req None = (λ e. refl, λ e. refl)
 submit_sole m c entry req (Some s) = by_self (s.0 == c.0)
   where
@@ -27,7 +31,8 @@ submit_sole m c entry req (Some s) = by_self (s.0 == c.0)
     by_self true = (λ e. refl, λ e. refl)
     by_self false = neither (λ e. absurd cc) false≢true
 
-submit_sent : (m : MediumState) (c : SysId) (entry : ℕ) (req : Req) (o : Option SysId) → ((submit_on m c entry req (route_by o c)).0 ≡ Sent) ↔ (not (is_none o || is_manager o c) ≡ true)
+submit_sent : (m : MediumState) (c : SysId) (entry : ℕ) (req : Req) (o : Option SysId)
+    → ((submit_on m c entry req (route_by o c)).0 ≡ Sent) ↔ (not (is_none o || is_manager o c) ≡ true)
 submit_sent m c entry req None = neither (λ e. absurd cc) false≢true
 submit_sent m c entry req (Some s) = by_self (s.0 == c.0)
   where
@@ -35,13 +40,17 @@ submit_sent m c entry req (Some s) = by_self (s.0 == c.0)
     by_self true = neither (λ e. absurd cc) false≢true
     by_self false = (λ e. refl, λ e. refl)
 
-take_taken : (m : MediumState) (c : SysId) (mails : List Mail) (mail : Mail) → ((take_from m c mails).0 ≡ Taken mail) ↔ (first_mail mails ≡ Some mail)
+take_taken : (m : MediumState) (c : SysId) (mails : List Mail) (mail : Mail) → ((take_from m c mails).0 ≡ Taken mail)
+    ↔ (first_mail mails ≡ Some mail)
 take_taken m c [] mail = neither (λ e. absurd cc) (λ e. absurd cc)
 take_taken m c (first ∷ rest) mail = (λ e. cc, λ e. cc)
 
-take_empty : (m : MediumState) (c : SysId) (mails : List Mail) → ((take_from m c mails).0 ≡ Empty) ↔ (is_empty mails ≡ true)
+take_empty : (m : MediumState) (c : SysId) (mails : List Mail) → ((take_from m c mails).0 ≡ Empty)
+    ↔ (is_empty mails ≡ true)
 take_empty m c [] = (λ e. refl, λ e. refl)
-take_empty m c (first ∷ rest) = neither (λ e. absurd cc) (λ h. let none : length (first ∷ rest) ≡ 0 = eqb-true (length (first ∷ rest)) 0 h in absurd (omega arith))
+take_empty m c (first ∷ rest) =
+    neither (λ e. absurd cc)
+    (λ h. let none : length (first ∷ rest) ≡ 0 = eqb-true (length (first ∷ rest)) 0 h in absurd (omega arith))
 
 leave_kept : (b : Bool) (given mask : ℕ) → (cond b (Kept given) Left ≡ Kept mask) ↔ ((b ≡ true) × (mask ≡ given))
 leave_kept true given mask = (λ e. (refl, cc), λ p. ap Kept (sym p.1))
@@ -65,7 +74,8 @@ unfolding row submit_row route
 row_sent m c (Submit entry req) = submit_sent m c entry req (manager (word m entry))
 row_sent m c act = never m c act Sent refl
 
-row_taken : (m : MediumState) (c : SysId) (act : Act) (mail : Mail) → ((row m c act).0 ≡ Taken mail) ↔ (taken_mail m c act ≡ Some mail)
+row_taken : (m : MediumState) (c : SysId) (act : Act) (mail : Mail) → ((row m c act).0 ≡ Taken mail)
+    ↔ (taken_mail m c act ≡ Some mail)
 unfolding row take_row
 row_taken m c Take mail = take_taken m c (inbox m c.0) mail
 row_taken m c act mail = neither (other_reply m c act (Taken mail) refl) (λ e. absurd cc)
@@ -85,10 +95,13 @@ unfolding row mail_row
 row_told m c (Tell to mail) = always refl
 row_told m c act = never m c act Told refl
 
-row_kept : (m : MediumState) (c : SysId) (act : Act) (mask : ℕ) → ((row m c act).0 ≡ Kept mask) ↔ ((leaves_others m c act ≡ true) × (mask ≡ interested m act))
+row_kept : (m : MediumState) (c : SysId) (act : Act) (mask : ℕ) → ((row m c act).0 ≡ Kept mask)
+    ↔ ((leaves_others m c act ≡ true) × (mask ≡ interested m act))
 unfolding row leave_row leave_reply
 row_kept m c (Leave entry) mask =
-    subst (λ (b : Bool). (cond (is_kept (word m entry) c) (Kept (interest (word m entry))) Left ≡ Kept mask) ↔ ((b ≡ true) × (mask ≡ interest (word m entry))))
+    subst (λ (b : Bool).
+    (cond (is_kept (word m entry) c) (Kept (interest (word m entry))) Left ≡ Kept mask)
+    ↔ ((b ≡ true) × (mask ≡ interest (word m entry))))
     (kept-where (word m entry) c)
     (leave_kept (is_kept (word m entry) c) (interest (word m entry)) mask)
 row_kept m c act mask = neither (other_reply m c act (Kept mask) refl) (λ p. false≢true p.0)
@@ -96,7 +109,8 @@ row_kept m c act mask = neither (other_reply m c act (Kept mask) refl) (λ p. fa
 row_left : (m : MediumState) (c : SysId) (act : Act) → ((row m c act).0 ≡ Left) ↔ (leaves m c act ≡ true)
 unfolding row leave_row leave_reply
 row_left m c (Leave entry) =
-    subst (λ (b : Bool). (cond (is_kept (word m entry) c) (Kept (interest (word m entry))) Left ≡ Left) ↔ (not b ≡ true))
+    subst (λ (b : Bool).
+    (cond (is_kept (word m entry) c) (Kept (interest (word m entry))) Left ≡ Left) ↔ (not b ≡ true))
     (kept-where (word m entry) c)
     (leave_left (is_kept (word m entry) c) (interest (word m entry)))
 row_left m c act = never m c act Left refl

@@ -1,5 +1,6 @@
 -- The calls of the medium, row by row: what each is answered, and what the medium is afterwards.
-use Rattle.std.specs.Prelude.{◌≡◌, ◌≢◌, ◌<◌, ◌≤◌, ℕ, Bool, true, cond, not, ◌==◌, ◌&&◌, List, [], ◌∷◌, length, Option, Some, None, is_none}
+use Rattle.std.specs.Prelude.{◌≡◌, ◌≢◌, ◌<◌, ◌≤◌, ℕ, Bool, true, cond, not, ◌==◌, ◌&&◌, List, [], ◌∷◌, length, Option}
+use Rattle.std.specs.Prelude.{Some, None, is_none}
 use Rattle.std.specs.List.{list_all}
 use Rattle.grs_base.specs.Limits.{most_additions}
 use Rattle.grs_base.specs.declared.resource.SysId.{SysId}
@@ -10,13 +11,16 @@ use Rattle.grs_wire.specs.declared.medium.Call.{Call}
 use Rattle.grs_wire.specs.declared.medium.Mail.{Mail}
 use Rattle.grs_wire.specs.declared.medium.Mail.TheVariants as mails
 use Rattle.grs_wire.specs.declared.medium.Reply.{Reply}
-use Rattle.grs_wire.specs.declared.medium.Reply.TheVariants.{Behind, Switched, Already, Sole, Sent, Taken, Empty, Settled, Told, Purged, NoSuch, InStar, Resting, Over, Stale, Removed}
+use Rattle.grs_wire.specs.declared.medium.Reply.TheVariants.{Behind, Switched, Already, Sole, Sent, Taken, Empty}
+use Rattle.grs_wire.specs.declared.medium.Reply.TheVariants.{Settled, Told, Purged, NoSuch, InStar, Resting, Over}
+use Rattle.grs_wire.specs.declared.medium.Reply.TheVariants.{Stale, Removed}
 use Rattle.grs_wire.specs.Masks.{has, with_also, lives}
 use Rattle.grs_wire.specs.LockWords.{manager, is_manager, leave_reply, leave_changes}
 use Rattle.lock_structure.specs.Words.{route, submitted_words, left_words, word_fits}
 use Rattle.lock_structure.specs.declared.word.Route.{Route}
 use Rattle.lock_structure.specs.declared.word.Route.TheVariants as routes
-use Rattle.rsa_message.specs.Message.{first_number, turn_reply, turned, rest_after_turn, turn_changes, closed_by, dropped}
+use Rattle.rsa_message.specs.Message.{first_number, turn_reply, turned, rest_after_turn, turn_changes, closed_by}
+use Rattle.rsa_message.specs.Message.{dropped}
 use Rattle.grs_wire.specs.Unseen.{unseen}
 use Rattle.grs_medium.specs.Inboxes.{is_empty, with_mail, without_first}
 use Rattle.grs_medium.specs.Medium.{MediumState, systems_of, live, inbox, medium_at_end, all_rest, awake, word}
@@ -31,7 +35,10 @@ turn_row m c out = (
 -- Switch: the complex changes to star mode once the caller has no unseen entry
 abbrev pub switch_ring : MediumState → SysId → List ℕ → Option ℕ → Reply × MediumState
 switch_ring m c words (Some first) = (Behind first, m)
-switch_ring m c words None = (Switched, record m { star = true; words = words; message = closed_by m.message c (live m); rest = awake m c })
+switch_ring m c words None = (
+  Switched,
+  record m { star = true; words = words; message = closed_by m.message c (live m); rest = awake m c },
+)
 
 unfoldable pub switch_row : MediumState → SysId → List ℕ → Reply × MediumState
 switch_row m c words = cond m.star (Already, m) (switch_ring m c words (first_number (unseen c m.message.entries)))
@@ -46,7 +53,8 @@ joined m c entry = cond (manages m c entry) m (record m { words = submitted_word
 
 abbrev pub submit_on : MediumState → SysId → ℕ → Req → Route → Reply × MediumState
 submit_on m c entry req routes.Sole = (Sole, joined m c entry)
-submit_on m c entry req (routes.To s) = (Sent, record (joined m c entry) { inboxes = with_mail m.inboxes s.0 (mails.Request entry c req) })
+submit_on m c entry req
+    (routes.To s) = (Sent, record (joined m c entry) { inboxes = with_mail m.inboxes s.0 (mails.Request entry c req) })
 
 unfoldable pub submit_row : MediumState → SysId → ℕ → Req → Reply × MediumState
 submit_row m c entry req = submit_on m c entry req (route (word m entry) c)
@@ -133,8 +141,8 @@ unfoldable pub changes : MediumState → SysId → Call → Bool
 changes m c call = not (has m.removed c.0) && (call.known == m.removed) && row_changes m c call.act
 
 -- What a call needs of the medium: its caller is a system, and so is whom a mail goes to; no more requests than
--- a Turn may put in; lock entries that are there; as many lock words as entries, each 0 or with a manager; and no system
--- that removes itself.
+-- a Turn may put in; lock entries that are there; as many lock words as entries, each 0 or with a manager; and no
+-- system that removes itself.
 abbrev pub ActFits : MediumState → SysId → Act → Type 0
 ActFits m c (Turn out) = length out ≤ most_additions
 ActFits m c (Switch words) = (length words ≡ length m.words) × (list_all (word_fits (systems_of m)) words ≡ true)

@@ -74,7 +74,8 @@ submits_alone m c act = false
 
 -- a Submit on a lock entry that another system manages
 abbrev pub submits_to_another : MediumState → SysId → Act → Bool
-submits_to_another m c (Submit entry req) = not (is_none (manager (word m entry)) || is_manager (manager (word m entry)) c)
+submits_to_another m c (Submit entry req) =
+    not (is_none (manager (word m entry)) || is_manager (manager (word m entry)) c)
 submits_to_another m c act = false
 
 -- the mail that a Take of the caller gets: the first of its inbox
@@ -98,7 +99,8 @@ tells act = false
 -- a Leave of a lock entry that the caller manages, having interest in it, and others have interest as well
 abbrev pub leaves_others : MediumState → SysId → Act → Bool
 leaves_others m c (Leave entry) =
-    is_manager (manager (word m entry)) c && (has (interest (word m entry)) c.0 && has_others (interest (word m entry)) c)
+    is_manager (manager (word m entry)) c
+    && (has (interest (word m entry)) c.0 && has_others (interest (word m entry)) c)
 leaves_others m c act = false
 
 -- any other Leave
@@ -112,59 +114,94 @@ interested m (Leave entry) = interest (word m entry)
 interested m act = 0
 
 abbrev pub RemovedComes : Type 0
-RemovedComes = (m : MediumState) (c : SysId) (call : Call) → (reply_to m c call ≡ replies.Removed) ↔ (is_removed m c ≡ true)
+RemovedComes =
+    (m : MediumState) (c : SysId) (call : Call) → (reply_to m c call ≡ replies.Removed) ↔ (is_removed m c ≡ true)
 
 -- it carries the set of the removed systems
 abbrev pub StaleComes : Type 0
-StaleComes = (m : MediumState) (c : SysId) (call : Call) (set : ℕ) → (reply_to m c call ≡ replies.Stale set) ↔ ((is_removed m c ≡ false) × ((is_uninformed m call ≡ true) × (set ≡ m.removed)))
+StaleComes =
+    (m : MediumState) (c : SysId) (call : Call) (set : ℕ) → (reply_to m c call ≡ replies.Stale set)
+    ↔ ((is_removed m c ≡ false) × ((is_uninformed m call ≡ true) × (set ≡ m.removed)))
 
 -- it carries where the message is
 abbrev pub NotYoursComes : Type 0
-NotYoursComes = (m : MediumState) (c : SysId) (call : Call) (at : Option SysId) → (reply_to m c call ≡ replies.NotYours at) ↔ ((is_heard m c call ≡ true) × ((turns_elsewhere m c call.act ≡ true) × (at ≡ m.message.holder)))
+NotYoursComes =
+    (m : MediumState) (c : SysId) (call : Call) (at : Option SysId) → (reply_to m c call ≡ replies.NotYours at)
+    ↔ ((is_heard m c call ≡ true) × ((turns_elsewhere m c call.act ≡ true) × (at ≡ m.message.holder)))
 
 abbrev pub AlreadyComes : Type 0
-AlreadyComes = (m : MediumState) (c : SysId) (call : Call) → (reply_to m c call ≡ replies.Already) ↔ ((is_heard m c call ≡ true) × (switches_in_star m call.act ≡ true))
+AlreadyComes =
+    (m : MediumState) (c : SysId) (call : Call) → (reply_to m c call ≡ replies.Already)
+    ↔ ((is_heard m c call ≡ true) × (switches_in_star m call.act ≡ true))
 
 -- it carries the number of the first entry that the caller has yet to process
 abbrev pub BehindComes : Type 0
-BehindComes = (m : MediumState) (c : SysId) (call : Call) (first : ℕ) → (reply_to m c call ≡ replies.Behind first) ↔ ((is_heard m c call ≡ true) × (switches_behind m c call.act ≡ Some first))
+BehindComes =
+    (m : MediumState) (c : SysId) (call : Call) (first : ℕ) → (reply_to m c call ≡ replies.Behind first)
+    ↔ ((is_heard m c call ≡ true) × (switches_behind m c call.act ≡ Some first))
 
 abbrev pub SwitchedComes : Type 0
-SwitchedComes = (m : MediumState) (c : SysId) (call : Call) → (reply_to m c call ≡ replies.Switched) ↔ ((is_heard m c call ≡ true) × (switches m c call.act ≡ true))
+SwitchedComes =
+    (m : MediumState) (c : SysId) (call : Call) → (reply_to m c call ≡ replies.Switched)
+    ↔ ((is_heard m c call ≡ true) × (switches m c call.act ≡ true))
 
 abbrev pub InStarComes : Type 0
-InStarComes = (m : MediumState) (c : SysId) (call : Call) → (reply_to m c call ≡ replies.InStar) ↔ ((is_heard m c call ≡ true) × (purges_in_star m call.act ≡ true))
+InStarComes =
+    (m : MediumState) (c : SysId) (call : Call) → (reply_to m c call ≡ replies.InStar)
+    ↔ ((is_heard m c call ≡ true) × (purges_in_star m call.act ≡ true))
 
 abbrev pub NoSuchComes : Type 0
-NoSuchComes = (m : MediumState) (c : SysId) (call : Call) → (reply_to m c call ≡ replies.NoSuch) ↔ ((is_heard m c call ≡ true) × (purges_nobody m call.act ≡ true))
+NoSuchComes =
+    (m : MediumState) (c : SysId) (call : Call) → (reply_to m c call ≡ replies.NoSuch)
+    ↔ ((is_heard m c call ≡ true) × (purges_nobody m call.act ≡ true))
 
 abbrev pub OverComes : Type 0
-OverComes = (m : MediumState) (c : SysId) (call : Call) → (reply_to m c call ≡ replies.Over) ↔ ((is_heard m c call ≡ true) × (rests_last m c call.act ≡ true))
+OverComes =
+    (m : MediumState) (c : SysId) (call : Call) → (reply_to m c call ≡ replies.Over)
+    ↔ ((is_heard m c call ≡ true) × (rests_last m c call.act ≡ true))
 
 abbrev pub RestingComes : Type 0
-RestingComes = (m : MediumState) (c : SysId) (call : Call) → (reply_to m c call ≡ replies.Resting) ↔ ((is_heard m c call ≡ true) × (rests_early m c call.act ≡ true))
+RestingComes =
+    (m : MediumState) (c : SysId) (call : Call) → (reply_to m c call ≡ replies.Resting)
+    ↔ ((is_heard m c call ≡ true) × (rests_early m c call.act ≡ true))
 
 abbrev pub SoleComes : Type 0
-SoleComes = (m : MediumState) (c : SysId) (call : Call) → (reply_to m c call ≡ replies.Sole) ↔ ((is_heard m c call ≡ true) × (submits_alone m c call.act ≡ true))
+SoleComes =
+    (m : MediumState) (c : SysId) (call : Call) → (reply_to m c call ≡ replies.Sole)
+    ↔ ((is_heard m c call ≡ true) × (submits_alone m c call.act ≡ true))
 
 abbrev pub SentComes : Type 0
-SentComes = (m : MediumState) (c : SysId) (call : Call) → (reply_to m c call ≡ replies.Sent) ↔ ((is_heard m c call ≡ true) × (submits_to_another m c call.act ≡ true))
+SentComes =
+    (m : MediumState) (c : SysId) (call : Call) → (reply_to m c call ≡ replies.Sent)
+    ↔ ((is_heard m c call ≡ true) × (submits_to_another m c call.act ≡ true))
 
 abbrev pub TakenComes : Type 0
-TakenComes = (m : MediumState) (c : SysId) (call : Call) (mail : Mail) → (reply_to m c call ≡ replies.Taken mail) ↔ ((is_heard m c call ≡ true) × (taken_mail m c call.act ≡ Some mail))
+TakenComes =
+    (m : MediumState) (c : SysId) (call : Call) (mail : Mail) → (reply_to m c call ≡ replies.Taken mail)
+    ↔ ((is_heard m c call ≡ true) × (taken_mail m c call.act ≡ Some mail))
 
 abbrev pub EmptyComes : Type 0
-EmptyComes = (m : MediumState) (c : SysId) (call : Call) → (reply_to m c call ≡ replies.Empty) ↔ ((is_heard m c call ≡ true) × (takes_nothing m c call.act ≡ true))
+EmptyComes =
+    (m : MediumState) (c : SysId) (call : Call) → (reply_to m c call ≡ replies.Empty)
+    ↔ ((is_heard m c call ≡ true) × (takes_nothing m c call.act ≡ true))
 
 abbrev pub SettledComes : Type 0
-SettledComes = (m : MediumState) (c : SysId) (call : Call) → (reply_to m c call ≡ replies.Settled) ↔ ((is_heard m c call ≡ true) × (settles call.act ≡ true))
+SettledComes =
+    (m : MediumState) (c : SysId) (call : Call) → (reply_to m c call ≡ replies.Settled)
+    ↔ ((is_heard m c call ≡ true) × (settles call.act ≡ true))
 
 abbrev pub ToldComes : Type 0
-ToldComes = (m : MediumState) (c : SysId) (call : Call) → (reply_to m c call ≡ replies.Told) ↔ ((is_heard m c call ≡ true) × (tells call.act ≡ true))
+ToldComes =
+    (m : MediumState) (c : SysId) (call : Call) → (reply_to m c call ≡ replies.Told)
+    ↔ ((is_heard m c call ≡ true) × (tells call.act ≡ true))
 
 -- it carries the set of the systems that have interest
 abbrev pub KeptComes : Type 0
-KeptComes = (m : MediumState) (c : SysId) (call : Call) (mask : ℕ) → (reply_to m c call ≡ replies.Kept mask) ↔ ((is_heard m c call ≡ true) × ((leaves_others m c call.act ≡ true) × (mask ≡ interested m call.act)))
+KeptComes =
+    (m : MediumState) (c : SysId) (call : Call) (mask : ℕ) → (reply_to m c call ≡ replies.Kept mask)
+    ↔ ((is_heard m c call ≡ true) × ((leaves_others m c call.act ≡ true) × (mask ≡ interested m call.act)))
 
 abbrev pub LeftComes : Type 0
-LeftComes = (m : MediumState) (c : SysId) (call : Call) → (reply_to m c call ≡ replies.Left) ↔ ((is_heard m c call ≡ true) × (leaves m c call.act ≡ true))
+LeftComes =
+    (m : MediumState) (c : SysId) (call : Call) → (reply_to m c call ≡ replies.Left)
+    ↔ ((is_heard m c call ≡ true) × (leaves m c call.act ≡ true))

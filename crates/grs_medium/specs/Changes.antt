@@ -16,11 +16,13 @@ LeavesTheRest = (m : MediumState) (c : SysId) (call : Call) → changes m c call
 
 -- where a closed message stands at a system, that one has yet to change to star mode
 abbrev pub WaitsForItsHolder : MediumState → Type 0
-WaitsForItsHolder m = m.message.closed ≡ true → (c : SysId) → stands_at m.message.holder c ≡ true → has m.message.still c.0 ≡ true
+WaitsForItsHolder m =
+    m.message.closed ≡ true → (c : SysId) → stands_at m.message.holder c ≡ true → has m.message.still c.0 ≡ true
 
 -- The lock entry that an act names is there, and so is the inbox that gets its mail.
 abbrev pub NamesWhatIsThere : MediumState → Act → Type 0
-NamesWhatIsThere m (Submit entry req) = (entry < length m.words) × (manager_number (manager (word m entry)) ≤ length m.inboxes)
+NamesWhatIsThere m (Submit entry req) =
+    (entry < length m.words) × (manager_number (manager (word m entry)) ≤ length m.inboxes)
 NamesWhatIsThere m (Settle to mail) = to.0 < length m.inboxes
 NamesWhatIsThere m (Tell to mail) = to.0 < length m.inboxes
 NamesWhatIsThere m (Leave entry) = entry < length m.words
@@ -28,4 +30,6 @@ NamesWhatIsThere m act = Unit {0}
 
 -- A call that is said to change the medium doesn't leave it as it was.
 abbrev pub ChangesWhatItSays : Type 0
-ChangesWhatItSays = (m : MediumState) (c : SysId) (call : Call) → NamesWhatIsThere m call.act → WaitsForItsHolder m → changes m c call ≡ true → ¬ (medium_after m c call ≡ m)
+ChangesWhatItSays =
+    (m : MediumState) (c : SysId) (call : Call) → NamesWhatIsThere m call.act → WaitsForItsHolder m
+    → changes m c call ≡ true → ¬ (medium_after m c call ≡ m)

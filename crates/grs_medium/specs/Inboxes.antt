@@ -1,5 +1,6 @@
 -- The inboxes: the mail of each system, in order of arrival.
-use Rattle.std.specs.Prelude.{◌<◌, ℕ, Bool, ◌==◌, List, [], ◌∷◌, ◌++◌, length, drop, slice_index_or, slice_set, Option, Some, None}
+use Rattle.std.specs.Prelude.{◌<◌, ℕ, Bool, ◌==◌, List, [], ◌∷◌, ◌++◌, length, drop, slice_index_or, slice_set, Option}
+use Rattle.std.specs.Prelude.{Some, None}
 use Rattle.grs_base.specs.declared.resource.SysId.{SysId}
 use Rattle.grs_wire.specs.declared.medium.Mail.{Mail}
 
@@ -30,4 +31,5 @@ without_first boxes s = slice_set boxes s (drop 1 (inbox_of boxes s))
 
 -- whether a system has a box, and it has room for more than is in it
 abbrev pub HasSpace : {B : Type 0} → List B → (B → ℕ) → (B → ℕ) → SysId → Type 0
-HasSpace {B} boxes filled room s = (s.0 < length boxes) × ((d : B) → filled (slice_index_or boxes s.0 d) < room (slice_index_or boxes s.0 d))
+HasSpace {B} boxes filled room s =
+    (s.0 < length boxes) × ((d : B) → filled (slice_index_or boxes s.0 d) < room (slice_index_or boxes s.0 d))

@@ -19,8 +19,8 @@ refusal_reply (NotYours at) = replies.NotYours at
 refusal_reply (Stale set) = replies.Stale set
 refusal_reply Removed = replies.Removed
 
--- The reply to a Turn of c that doesn't get to the message, whatever it would put in: c was removed, or doesn't know all
--- removed systems, or the message isn't at c.
+-- The reply to a Turn of c that doesn't get to the message, whatever it would put in: c was removed, or doesn't know
+-- all removed systems, or the message isn't at c.
 unfoldable pub refusal : MediumState → SysId → ℕ → Option Reply
 refusal m c known =
     cond (has m.removed c.0)
@@ -31,9 +31,17 @@ refusal m c known =
 
 -- A Turn that is refused so is answered that, whatever it would put in, and leaves the medium as it was.
 abbrev pub TurnIsRefused : Type 0
-TurnIsRefused = (m : MediumState) (c : SysId) (known : ℕ) (out : List Req) (r : Reply) → refusal m c known ≡ Some r → apply m c (record { known = known; act = Turn out }) ≡ (r, m)
+TurnIsRefused =
+    (m : MediumState) (c : SysId) (known : ℕ) (out : List Req) (r : Reply) → refusal m c known ≡ Some r
+    → apply m c (record { known = known; act = Turn out }) ≡ (r, m)
 
--- Any other Turn gets to the message: its caller is given the entries that it has yet to process, and of its requests all
--- are put in, or none where the message is closed.
+-- Any other Turn gets to the message: its caller is given the entries that it has yet to process, and of its requests
+-- all are put in, or none where the message is closed.
 abbrev pub TurnIsServed : Type 0
-TurnIsServed = (m : MediumState) (c : SysId) (known : ℕ) (out : List Req) → refusal m c known ≡ None → apply m c (record { known = known; act = Turn out }) ≡ (replies.Turned (unseen c m.message.entries) (cond m.message.closed 0 (length out)) m.message.closed, (turn_row m c out).1)
+TurnIsServed =
+    (m : MediumState) (c : SysId) (known : ℕ) (out : List Req) → refusal m c known ≡ None
+    → apply m c (record { known = known; act = Turn out })
+    ≡ (
+      replies.Turned (unseen c m.message.entries) (cond m.message.closed 0 (length out)) m.message.closed,
+      (turn_row m c out).1,
+    )

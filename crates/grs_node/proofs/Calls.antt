@@ -1,5 +1,6 @@
 -- What is so where a choice of star mode was prepared: its task, its entry and what stands in it.
-use Rattle.std.proofs.Common.{◌≡◌, ℕ, zero, suc, Bool, true, false, cond, List, [], ◌∷◌, length, Option, Some, None, is_some, refl, ap, sym, subst, ◌∙◌, arith}
+use Rattle.std.proofs.Common.{◌≡◌, ℕ, zero, suc, Bool, true, false, cond, List, [], ◌∷◌, length, Option, Some, None}
+use Rattle.std.proofs.Common.{is_some, refl, ap, sym, subst, ◌∙◌, arith}
 use Rattle.std.specs.Prelude.{◌&&◌, ◌≢◌, All, not, ◌<◌, slice_set, IfSome, ◌≤◌, slice_get, take}
 use Rattle.std.proofs.lemmas.Bool.{and_parts, true≢false}
 use Rattle.std.proofs.lemmas.List.{length-set}
@@ -9,8 +10,11 @@ use Rattle.std.specs.Option.{option_map}
 use Rattle.grs_base.specs.declared.resource.SysId.{SysId}
 use Rattle.grs_base.specs.declared.resource.TaskId.{TaskId}
 use Rattle.grs_node.specs.Finish.{may_come, is_listed}
-use Rattle.grs_node.specs.Node.{NodeState, prepare, star_call, star_need, prepared_by, may_send, desk_of, desk_count, next_order, switch_call, purge_call, turn_call, may_go, is_pending}
-use Rattle.grs_node.specs.Star.{StarPart, send_of, send_to, leave_by, may_leave, manages, entry_for, entry_asked, manages_asked, manages_if_asked, was_prepared, begun, first_held, serves, answer_for, rank_of, settle_by, to_tell, tell_by}
+use Rattle.grs_node.specs.Node.{NodeState, prepare, star_call, star_need, prepared_by, may_send, desk_of, desk_count}
+use Rattle.grs_node.specs.Node.{next_order, switch_call, purge_call, turn_call, may_go, is_pending}
+use Rattle.grs_node.specs.Star.{StarPart, send_of, send_to, leave_by, may_leave, manages, entry_for, entry_asked}
+use Rattle.grs_node.specs.Star.{manages_asked, manages_if_asked, was_prepared, begun, first_held, serves, answer_for}
+use Rattle.grs_node.specs.Star.{rank_of, settle_by, to_tell, tell_by}
 use Rattle.grs_node.specs.declared.prepared.Prepared.TheVariants.{Quiet, Call, Nothing}
 use Rattle.grs_base.specs.Limits.{most_commands, most_additions}
 use Rattle.grs_base.specs.declared.resource.Res.{Res}
@@ -37,7 +41,9 @@ unfolding may_send
 own-sender deck n t h = (and_parts (is_task n.tasks t) _ h).0
 
 -- ---- a Send that is done without a call
-quiet-need : (deck : Deck) (n : NodeState) (t : TaskId) (o : Option StarPart) → star_call deck n o (choices.Send t) ≡ Quiet → (is_task n.tasks t ≡ true) × IfSome o (λ p. manages_if_asked p (state_of n.tasks t).outstanding ≡ true)
+quiet-need : (deck : Deck) (n : NodeState) (t : TaskId) (o : Option StarPart)
+    → star_call deck n o (choices.Send t) ≡ Quiet
+    → (is_task n.tasks t ≡ true) × IfSome o (λ p. manages_if_asked p (state_of n.tasks t).outstanding ≡ true)
 unfolding star_call
 quiet-need deck n t None h = cc
 quiet-need deck n t (Some p) h = go (may_send deck n t) refl h
@@ -46,57 +52,81 @@ quiet-need deck n t (Some p) h = go (may_send deck n t) refl h
     decides None k = refl
     decides (Some a) k = at (entry_for p a.req.want) refl k
       where
-        at : (e : Option ℕ) → entry_for p a.req.want ≡ e → prepared_by n.known (send_to p (record { task = t; want = a.req.want }) e) ≡ Quiet → is_some (kept_for p.manager.entries (entry_for p a.req.want)) ≡ true
+        at : (e : Option ℕ) → entry_for p a.req.want ≡ e
+            → prepared_by n.known (send_to p (record { task = t; want = a.req.want }) e) ≡ Quiet
+            → is_some (kept_for p.manager.entries (entry_for p a.req.want)) ≡ true
         at None is k = cc
-        at (Some e) is k = ap (λ (x : Option ℕ). is_some (kept_for p.manager.entries x)) is ∙ manages-one (manages p e) k
+        at (Some e) is k =
+            ap (λ (x : Option ℕ). is_some (kept_for p.manager.entries x)) is ∙ manages-one (manages p e) k
           where
-            manages-one : (b : Bool) → prepared_by n.known (cond b Alone (Asks (acts.Submit e (record { task = t; want = a.req.want })))) ≡ Quiet → b ≡ true
+            manages-one : (b : Bool)
+                → prepared_by n.known (cond b Alone (Asks (acts.Submit e (record { task = t; want = a.req.want }))))
+                ≡ Quiet
+                → b ≡ true
             manages-one true k = refl
             manages-one false k = cc
 
-    go : (b : Bool) → may_send deck n t ≡ b → prepared_by n.known (cond b (send_of p t (state_of n.tasks t).outstanding) Idle) ≡ Quiet → (is_task n.tasks t ≡ true) × (manages_if_asked p (state_of n.tasks t).outstanding ≡ true)
+    go : (b : Bool) → may_send deck n t ≡ b
+        → prepared_by n.known (cond b (send_of p t (state_of n.tasks t).outstanding) Idle) ≡ Quiet
+        → (is_task n.tasks t ≡ true) × (manages_if_asked p (state_of n.tasks t).outstanding ≡ true)
     go true is k = (own-sender deck n t is, decides (state_of n.tasks t).outstanding k)
     go false is k = cc
 
-pub quiet-send : (deck : Deck) (n : NodeState) (t : TaskId) → prepare deck n (choices.Send t) ≡ Quiet → is_task n.tasks t ≡ true
+pub quiet-send : (deck : Deck) (n : NodeState) (t : TaskId) → prepare deck n (choices.Send t) ≡ Quiet
+    → is_task n.tasks t ≡ true
 unfolding prepare
 quiet-send deck n t h = (quiet-need deck n t n.star h).0
 
-pub quiet-decides : (deck : Deck) (n : NodeState) (t : TaskId) → prepare deck n (choices.Send t) ≡ Quiet → IfSome n.star (λ p. manages_if_asked p (state_of n.tasks t).outstanding ≡ true)
+pub quiet-decides : (deck : Deck) (n : NodeState) (t : TaskId) → prepare deck n (choices.Send t) ≡ Quiet
+    → IfSome n.star (λ p. manages_if_asked p (state_of n.tasks t).outstanding ≡ true)
 unfolding prepare
 quiet-decides deck n t h = (quiet-need deck n t n.star h).1
 
 -- ---- a choice whose call may come to a reply
-sent-need : (deck : Deck) (n : NodeState) (t : TaskId) (p : StarPart) (reply : Reply) → may_come (prepared_by n.known (star_need deck n p (choices.Send t))) reply ≡ true → was_prepared n.tasks p (choices.Send t) ≡ true
+sent-need : (deck : Deck) (n : NodeState) (t : TaskId) (p : StarPart) (reply : Reply)
+    → may_come (prepared_by n.known (star_need deck n p (choices.Send t))) reply ≡ true
+    → was_prepared n.tasks p (choices.Send t) ≡ true
 sent-need deck n t p reply h = go (may_send deck n t) refl h
   where
-    free : (x : Option Asked) → may_come (prepared_by n.known (send_of p t x)) reply ≡ true → manages_asked p (entry_asked p x) ≡ false
+    free : (x : Option Asked) → may_come (prepared_by n.known (send_of p t x)) reply ≡ true
+        → manages_asked p (entry_asked p x) ≡ false
     free None k = refl
     free (Some a) k = at (entry_for p a.req.want) refl k
       where
-        at : (e : Option ℕ) → entry_for p a.req.want ≡ e → may_come (prepared_by n.known (send_to p (record { task = t; want = a.req.want }) e)) reply ≡ true → manages_asked p (entry_for p a.req.want) ≡ false
+        at : (e : Option ℕ) → entry_for p a.req.want ≡ e
+            → may_come (prepared_by n.known (send_to p (record { task = t; want = a.req.want }) e)) reply ≡ true
+            → manages_asked p (entry_for p a.req.want) ≡ false
         at None is k = ap (manages_asked p) is
         at (Some e) is k = ap (manages_asked p) is ∙ manages-one (manages p e) k
           where
-            manages-one : (b : Bool) → may_come (prepared_by n.known (cond b Alone (Asks (acts.Submit e (record { task = t; want = a.req.want }))))) reply ≡ true → b ≡ false
+            manages-one : (b : Bool)
+                → may_come (prepared_by n.known
+                (cond b Alone (Asks (acts.Submit e (record { task = t; want = a.req.want })))))
+                reply
+                ≡ true
+                → b ≡ false
             manages-one true k = cc
             manages-one false k = refl
 
     both : (a b : Bool) → a ≡ true → b ≡ false → (a && not b) ≡ true
     both a b e f = rw (e, f) refl
 
-    go : (b : Bool) → may_send deck n t ≡ b → may_come (prepared_by n.known (cond b (send_of p t (state_of n.tasks t).outstanding) Idle)) reply ≡ true → (is_task n.tasks t && not (manages_asked p (entry_asked p (state_of n.tasks t).outstanding))) ≡ true
+    go : (b : Bool) → may_send deck n t ≡ b
+        → may_come (prepared_by n.known (cond b (send_of p t (state_of n.tasks t).outstanding) Idle)) reply ≡ true
+        → (is_task n.tasks t && not (manages_asked p (entry_asked p (state_of n.tasks t).outstanding))) ≡ true
     go true is k = both _ _ (own-sender deck n t is) (free (state_of n.tasks t).outstanding k)
     go false is k = cc
 
-left-need : (deck : Deck) (n : NodeState) (e : ℕ) (p : StarPart) (reply : Reply) → may_come (prepared_by n.known (leave_by p n.tasks e)) reply ≡ true → may_leave p n.tasks e ≡ true
+left-need : (deck : Deck) (n : NodeState) (e : ℕ) (p : StarPart) (reply : Reply)
+    → may_come (prepared_by n.known (leave_by p n.tasks e)) reply ≡ true → may_leave p n.tasks e ≡ true
 left-need deck n e p reply h = go (may_leave p n.tasks e) h
   where
     go : (b : Bool) → may_come (prepared_by n.known (cond b (Asks (acts.Leave e)) Idle)) reply ≡ true → b ≡ true
     go true k = refl
     go false k = cc
 
-need-called : (deck : Deck) (n : NodeState) (choice : Choice) (reply : Reply) (p : StarPart) → may_come (prepared_by n.known (star_need deck n p choice)) reply ≡ true → was_prepared n.tasks p choice ≡ true
+need-called : (deck : Deck) (n : NodeState) (choice : Choice) (reply : Reply) (p : StarPart)
+    → may_come (prepared_by n.known (star_need deck n p choice)) reply ≡ true → was_prepared n.tasks p choice ≡ true
 need-called deck n (choices.Send t) reply p h = sent-need deck n t p reply h
 need-called deck n (choices.Leave e) reply p h = left-need deck n e p reply h
 need-called deck n (choices.Task t) reply p h = refl
@@ -108,16 +138,19 @@ need-called deck n choices.Switch reply p h = refl
 need-called deck n (choices.Purge s) reply p h = refl
 need-called deck n choices.Rest reply p h = refl
 
-star-called : (deck : Deck) (n : NodeState) (choice : Choice) (reply : Reply) (o : Option StarPart) → may_come (star_call deck n o choice) reply ≡ true → IfSome o (λ p. was_prepared n.tasks p choice ≡ true)
+star-called : (deck : Deck) (n : NodeState) (choice : Choice) (reply : Reply) (o : Option StarPart)
+    → may_come (star_call deck n o choice) reply ≡ true → IfSome o (λ p. was_prepared n.tasks p choice ≡ true)
 unfolding star_call
 star-called deck n choice reply None h = tt
 star-called deck n choice reply (Some p) h = need-called deck n choice reply p h
 
-other-called : (n : NodeState) (choice : Choice) (o : Option StarPart) → ((p : StarPart) → was_prepared n.tasks p choice ≡ true) → IfSome o (λ p. was_prepared n.tasks p choice ≡ true)
+other-called : (n : NodeState) (choice : Choice) (o : Option StarPart)
+    → ((p : StarPart) → was_prepared n.tasks p choice ≡ true) → IfSome o (λ p. was_prepared n.tasks p choice ≡ true)
 other-called n choice None h = tt
 other-called n choice (Some p) h = h p
 
-pub came-called : (deck : Deck) (n : NodeState) (choice : Choice) (reply : Reply) → may_come (prepare deck n choice) reply ≡ true → IfSome n.star (λ p. was_prepared n.tasks p choice ≡ true)
+pub came-called : (deck : Deck) (n : NodeState) (choice : Choice) (reply : Reply)
+    → may_come (prepare deck n choice) reply ≡ true → IfSome n.star (λ p. was_prepared n.tasks p choice ≡ true)
 unfolding prepare
 came-called deck n (choices.Task t) reply h = other-called n (choices.Task t) n.star (λ p. refl)
 came-called deck n choices.Turn reply h = other-called n choices.Turn n.star (λ p. refl)
@@ -145,7 +178,8 @@ send-other : (p : StarPart) (t : TaskId) (o : Option Asked) → needs_command (s
 send-other p t None = refl
 send-other p t (Some a) = at (entry_for p a.req.want)
   where
-    one : (e : ℕ) (b : Bool) → needs_command (cond b Alone (Asks (acts.Submit e (record { task = t; want = a.req.want })))) ≡ false
+    one : (e : ℕ) (b : Bool)
+        → needs_command (cond b Alone (Asks (acts.Submit e (record { task = t; want = a.req.want })))) ≡ false
     one e true = refl
     one e false = refl
 
@@ -157,7 +191,10 @@ settle-other : (p : StarPart) (o : Option Req) → needs_command (settle_by p o)
 settle-other p None = refl
 settle-other p (Some q) = go (serves p q)
   where
-    go : (b : Bool) → needs_command (cond b (Asks (acts.Settle q.task.system (mails.Answered q.task (answer_for p q) (rank_of p q)))) Idle) ≡ false
+    go : (b : Bool)
+        → needs_command
+        (cond b (Asks (acts.Settle q.task.system (mails.Answered q.task (answer_for p q) (rank_of p q)))) Idle)
+        ≡ false
     go true = refl
     go false = refl
 
@@ -165,7 +202,8 @@ tell-other : (o : Option (TaskId × Res)) → needs_command (tell_by o) ≡ fals
 tell-other None = refl
 tell-other (Some x) = refl
 
-need-other : (deck : Deck) (n : NodeState) (p : StarPart) (choice : Choice) → needs_command (star_need deck n p choice) ≡ false
+need-other : (deck : Deck) (n : NodeState) (p : StarPart) (choice : Choice)
+    → needs_command (star_need deck n p choice) ≡ false
 need-other deck n p (choices.Send t) = go (may_send deck n t)
   where
     go : (b : Bool) → needs_command (cond b (send_of p t (state_of n.tasks t).outstanding) Idle) ≡ false
@@ -268,15 +306,19 @@ module _ (deck : Deck) (n : NodeState) (reply : Reply) (only : OfDesk reply) whe
   purge-next None target k = cc
   purge-next (Some o) target k = refl
 
-  desk-below : (desk : List Desk) (k : ℕ) → is_some (option_map (λ c. c.order) (slice_get desk k)) ≡ true → k < length desk
+  desk-below : (desk : List Desk) (k : ℕ) → is_some (option_map (λ c. c.order) (slice_get desk k)) ≡ true
+      → k < length desk
   desk-below [] k h = cc
   desk-below (c ∷ desk) zero h = omega arith
   desk-below (c ∷ desk) (suc k) h = omega (arith, desk-below desk k h)
 
-  ordered : (choice : Choice) → may_come (prepare deck n choice) reply ≡ true → n.done < desk_count (slice_get deck.systems n.tasks.system)
+  ordered : (choice : Choice) → may_come (prepare deck n choice) reply ≡ true
+      → n.done < desk_count (slice_get deck.systems n.tasks.system)
   unfolding prepare
-  ordered choices.Switch k = desk-below (desk_of (slice_get deck.systems n.tasks.system)) n.done (desk-next (next_order deck n) k)
-  ordered (choices.Purge s) k = desk-below (desk_of (slice_get deck.systems n.tasks.system)) n.done (purge-next (next_order deck n) s k)
+  ordered choices.Switch k =
+      desk-below (desk_of (slice_get deck.systems n.tasks.system)) n.done (desk-next (next_order deck n) k)
+  ordered (choices.Purge s) k =
+      desk-below (desk_of (slice_get deck.systems n.tasks.system)) n.done (purge-next (next_order deck n) s k)
   ordered (choices.Task t) k = absurd (go (may_go deck n t) k)
     where
       go : (b : Bool) → may_come (cond b Quiet Nothing) reply ≡ true → ⊥
@@ -295,35 +337,51 @@ module _ (deck : Deck) (n : NodeState) (reply : Reply) (only : OfDesk reply) whe
   ordered (choices.Leave e) k = absurd (star-none (choices.Leave e) n.star k)
 
 -- so a system that tells of its desk has a command there that isn't done
-pub switched-orders : (deck : Deck) (n : NodeState) (choice : Choice) → may_come (prepare deck n choice) replies.Switched ≡ true → desk_count (slice_get deck.systems n.tasks.system) ≤ most_commands → n.done < most_commands
+pub switched-orders : (deck : Deck) (n : NodeState) (choice : Choice)
+    → may_come (prepare deck n choice) replies.Switched ≡ true
+    → desk_count (slice_get deck.systems n.tasks.system) ≤ most_commands → n.done < most_commands
 switched-orders deck n choice h few = omega (arith, ordered deck n replies.Switched of-switched choice h, few)
 
-pub already-orders : (deck : Deck) (n : NodeState) (choice : Choice) → may_come (prepare deck n choice) replies.Already ≡ true → desk_count (slice_get deck.systems n.tasks.system) ≤ most_commands → n.done < most_commands
+pub already-orders : (deck : Deck) (n : NodeState) (choice : Choice)
+    → may_come (prepare deck n choice) replies.Already ≡ true
+    → desk_count (slice_get deck.systems n.tasks.system) ≤ most_commands → n.done < most_commands
 already-orders deck n choice h few = omega (arith, ordered deck n replies.Already of-already choice h, few)
 
-pub purged-orders : (deck : Deck) (n : NodeState) (choice : Choice) → may_come (prepare deck n choice) replies.Purged ≡ true → desk_count (slice_get deck.systems n.tasks.system) ≤ most_commands → n.done < most_commands
+pub purged-orders : (deck : Deck) (n : NodeState) (choice : Choice)
+    → may_come (prepare deck n choice) replies.Purged ≡ true
+    → desk_count (slice_get deck.systems n.tasks.system) ≤ most_commands → n.done < most_commands
 purged-orders deck n choice h few = omega (arith, ordered deck n replies.Purged of-purged choice h, few)
 
-pub no_such-orders : (deck : Deck) (n : NodeState) (choice : Choice) → may_come (prepare deck n choice) replies.NoSuch ≡ true → desk_count (slice_get deck.systems n.tasks.system) ≤ most_commands → n.done < most_commands
+pub no_such-orders : (deck : Deck) (n : NodeState) (choice : Choice)
+    → may_come (prepare deck n choice) replies.NoSuch ≡ true
+    → desk_count (slice_get deck.systems n.tasks.system) ≤ most_commands → n.done < most_commands
 no_such-orders deck n choice h few = omega (arith, ordered deck n replies.NoSuch of-no_such choice h, few)
 
-pub in_star-orders : (deck : Deck) (n : NodeState) (choice : Choice) → may_come (prepare deck n choice) replies.InStar ≡ true → desk_count (slice_get deck.systems n.tasks.system) ≤ most_commands → n.done < most_commands
+pub in_star-orders : (deck : Deck) (n : NodeState) (choice : Choice)
+    → may_come (prepare deck n choice) replies.InStar ≡ true
+    → desk_count (slice_get deck.systems n.tasks.system) ≤ most_commands → n.done < most_commands
 in_star-orders deck n choice h few = omega (arith, ordered deck n replies.InStar of-in_star choice h, few)
 
 pub ruleset ordered_desk = (switched-orders, already-orders, purged-orders, no_such-orders, in_star-orders)
 
 -- ---- what a removal that is commanded is of
-order-at : (P : Order → Type 0) (cs : List Desk) (k : ℕ) (o : Order) → All (λ (c : Desk). P c.order) cs → option_map (λ c. c.order) (slice_get cs k) ≡ Some o → P o
+order-at : (P : Order → Type 0) (cs : List Desk) (k : ℕ) (o : Order) → All (λ (c : Desk). P c.order) cs
+    → option_map (λ c. c.order) (slice_get cs k) ≡ Some o → P o
 order-at P [] k o h is = absurd (cc)
 order-at P (c ∷ cs) zero o h is = let same : c.order ≡ o = cc in subst P same (h 0 c (omega arith))
 order-at P (c ∷ cs) (suc k) o h is = order-at P cs k o (All-tail (λ (d : Desk). P d.order) c cs h) is
 
 -- the target of a removal that a system's desk commands next is another system of as many
-pub target-of : (deck : Deck) (n : NodeState) (target : SysId) (all : ℕ) → All (λ (c : Desk). IsOrderOf all n.tasks.system c.order) (desk_of (slice_get deck.systems n.tasks.system)) → next_order deck n ≡ Some (orders.Vary target) → (target.0 < all) × (target.0 ≢ n.tasks.system)
-target-of deck n target all h is = order-at (IsOrderOf all n.tasks.system) (desk_of (slice_get deck.systems n.tasks.system)) n.done (orders.Vary target) h is
+pub target-of : (deck : Deck) (n : NodeState) (target : SysId) (all : ℕ)
+    → All (λ (c : Desk). IsOrderOf all n.tasks.system c.order) (desk_of (slice_get deck.systems n.tasks.system))
+    → next_order deck n ≡ Some (orders.Vary target) → (target.0 < all) × (target.0 ≢ n.tasks.system)
+target-of deck n target all h is =
+    order-at (IsOrderOf all n.tasks.system) (desk_of (slice_get deck.systems n.tasks.system)) n.done
+    (orders.Vary target) h is
 
 -- a task that sends is one of the system's
-pub call-send : (deck : Deck) (n : NodeState) (t : TaskId) (reply : Reply) → may_come (prepare deck n (choices.Send t)) reply ≡ true → is_task n.tasks t ≡ true
+pub call-send : (deck : Deck) (n : NodeState) (t : TaskId) (reply : Reply)
+    → may_come (prepare deck n (choices.Send t)) reply ≡ true → is_task n.tasks t ≡ true
 unfolding prepare star_call
 call-send deck n t reply h = go n.star h
   where
@@ -338,16 +396,20 @@ pub ruleset came = (came-called)
 pub ruleset quiet_sends = (quiet-send, quiet-decides)
 
 -- ---- an entry that is managed from now on
-kept-set : (es : List (Option Managed)) (e : ℕ) (m : Managed) → e < length es → kept_at (slice_set es e (Some m)) e ≡ Some m
+kept-set : (es : List (Option Managed)) (e : ℕ) (m : Managed) → e < length es
+    → kept_at (slice_set es e (Some m)) e ≡ Some m
 kept-set [] e m h = absurd (omega (arith, h))
 kept-set (o ∷ es) zero m h = refl
 kept-set (o ∷ es) (suc e) m h = kept-set es e m (omega (arith, h))
 
 -- serves the request that is of it
-pub decides-begun : (p : StarPart) (x : Option Asked) (e : ℕ) → entry_asked p x ≡ Some e → e < length p.manager.entries → manages_if_asked (begun p e) x ≡ true
+pub decides-begun : (p : StarPart) (x : Option Asked) (e : ℕ) → entry_asked p x ≡ Some e → e < length p.manager.entries
+    → manages_if_asked (begun p e) x ≡ true
 decides-begun p None e is h = refl
 decides-begun p (Some a) e is h =
-    let at : entry_wanted (length (slice_set p.manager.entries e (Some no_elements))) a.req.want ≡ Some e = ap (λ (n : ℕ). entry_wanted n a.req.want) (length-set p.manager.entries e (Some no_elements)) ∙ is in
-    ap (λ (o : Option ℕ). is_some (kept_for (slice_set p.manager.entries e (Some no_elements)) o)) at ∙ ap (λ (o : Option Managed). is_some o) (kept-set p.manager.entries e no_elements h)
+    let at : entry_wanted (length (slice_set p.manager.entries e (Some no_elements))) a.req.want ≡ Some e =
+    ap (λ (n : ℕ). entry_wanted n a.req.want) (length-set p.manager.entries e (Some no_elements)) ∙ is in
+    ap (λ (o : Option ℕ). is_some (kept_for (slice_set p.manager.entries e (Some no_elements)) o)) at
+    ∙ ap (λ (o : Option Managed). is_some o) (kept-set p.manager.entries e no_elements h)
 
 pub ruleset begins = (decides-begun)

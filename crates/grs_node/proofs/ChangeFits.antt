@@ -1,5 +1,6 @@
 -- What a system comes to in star mode by its table fits the deck, where the table does.
-use Rattle.std.proofs.Common.{◌≡◌, ◌<◌, ◌≤◌, ◌+◌, ℕ, zero, suc, Bool, true, false, cond, ◌&&◌, List, [], ◌∷◌, ◌++◌, length, map, replicate, Option, Some, None, refl, ◌∙◌, subst, arith}
+use Rattle.std.proofs.Common.{◌≡◌, ◌<◌, ◌≤◌, ◌+◌, ℕ, zero, suc, Bool, true, false, cond, ◌&&◌, List, [], ◌∷◌, ◌++◌}
+use Rattle.std.proofs.Common.{length, map, replicate, Option, Some, None, refl, ◌∙◌, subst, arith}
 use Rattle.std.specs.Prelude.{◌==◌, slice_get}
 use Rattle.std.specs.List.{list_all, range_with_len}
 use Rattle.std.proofs.lemmas.Bool.{and_parts}
@@ -17,7 +18,8 @@ use Rattle.grs_base.specs.declared.resource.Res.{Res}
 use Rattle.grs_base.specs.declared.resource.SysId.{SysId}
 use Rattle.grs_base.specs.declared.resource.TaskId.{TaskId}
 use Rattle.grs_node.specs.Addressed.{is_within, is_addressed, PartFits}
-use Rattle.grs_node.specs.Change.{entry_by_table, part_by_table, with_rank_by, with_list_ranks, with_ranks, with_first_look, one_by_one}
+use Rattle.grs_node.specs.Change.{entry_by_table, part_by_table, with_rank_by, with_list_ranks, with_ranks}
+use Rattle.grs_node.specs.Change.{with_first_look, one_by_one}
 use Rattle.grs_node.specs.Node.{NodeState, desk_count, words_by, switch_call, change_to_star}
 use Rattle.grs_node.specs.Star.{StarPart}
 use Rattle.grs_wire.specs.Decks.{IsWithin, IsDeck}
@@ -42,26 +44,35 @@ both false b e f = absurd cc
 
 -- ---- the elements of a manager
 module _ (p : TaskId → Bool) where
-  list-elements : (r : Res) (es : List Elem) (ns : List ℕ) → list_all (λ x. p x.task) es ≡ true → elements_of p (ranked_list r es ns) ≡ true
+  list-elements : (r : Res) (es : List Elem) (ns : List ℕ) → list_all (λ x. p x.task) es ≡ true
+      → elements_of p (ranked_list r es ns) ≡ true
   list-elements r [] ns h = refl
   list-elements r (x ∷ es) [] h = refl
-  list-elements r (x ∷ es) (n ∷ ns) h = both (p x.task) _ (and_parts (p x.task) _ h).0 (list-elements r es ns (and_parts (p x.task) _ h).1)
+  list-elements r (x ∷ es) (n ∷ ns) h =
+      both (p x.task) _ (and_parts (p x.task) _ h).0 (list-elements r es ns (and_parts (p x.task) _ h).1)
 
-  append-elements : (r : Res) (es : List Elem) (ns : List ℕ) (xs : List RankedRow) → list_all (λ x. p x.task) es ≡ true → elements_of p (ranked_rows xs) ≡ true → elements_of p (ranked_list r es ns ++ ranked_rows xs) ≡ true
+  append-elements : (r : Res) (es : List Elem) (ns : List ℕ) (xs : List RankedRow) → list_all (λ x. p x.task) es ≡ true
+      → elements_of p (ranked_rows xs) ≡ true → elements_of p (ranked_list r es ns ++ ranked_rows xs) ≡ true
   append-elements r [] ns xs h k = k
   append-elements r (x ∷ es) [] xs h k = k
-  append-elements r (x ∷ es) (n ∷ ns) xs h k = both (p x.task) _ (and_parts (p x.task) _ h).0 (append-elements r es ns xs (and_parts (p x.task) _ h).1 k)
+  append-elements r (x ∷ es) (n ∷ ns) xs h k =
+      both (p x.task) _ (and_parts (p x.task) _ h).0 (append-elements r es ns xs (and_parts (p x.task) _ h).1 k)
 
-  rows-elements : (xs : List RankedRow) → list_all (λ x. list_all (λ y. p y.task) x.0.elems) xs ≡ true → elements_of p (ranked_rows xs) ≡ true
+  rows-elements : (xs : List RankedRow) → list_all (λ x. list_all (λ y. p y.task) x.0.elems) xs ≡ true
+      → elements_of p (ranked_rows xs) ≡ true
   rows-elements [] h = refl
-  rows-elements (x ∷ xs) h = append-elements x.0.res x.0.elems x.1 xs (and_parts (list_all (λ y. p y.task) x.0.elems) _ h).0 (rows-elements xs (and_parts (list_all (λ y. p y.task) x.0.elems) _ h).1)
+  rows-elements (x ∷ xs) h =
+      append-elements x.0.res x.0.elems x.1 xs (and_parts (list_all (λ y. p y.task) x.0.elems) _ h).0
+      (rows-elements xs (and_parts (list_all (λ y. p y.task) x.0.elems) _ h).1)
 
   module _ (entries : ℕ) (s : SysId) (t : State) (h : list_all (λ x. p x.1.task) t ≡ true) where
     entry-elements : (e : ℕ) → elements_of p (items_of (entry_by_table entries s t e)) ≡ true
     entry-elements e = go (managed_by_table entries s t e)
       where
         go : (b : Bool) → elements_of p (items_of (cond b (Some (loaded (part_by entries t e))) None)) ≡ true
-        go true = rows-elements (part_by entries t e) (all-part (list_all (λ y. p y.task)) entries t e (λ r. all-list (λ y. p y.task) t r h))
+        go true =
+            rows-elements (part_by entries t e)
+            (all-part (list_all (λ y. p y.task)) entries t e (λ r. all-list (λ y. p y.task) t r h))
         go false = refl
 
     table-elements : (a n : ℕ) → all_of p (map (entry_by_table entries s t) (range_with_len a n)) ≡ true
@@ -69,7 +80,8 @@ module _ (p : TaskId → Bool) where
     table-elements a (suc n) = both _ _ (entry-elements a) (table-elements (a + 1) n)
 
 -- the part of a system
-pub part-fits : (deck : Deck) (s : SysId) (t : State) → 0 < deck.entries → list_all (λ x. is_within deck x.1.task) t ≡ true → PartFits deck s.0 (part_by_table deck.entries s t)
+pub part-fits : (deck : Deck) (s : SysId) (t : State) → 0 < deck.entries
+    → list_all (λ x. is_within deck x.1.task) t ≡ true → PartFits deck s.0 (part_by_table deck.entries s t)
 part-fits deck s t some within = record {
   system = refl;
   some = some;
@@ -86,7 +98,9 @@ desk_few deck s h = go (slice_get deck.systems s) refl
     go : (o : Option SystemDef) → slice_get deck.systems s ≡ o → desk_count o ≤ most_commands
     go None is = omega arith
     go (Some d) is =
-        let own : IsWithin d = subst IsWithin (get_or_from_slice_get deck.systems s d d is) (h.fits.each s d (slice_get_within deck.systems s d is)) in
+        let own : IsWithin d =
+        subst IsWithin (get_or_from_slice_get deck.systems s d d is)
+        (h.fits.each s d (slice_get_within deck.systems s d is)) in
         own.desk
 
 -- ---- tasks that change stay those of their system
@@ -102,7 +116,8 @@ system-list v r (x ∷ es) (n ∷ ns) = system-list (with_rank_by v r x.task n) 
 
 system-ranks : (v : TasksView) (xs : List RankedRow) → (with_ranks v xs).system ≡ v.system
 system-ranks v [] = refl
-system-ranks v (x ∷ xs) = system-ranks (with_list_ranks v x.0.res x.0.elems x.1) xs ∙ system-list v x.0.res x.0.elems x.1
+system-ranks v (x ∷ xs) =
+    system-ranks (with_list_ranks v x.0.res x.0.elems x.1) xs ∙ system-list v x.0.res x.0.elems x.1
 
 system-look : (v : TasksView) (t : TaskId) (w : Want) → (with_first_look v t w).system ≡ v.system
 unfolding with_outstanding with_state
@@ -117,9 +132,11 @@ system-looks v (q ∷ qs) = system-looks (with_first_look v q.task q.want) qs �
 
 pub system-changed : (deck : Deck) (n : NodeState) → (change_to_star deck n).tasks.system ≡ n.tasks.system
 unfolding change_to_star
-system-changed deck n = system-ranks (one_by_one n.tasks n.outbox) (ranked_by deck.entries n.shared) ∙ system-looks n.tasks n.outbox
+system-changed deck n =
+    system-ranks (one_by_one n.tasks n.outbox) (ranked_by deck.entries n.shared) ∙ system-looks n.tasks n.outbox
 
-pub star-changed : (deck : Deck) (n : NodeState) → (change_to_star deck n).star ≡ Some (part_by_table deck.entries (record { 0 = n.tasks.system }) n.shared)
+pub star-changed : (deck : Deck) (n : NodeState)
+    → (change_to_star deck n).star ≡ Some (part_by_table deck.entries (record { 0 = n.tasks.system }) n.shared)
 unfolding change_to_star
 star-changed deck n = refl
 
@@ -128,17 +145,26 @@ no-words-fit : (n k : ℕ) → list_all (word_fits n) (replicate k 0) ≡ true
 no-words-fit n zero = refl
 no-words-fit n (suc k) = no-words-fit n k
 
-words-fit : (deck : Deck) (t : State) (o : Option StarPart) → list_all (λ x. is_within deck x.1.task) t ≡ true → ((length (words_by deck.entries t o) == deck.entries) && list_all (word_fits (length deck.systems)) (words_by deck.entries t o)) ≡ true
-words-fit deck t None within = let fit = own_words_fit (length deck.systems) deck.entries t within in both _ _ (same fit.0) fit.1
+words-fit : (deck : Deck) (t : State) (o : Option StarPart) → list_all (λ x. is_within deck x.1.task) t ≡ true
+    → ((length (words_by deck.entries t o) == deck.entries)
+    && list_all (word_fits (length deck.systems)) (words_by deck.entries t o))
+    ≡ true
+words-fit deck t None within =
+    let fit = own_words_fit (length deck.systems) deck.entries t within in both _ _ (same fit.0) fit.1
   where
-    same : length (table_words deck.entries t) ≡ deck.entries → (length (table_words deck.entries t) == deck.entries) ≡ true
+    same : length (table_words deck.entries t) ≡ deck.entries
+        → (length (table_words deck.entries t) == deck.entries) ≡ true
     same h = grind (arith, nat_tests, h)
-words-fit deck t (Some p) within = both _ _ (same (length-replicate {A = ℕ} deck.entries 0)) (no-words-fit (length deck.systems) deck.entries)
+words-fit deck t (Some p) within =
+    both _ _ (same (length-replicate {A = ℕ} deck.entries 0)) (no-words-fit (length deck.systems) deck.entries)
   where
-    same : length (replicate {A = ℕ} deck.entries 0) ≡ deck.entries → (length (replicate {A = ℕ} deck.entries 0) == deck.entries) ≡ true
+    same : length (replicate {A = ℕ} deck.entries 0) ≡ deck.entries
+        → (length (replicate {A = ℕ} deck.entries 0) == deck.entries) ≡ true
     same h = grind (arith, nat_tests, h)
 
-pub switch-fits : (deck : Deck) (n : NodeState) (o : Option Order) → list_all (λ x. is_within deck x.1.task) n.shared ≡ true → is_addressed deck n.tasks.system (switch_call deck n o) ≡ true
+pub switch-fits : (deck : Deck) (n : NodeState) (o : Option Order)
+    → list_all (λ x. is_within deck x.1.task) n.shared ≡ true
+    → is_addressed deck n.tasks.system (switch_call deck n o) ≡ true
 switch-fits deck n None within = refl
 switch-fits deck n (Some orders.Star) within = words-fit deck n.shared n.star within
 switch-fits deck n (Some (orders.Vary t)) within = refl

@@ -1,5 +1,5 @@
--- What a system's change to star mode comes to, on examples: each is what the rules of the service give by hand. There is
--- one lock entry.
+-- What a system's change to star mode comes to, on examples: each is what the rules of the service give by hand. There
+-- is one lock entry.
 use Rattle.std.proofs.Common.{◌≡◌, ℕ, Bool, true, false, List, [], ◌∷◌, Option, Some, None, refl, codes, map}
 use Rattle.contention_mgr.specs.Manager.{Managed, Ranked}
 use Rattle.grs_base.specs.Rnl.{no_entries}
@@ -16,7 +16,8 @@ use Rattle.grs_base.specs.declared.rnl.Which.TheVariants as which
 use Rattle.grs_node.specs.Addressed.{is_addressed}
 use Rattle.grs_node.specs.Change.{one_by_one}
 use Rattle.grs_node.specs.Finish.{is_listed}
-use Rattle.grs_node.specs.Node.{NodeState, only, prepare, change_to_star, turned, put_in, all_sent, read_entries, switched, desk_told, finish_call, finish_star}
+use Rattle.grs_node.specs.Node.{NodeState, only, prepare, change_to_star, turned, put_in, all_sent, read_entries}
+use Rattle.grs_node.specs.Node.{switched, desk_told, finish_call, finish_star}
 use Rattle.grs_node.specs.Star.{StarPart}
 use Rattle.grs_node.specs.declared.prepared.Prepared.TheVariants.{Call, Nothing}
 use Rattle.grs_wire.specs.LockWords.{lock_word, manager}
@@ -54,26 +55,50 @@ deck desk = record {
   entries = 1;
   limit = 4096;
   lists = record { incl = no_entries which.Incl; excl = no_entries which.Excl; con = no_entries which.Con };
-  systems = map (λ name. record { name = name; desk = map (λ o. record { at = 0; order = o }) desk; jobs = record { name = codes "J"; tasks = record { name = codes "T"; lines = [] } ∷ [] } ∷ [] }) (codes "A" ∷ codes "B" ∷ codes "C" ∷ []);
+  systems =
+      map (λ name. record {
+        name = name;
+        desk = map (λ o. record { at = 0; order = o }) desk;
+        jobs = record { name = codes "J"; tasks = record { name = codes "T"; lines = [] } ∷ [] } ∷ [];
+      })
+      (codes "A" ∷ codes "B" ∷ codes "C" ∷ []);
   events = [];
 }
 
--- In order of arrival: system 2 owns the second resource by name, and system 0 waits for it; systems 1 and 0 share the first.
+-- In order of arrival: system 2 owns the second resource by name, and system 0 waits for it; systems 1 and 0 share the
+-- first.
 abbrev table : State
-table = (ad, record { task = task 2 0; ctl = E }) ∷ (ab, record { task = task 1 0; ctl = S }) ∷ (ab, record { task = task 0 0; ctl = S }) ∷ (ad, record { task = task 0 0; ctl = E }) ∷ []
+table =
+    (ad, record { task = task 2 0; ctl = E }) ∷ (ab, record { task = task 1 0; ctl = S })
+    ∷ (ab, record { task = task 0 0; ctl = S }) ∷ (ad, record { task = task 0 0; ctl = E }) ∷ []
 
--- The first task of system 0 owns the one and is held by the answer for the other; the second has a request in the outbox.
+-- The first task of system 0 owns the one and is held by the answer for the other; the second has a request in the
+-- outbox.
 abbrev rec_of : Res → Ctl → Bool → ℕ → ℕ → Rec
 rec_of r c told line rank = record { res = r; ctl = c; rank = rank; told = told; unit = None; line = line }
 
 abbrev waiting : ℕ → ℕ → TaskState
-waiting first second = record { line = 2; phase = phases.HeldAnswer; code = 0; records = rec_of ab S true 1 first ∷ rec_of ad E false 2 second ∷ []; outstanding = None; rows = [] }
+waiting first second = record {
+  line = 2;
+  phase = phases.HeldAnswer;
+  code = 0;
+  records = rec_of ab S true 1 first ∷ rec_of ad E false 2 second ∷ [];
+  outstanding = None;
+  rows = [];
+}
 
 abbrev asks : Want → Req
 asks w = record { task = task 0 1; want = w }
 
 abbrev sending : Want → TaskState
-sending w = record { line = 1; phase = phases.ToSend; code = 0; records = []; outstanding = Some (record { req = asks w; unit = None }); rows = [] }
+sending w = record {
+  line = 1;
+  phase = phases.ToSend;
+  code = 0;
+  records = [];
+  outstanding = Some (record { req = asks w; unit = None });
+  rows = [];
+}
 
 abbrev enq : Want
 enq = Enq ab E RetNone false
@@ -82,21 +107,40 @@ abbrev tasks : ℕ → ℕ → Want → List ToldLine → TasksView
 tasks first second w lines = record { system = 0; tasks = waiting first second ∷ sending w ∷ []; told = lines }
 
 abbrev before : Want → NodeState
-before w = record { tasks = tasks 0 0 w []; own = []; shared = table; outbox = asks w ∷ []; star = None; known = 0; done = 0 }
+before w = record {
+  tasks = tasks 0 0 w [];
+  own = [];
+  shared = table;
+  outbox = asks w ∷ [];
+  star = None;
+  known = 0;
+  done = 0;
+}
 
--- The elements are ranked on from 1, the resource first that is shown first, each list in its own order; nobody is still to
--- be told.
+-- The elements are ranked on from 1, the resource first that is shown first, each list in its own order; nobody is
+-- still to be told.
 abbrev item : Res → TaskId → Ctl → ℕ → Ranked
 item r t c rank = record { res = r; elem = record { task = t; ctl = c }; rank = rank; untold = false }
 
 abbrev lists : Managed
-lists = record { next = 5; items = item ab (task 1 0) S 1 ∷ item ab (task 0 0) S 2 ∷ item ad (task 2 0) E 3 ∷ item ad (task 0 0) E 4 ∷ [] }
+lists = record {
+  next = 5;
+  items = item ab (task 1 0) S 1 ∷ item ab (task 0 0) S 2 ∷ item ad (task 2 0) E 3 ∷ item ad (task 0 0) E 4 ∷ [];
+}
 
 abbrev part : SysId → Option Managed → StarPart
 part s o = record { manager = record { system = s; entries = o ∷ [] }; held = []; interest = true ∷ [] }
 
 abbrev after : List ToldLine → ℕ → NodeState
-after lines done = record { tasks = tasks 2 4 enq lines; own = []; shared = []; outbox = []; star = Some (part (record { 0 = 0 }) (Some lists)); known = 0; done = done }
+after lines done = record {
+  tasks = tasks 2 4 enq lines;
+  own = [];
+  shared = [];
+  outbox = [];
+  star = Some (part (record { 0 = 0 }) (Some lists));
+  known = 0;
+  done = done;
+}
 
 -- System 0 is the least with an element, so it manages the entry. The request stays with its task, which is to send it.
 changed : change_to_star (deck []) (before enq) ≡ after [] 0
@@ -105,7 +149,15 @@ changed = refl
 
 -- a system that has elements and isn't the least has interest, and manages nothing
 abbrev of_second : Option StarPart → State → NodeState
-of_second p t = record { tasks = record { system = 1; tasks = []; told = [] }; own = []; shared = t; outbox = []; star = p; known = 0; done = 0 }
+of_second p t = record {
+  tasks = record { system = 1; tasks = []; told = [] };
+  own = [];
+  shared = t;
+  outbox = [];
+  star = p;
+  known = 0;
+  done = 0;
+}
 
 second : change_to_star (deck []) (of_second None table) ≡ of_second (Some (part (record { 0 = 1 }) None)) []
 unfolding change_to_star with_rank with_state state_of
@@ -118,16 +170,19 @@ looks = refl
 
 -- ---- the command at the desk
 -- the words are those of the table: all three have interest, and system 0 manages
-ordered : prepare (deck (orders.Star ∷ [])) (before enq) choices.Switch ≡ Call (record { known = 0; act = acts.Switch (263 ∷ []) })
+ordered : prepare (deck (orders.Star ∷ [])) (before enq) choices.Switch
+    ≡ Call (record { known = 0; act = acts.Switch (263 ∷ []) })
 unfolding prepare lock_word with_also
 ordered = refl
 
-addressed : is_addressed (deck (orders.Star ∷ [])) 0 (prepare (deck (orders.Star ∷ [])) (before enq) choices.Switch) ≡ true
+addressed : is_addressed (deck (orders.Star ∷ [])) 0 (prepare (deck (orders.Star ∷ [])) (before enq) choices.Switch)
+    ≡ true
 unfolding prepare lock_word manager has with_also
 addressed = refl
 
 -- in star mode there are none
-in_star : prepare (deck (orders.Star ∷ orders.Star ∷ [])) (after [] 1) choices.Switch ≡ Call (record { known = 0; act = acts.Switch (0 ∷ []) })
+in_star : prepare (deck (orders.Star ∷ orders.Star ∷ [])) (after [] 1) choices.Switch
+    ≡ Call (record { known = 0; act = acts.Switch (0 ∷ []) })
 unfolding prepare
 in_star = refl
 
@@ -145,12 +200,14 @@ unfolding prepare
 removal_first = refl
 
 -- ---- what comes of it
-done : finish_call (deck (orders.Star ∷ [])) (before enq) choices.Switch replies.Switched ≡ only (after (told.Desk 1 saids.StarDone ∷ []) 1)
+done : finish_call (deck (orders.Star ∷ [])) (before enq) choices.Switch replies.Switched
+    ≡ only (after (told.Desk 1 saids.StarDone ∷ []) 1)
 unfolding finish_call switched desk_told telling change_to_star with_rank with_state state_of
 done = refl
 
 -- the complex was in star mode: the system changes at its next Turn
-already : finish_call (deck (orders.Star ∷ [])) (before enq) choices.Switch replies.Already ≡ only (record (before enq) { tasks = tasks 0 0 enq (told.Desk 1 saids.StarAlready ∷ []); done = 1 })
+already : finish_call (deck (orders.Star ∷ [])) (before enq) choices.Switch replies.Already
+    ≡ only (record (before enq) { tasks = tasks 0 0 enq (told.Desk 1 saids.StarAlready ∷ []); done = 1 })
 unfolding finish_call desk_told telling
 already = refl
 
@@ -160,7 +217,8 @@ unfolding finish_call finish_star
 behind = refl
 
 -- a system that is in star mode isn't changed again
-changed_before : finish_call (deck (orders.Star ∷ orders.Star ∷ [])) (after [] 1) choices.Switch replies.Switched ≡ only (after [] 1)
+changed_before : finish_call (deck (orders.Star ∷ orders.Star ∷ [])) (after [] 1) choices.Switch replies.Switched
+    ≡ only (after [] 1)
 unfolding finish_call switched
 changed_before = refl
 
@@ -174,5 +232,6 @@ unfolding turned put_in all_sent read_entries
 open_message = refl
 
 -- such replies are those of a Switch
-listed : (is_listed (acts.Switch []) replies.Switched ≡ true) × (is_listed (acts.Switch []) replies.Already ≡ true) × (is_listed (acts.Switch []) (replies.Behind 1) ≡ true) × (is_listed acts.Rest replies.Already ≡ false)
+listed : (is_listed (acts.Switch []) replies.Switched ≡ true) × (is_listed (acts.Switch []) replies.Already ≡ true)
+    × (is_listed (acts.Switch []) (replies.Behind 1) ≡ true) × (is_listed acts.Rest replies.Already ≡ false)
 listed = (refl, refl, refl, refl)

@@ -6,7 +6,8 @@ use Rattle.grs_wire.specs.declared.medium.Reply.TheVariants as replies
 use Rattle.grs_node.specs.Finish.{UnjournalledLeaves, RepliesLeave}
 use Rattle.grs_node.specs.Log.{finished}
 use Rattle.grs_base.specs.declared.resource.TaskId.{TaskId}
-use Rattle.grs_node.specs.Node.{NodeState, only, with_star, take_step, star_step, read_entries, all_sent, put_in, turned, finish_star, finish_call, finish}
+use Rattle.grs_node.specs.Node.{NodeState, only, with_star, take_step, star_step, read_entries, all_sent, put_in}
+use Rattle.grs_node.specs.Node.{turned, finish_star, finish_call, finish}
 use Rattle.grs_node.specs.Star.{StarPart, fixing_none, send_step, settle_step, tell_step, leave_step}
 use Rattle.grs_wire.specs.declared.deck.Choice.{Choice}
 use Rattle.grs_wire.specs.declared.deck.Choice.TheVariants as choices
@@ -15,7 +16,11 @@ use Rattle.grs_wire.specs.declared.medium.Reply.{Reply}
 use Rattle.task_state.specs.View.{TasksView}
 
 -- a reply that says nothing new to any choice of star mode
-by-choice : (deck : Deck) (v : TasksView) (p : StarPart) (reply : Reply) → ((t : TaskId) → send_step v p t reply ≡ fixing_none v p) → take_step deck v p reply ≡ fixing_none v p → settle_step v p reply ≡ fixing_none v p → ((e : ℕ) → tell_step v p e reply ≡ fixing_none v p) → ((e : ℕ) → leave_step v p e reply ≡ fixing_none v p) → (choice : Choice) → star_step deck v p choice reply ≡ fixing_none v p
+by-choice : (deck : Deck) (v : TasksView) (p : StarPart) (reply : Reply)
+    → ((t : TaskId) → send_step v p t reply ≡ fixing_none v p) → take_step deck v p reply ≡ fixing_none v p
+    → settle_step v p reply ≡ fixing_none v p → ((e : ℕ) → tell_step v p e reply ≡ fixing_none v p)
+    → ((e : ℕ) → leave_step v p e reply ≡ fixing_none v p) → (choice : Choice)
+    → star_step deck v p choice reply ≡ fixing_none v p
 by-choice deck v p reply send take settle tell leave (choices.Send t) = send t
 by-choice deck v p reply send take settle tell leave choices.Take = take
 by-choice deck v p reply send take settle tell leave choices.Settle = settle
@@ -31,7 +36,9 @@ restored : (n : NodeState) (p : StarPart) → n.star ≡ Some p → with_star n 
 restored n p is = ap (λ (o : Option StarPart). only (record n { star = o })) (sym is)
 
 -- leaves the system
-still : (deck : Deck) (n : NodeState) (choice : Choice) (reply : Reply) → ((p : StarPart) → star_step deck n.tasks p choice reply ≡ fixing_none n.tasks p) → finish_star deck n n.star choice reply ≡ only n
+still : (deck : Deck) (n : NodeState) (choice : Choice) (reply : Reply)
+    → ((p : StarPart) → star_step deck n.tasks p choice reply ≡ fixing_none n.tasks p)
+    → finish_star deck n n.star choice reply ≡ only n
 unfolding finish_star
 still deck n choice reply same = go n.star refl
   where
@@ -41,13 +48,27 @@ still deck n choice reply same = go n.star refl
 
 pub replies_leave : RepliesLeave
 unfolding finish finish_call turned put_in all_sent read_entries
-replies_leave deck n choice (replies.NotYours holder) h = still deck n choice (replies.NotYours holder) (λ p. by-choice deck n.tasks p (replies.NotYours holder) (λ t. refl) refl refl (λ e. refl) (λ e. refl) choice)
-replies_leave deck n choice (replies.Behind first) h = still deck n choice (replies.Behind first) (λ p. by-choice deck n.tasks p (replies.Behind first) (λ t. refl) refl refl (λ e. refl) (λ e. refl) choice)
-replies_leave deck n choice replies.Empty h = still deck n choice replies.Empty (λ p. by-choice deck n.tasks p replies.Empty (λ t. refl) refl refl (λ e. refl) (λ e. refl) choice)
-replies_leave deck n choice (replies.Kept mask) h = still deck n choice (replies.Kept mask) (λ p. by-choice deck n.tasks p (replies.Kept mask) (λ t. refl) refl refl (λ e. refl) (λ e. refl) choice)
-replies_leave deck n choice replies.Resting h = still deck n choice replies.Resting (λ p. by-choice deck n.tasks p replies.Resting (λ t. refl) refl refl (λ e. refl) (λ e. refl) choice)
-replies_leave deck n choice replies.Over h = still deck n choice replies.Over (λ p. by-choice deck n.tasks p replies.Over (λ t. refl) refl refl (λ e. refl) (λ e. refl) choice)
-replies_leave deck n choice replies.Removed h = still deck n choice replies.Removed (λ p. by-choice deck n.tasks p replies.Removed (λ t. refl) refl refl (λ e. refl) (λ e. refl) choice)
+replies_leave deck n choice (replies.NotYours holder) h =
+    still deck n choice (replies.NotYours holder)
+    (λ p. by-choice deck n.tasks p (replies.NotYours holder) (λ t. refl) refl refl (λ e. refl) (λ e. refl) choice)
+replies_leave deck n choice (replies.Behind first) h =
+    still deck n choice (replies.Behind first)
+    (λ p. by-choice deck n.tasks p (replies.Behind first) (λ t. refl) refl refl (λ e. refl) (λ e. refl) choice)
+replies_leave deck n choice replies.Empty h =
+    still deck n choice replies.Empty
+    (λ p. by-choice deck n.tasks p replies.Empty (λ t. refl) refl refl (λ e. refl) (λ e. refl) choice)
+replies_leave deck n choice (replies.Kept mask) h =
+    still deck n choice (replies.Kept mask)
+    (λ p. by-choice deck n.tasks p (replies.Kept mask) (λ t. refl) refl refl (λ e. refl) (λ e. refl) choice)
+replies_leave deck n choice replies.Resting h =
+    still deck n choice replies.Resting
+    (λ p. by-choice deck n.tasks p replies.Resting (λ t. refl) refl refl (λ e. refl) (λ e. refl) choice)
+replies_leave deck n choice replies.Over h =
+    still deck n choice replies.Over
+    (λ p. by-choice deck n.tasks p replies.Over (λ t. refl) refl refl (λ e. refl) (λ e. refl) choice)
+replies_leave deck n choice replies.Removed h =
+    still deck n choice replies.Removed
+    (λ p. by-choice deck n.tasks p replies.Removed (λ t. refl) refl refl (λ e. refl) (λ e. refl) choice)
 replies_leave deck n choice (replies.Turned [] taken true) h = absurd (cc (and_parts (taken == 0) false h).1)
 replies_leave deck n choice (replies.Turned [] taken false) h =
     let none : taken ≡ 0 = eqb-true taken 0 (and_parts (taken == 0) true h).0 in
@@ -68,4 +89,5 @@ replies_leave deck n choice replies.InStar h = absurd (cc)
 
 pub unjournalled_leaves : UnjournalledLeaves
 unfolding finished
-unjournalled_leaves v choice reply h = ap (λ s. record v { node = s.node }) (replies_leave v.deck v.node choice reply h.1)
+unjournalled_leaves v choice reply h =
+    ap (λ s. record v { node = s.node }) (replies_leave v.deck v.node choice reply h.1)

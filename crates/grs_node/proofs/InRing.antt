@@ -1,6 +1,9 @@
 -- A system in a ring: it has no part in star mode, and what its events come to is told without one.
-use Rattle.std.proofs.Common.{◌≡◌, ℕ, true, false, cond, List, [], ◌∷◌, ◌++◌, take, Option, None, is_some, refl, ap, ◌∙◌}
-use Rattle.grs_node.specs.Node.{NodeState, Step, only, outbox_with, prepare, star_call, turn_call, may_go, is_pending, read_entries, put_in, finish_star, finish_call, next_order, switch_call, purge_call, turned, switched, purged, desk_told, all_sent, change_to_star}
+use Rattle.std.proofs.Common.{◌≡◌, ℕ, true, false, cond, List, [], ◌∷◌, ◌++◌, take, Option, None, is_some, refl, ap}
+use Rattle.std.proofs.Common.{◌∙◌}
+use Rattle.grs_node.specs.Node.{NodeState, Step, only, outbox_with, prepare, star_call, turn_call, may_go, is_pending}
+use Rattle.grs_node.specs.Node.{read_entries, put_in, finish_star, finish_call, next_order, switch_call, purge_call}
+use Rattle.grs_node.specs.Node.{turned, switched, purged, desk_told, all_sent, change_to_star}
 use Rattle.grs_base.specs.Limits.{most_additions}
 use Rattle.std.specs.Prelude.{is_none}
 use Rattle.grs_node.specs.Star.{StarPart}
@@ -30,7 +33,8 @@ no_call : (deck : Deck) (n : NodeState) (choice : Choice) → n.star ≡ None �
 unfolding star_call
 no_call deck n choice h = ap (λ (o : Option StarPart). star_call deck n o choice) h
 
-pub prepare-ring : (deck : Deck) (n : NodeState) (choice : Choice) → n.star ≡ None → prepare deck n choice ≡ ring_prepare deck n choice
+pub prepare-ring : (deck : Deck) (n : NodeState) (choice : Choice) → n.star ≡ None
+    → prepare deck n choice ≡ ring_prepare deck n choice
 unfolding prepare
 prepare-ring deck n (choices.Task t) h = refl
 prepare-ring deck n choices.Turn h = ap (turn_call n) h
@@ -54,11 +58,13 @@ ring_finish deck n choice replies.NoSuch = only (desk_told n saids.VaryNoSuch)
 ring_finish deck n choice replies.InStar = only (desk_told n saids.VaryInStar)
 ring_finish deck n choice reply = only n
 
-no_step : (deck : Deck) (n : NodeState) (choice : Choice) (reply : Reply) → n.star ≡ None → finish_star deck n n.star choice reply ≡ only n
+no_step : (deck : Deck) (n : NodeState) (choice : Choice) (reply : Reply) → n.star ≡ None
+    → finish_star deck n n.star choice reply ≡ only n
 unfolding finish_star
 no_step deck n choice reply h = ap (λ (o : Option StarPart). finish_star deck n o choice reply) h
 
-pub finish-ring : (deck : Deck) (n : NodeState) (choice : Choice) (reply : Reply) → n.star ≡ None → finish_call deck n choice reply ≡ ring_finish deck n choice reply
+pub finish-ring : (deck : Deck) (n : NodeState) (choice : Choice) (reply : Reply) → n.star ≡ None
+    → finish_call deck n choice reply ≡ ring_finish deck n choice reply
 unfolding finish_call
 finish-ring deck n choice (replies.Turned entries taken closed) h = refl
 finish-ring deck n choice (replies.Stale set) h = refl
@@ -87,19 +93,24 @@ outbox-ring n q h = ap (λ (o : Option StarPart). cond (is_some o) n.outbox (n.o
 
 -- ---- a Turn
 -- the open message leaves it in the ring
-pub open-turned : (deck : Deck) (n : NodeState) (entries : List RingEntry) (taken : ℕ) → turned deck n entries taken false ≡ put_in (read_entries deck n entries) taken
+pub open-turned : (deck : Deck) (n : NodeState) (entries : List RingEntry) (taken : ℕ)
+    → turned deck n entries taken false ≡ put_in (read_entries deck n entries) taken
 unfolding turned
 open-turned deck n entries taken = refl
 
 -- at the closed message it processes what it was given, and changes to star mode
-pub closed-turned : (deck : Deck) (n : NodeState) (entries : List RingEntry) → n.star ≡ None → turned deck n entries 0 true ≡ only (change_to_star deck (read_entries deck n entries))
+pub closed-turned : (deck : Deck) (n : NodeState) (entries : List RingEntry) → n.star ≡ None
+    → turned deck n entries 0 true ≡ only (change_to_star deck (read_entries deck n entries))
 unfolding turned put_in all_sent
 closed-turned deck n entries h = go (read_entries deck n entries) ((stays-entries deck n entries).star ∙ h)
   where
-    go : (k : NodeState) → k.star ≡ None → cond (is_none k.star) (only (change_to_star deck k)) (only k) ≡ only (change_to_star deck k)
+    go : (k : NodeState) → k.star ≡ None
+        → cond (is_none k.star) (only (change_to_star deck k)) (only k) ≡ only (change_to_star deck k)
     go k none = ap (λ (o : Option StarPart). cond (is_none o) (only (change_to_star deck k)) (only k)) none
 
 -- it changes by its own desk's command
-pub switched-ring : (deck : Deck) (n : NodeState) → n.star ≡ None → switched deck n ≡ change_to_star deck (desk_told n saids.StarDone)
+pub switched-ring : (deck : Deck) (n : NodeState) → n.star ≡ None
+    → switched deck n ≡ change_to_star deck (desk_told n saids.StarDone)
 unfolding switched
-switched-ring deck n h = ap (λ (o : Option StarPart). cond (is_none o) (change_to_star deck (desk_told n saids.StarDone)) n) h
+switched-ring deck n h =
+    ap (λ (o : Option StarPart). cond (is_none o) (change_to_star deck (desk_told n saids.StarDone)) n) h

@@ -1,11 +1,13 @@
--- What happens to a system outside star mode leaves its part there, what it knows of removed systems, and which lines of its
--- desk are done; and what its tasks do leaves its table.
+-- What happens to a system outside star mode leaves its part there, what it knows of removed systems, and which lines
+-- of its desk are done; and what its tasks do leaves its table.
 use Rattle.std.proofs.Common.{◌≡◌, ℕ, Bool, true, false, cond, List, [], ◌∷◌, Option, Some, None, refl, ap, ◌∙◌}
 use Rattle.std.specs.Prelude.{slice_get}
 use Rattle.grs_base.specs.State.{State}
 use Rattle.grs_legal.specs.declared.meaning.Meaning.{Meaning}
 use Rattle.grs_legal.specs.declared.meaning.Meaning.TheVariants as lines
-use Rattle.grs_node.specs.Node.{NodeState, Step, decide, post, ask, has_most, take_line, end_step, ready_step, phase_step, task_step, read_entry, read_entries, put_in, is_of_deck, with_side, with_tasks}
+use Rattle.grs_node.specs.Node.{NodeState, Step, decide, post, ask, has_most, take_line, end_step, ready_step}
+use Rattle.grs_node.specs.Node.{phase_step, task_step, read_entry, read_entries, put_in, is_of_deck, with_side}
+use Rattle.grs_node.specs.Node.{with_tasks}
 use Rattle.grs_wire.specs.Wants.{res_wanted}
 use Rattle.grs_wire.specs.declared.deck.Deck.{Deck}
 use Rattle.grs_wire.specs.declared.medium.RingBody.{RingBody}
@@ -21,15 +23,16 @@ use Rattle.task_state.specs.declared.state.Phase.TheVariants as phases
 use Rattle.task_state.specs.declared.state.Rec.{Rec}
 use Rattle.task_state.specs.View.{TasksView, state_of, with_phase, with_line}
 
--- its part in star mode, its table of the Systems resources, what it knows of removed systems, and how many lines of its desk
--- are done
+-- its part in star mode, its table of the Systems resources, what it knows of removed systems, and how many lines of
+-- its desk are done
 abbrev pub Rest : Type 0
 Rest = Option StarPart × State × ℕ × ℕ
 
 abbrev pub rest_of : NodeState → Rest
 rest_of n = (n.star, n.shared, n.known, n.done)
 
-either-rest : (b : Bool) (x y : Step) (o : Rest) → rest_of x.node ≡ o → rest_of y.node ≡ o → rest_of (cond b x y).node ≡ o
+either-rest : (b : Bool) (x y : Step) (o : Rest) → rest_of x.node ≡ o → rest_of y.node ≡ o
+    → rest_of (cond b x y).node ≡ o
 either-rest true x y o p q = p
 either-rest false x y o p q = q
 
@@ -43,7 +46,9 @@ rest-decide n t w unit = refl
 
 rest-ask : (n : NodeState) (t : TaskId) (w : Want) (unit : Option ℕ) → rest_of (ask n t w unit).node ≡ rest_of n
 unfolding ask
-rest-ask n t w unit = either-rest (is_for_all (res_wanted w)) (post n t w unit) (decide n t w unit) (rest_of n) (rest-post n t w unit) (rest-decide n t w unit)
+rest-ask n t w unit =
+    either-rest (is_for_all (res_wanted w)) (post n t w unit) (decide n t w unit) (rest_of n) (rest-post n t w unit)
+    (rest-decide n t w unit)
 
 rest-take : (limit : ℕ) (n : NodeState) (t : TaskId) (l : Meaning) → rest_of (take_line limit n t l).node ≡ rest_of n
 unfolding take_line
@@ -57,12 +62,15 @@ unfolding end_step
 rest-end n t code [] = refl
 rest-end n t code (x ∷ xs) = rest-ask n t (Release x.res) None
 
-rest-ready : (limit : ℕ) (n : NodeState) (t : TaskId) (l : Option Meaning) → rest_of (ready_step limit n t l).node ≡ rest_of n
+rest-ready : (limit : ℕ) (n : NodeState) (t : TaskId) (l : Option Meaning)
+    → rest_of (ready_step limit n t l).node ≡ rest_of n
 unfolding ready_step
-rest-ready limit n t None = let v : TasksView = with_phase n.tasks t (phases.Ending 0) in rest-end (with_tasks n v) t 0 (state_of v t).records
+rest-ready limit n t None =
+    let v : TasksView = with_phase n.tasks t (phases.Ending 0) in rest-end (with_tasks n v) t 0 (state_of v t).records
 rest-ready limit n t (Some l) = rest-take limit (with_tasks n (with_line n.tasks t)) t l
 
-rest-phase : (limit : ℕ) (n : NodeState) (t : TaskId) (ls : List Meaning) (p : Phase) → rest_of (phase_step limit n t ls p).node ≡ rest_of n
+rest-phase : (limit : ℕ) (n : NodeState) (t : TaskId) (ls : List Meaning) (p : Phase)
+    → rest_of (phase_step limit n t ls p).node ≡ rest_of n
 unfolding phase_step
 rest-phase limit n t ls phases.Ready = rest-ready limit n t (slice_get ls (state_of n.tasks t).line)
 rest-phase limit n t ls (phases.Ending c) = rest-end n t c (state_of n.tasks t).records
@@ -73,14 +81,17 @@ rest-phase limit n t ls (phases.HeldLine r) = refl
 rest-phase limit n t ls phases.Ended = refl
 
 -- a task goes on
-pub rest-task : (limit : ℕ) (n : NodeState) (t : TaskId) (ls : Option (List Meaning)) → rest_of (task_step limit n t ls).node ≡ rest_of n
+pub rest-task : (limit : ℕ) (n : NodeState) (t : TaskId) (ls : Option (List Meaning))
+    → rest_of (task_step limit n t ls).node ≡ rest_of n
 rest-task limit n t None = refl
 rest-task limit n t (Some ls) = rest-phase limit n t ls (state_of n.tasks t).phase
 
-pub star-task : (limit : ℕ) (n : NodeState) (t : TaskId) (ls : Option (List Meaning)) → (task_step limit n t ls).node.star ≡ n.star
+pub star-task : (limit : ℕ) (n : NodeState) (t : TaskId) (ls : Option (List Meaning))
+    → (task_step limit n t ls).node.star ≡ n.star
 star-task limit n t ls = ap (λ (x : Rest). x.0) (rest-task limit n t ls)
 
-pub shared-task : (limit : ℕ) (n : NodeState) (t : TaskId) (ls : Option (List Meaning)) → (task_step limit n t ls).node.shared ≡ n.shared
+pub shared-task : (limit : ℕ) (n : NodeState) (t : TaskId) (ls : Option (List Meaning))
+    → (task_step limit n t ls).node.shared ≡ n.shared
 shared-task limit n t ls = ap (λ (x : Rest). x.1) (rest-task limit n t ls)
 
 -- the same without its table
@@ -89,8 +100,11 @@ pub record Stays (n k : NodeState) : Type 0 where
   pub known : k.known ≡ n.known
   pub done : k.done ≡ n.done
 
-pub stays-task : (limit : ℕ) (n : NodeState) (t : TaskId) (ls : Option (List Meaning)) → Stays n (task_step limit n t ls).node
-stays-task limit n t ls = let h = rest-task limit n t ls in record { star = ap (λ (x : Rest). x.0) h; known = ap (λ (x : Rest). x.2) h; done = ap (λ (x : Rest). x.3) h }
+pub stays-task : (limit : ℕ) (n : NodeState) (t : TaskId) (ls : Option (List Meaning))
+    → Stays n (task_step limit n t ls).node
+stays-task limit n t ls =
+    let h = rest-task limit n t ls in
+    record { star = ap (λ (x : Rest). x.0) h; known = ap (λ (x : Rest). x.2) h; done = ap (λ (x : Rest). x.3) h }
 
 stays-entry : (deck : Deck) (n : NodeState) (b : RingBody) → Stays n (read_entry deck n b)
 stays-entry deck n (bodies.Request q) = go (is_of_deck deck q.task)
@@ -109,9 +123,12 @@ stays-entries deck n (e ∷ es) =
     let k = stays-entries deck (read_entry deck n e.body) es in
     record { star = k.star ∙ h.star; known = k.known ∙ h.known; done = k.done ∙ h.done }
 
-pub stays-turned : (deck : Deck) (n : NodeState) (es : List RingEntry) (taken : ℕ) → Stays n (put_in (read_entries deck n es) taken).node
+pub stays-turned : (deck : Deck) (n : NodeState) (es : List RingEntry) (taken : ℕ)
+    → Stays n (put_in (read_entries deck n es) taken).node
 unfolding put_in
-stays-turned deck n es taken = let h = stays-entries deck n es in record { star = h.star; known = h.known; done = h.done }
+stays-turned deck n es taken =
+    let h = stays-entries deck n es in record { star = h.star; known = h.known; done = h.done }
 
-pub star-turned : (deck : Deck) (n : NodeState) (es : List RingEntry) (taken : ℕ) → (put_in (read_entries deck n es) taken).node.star ≡ n.star
+pub star-turned : (deck : Deck) (n : NodeState) (es : List RingEntry) (taken : ℕ)
+    → (put_in (read_entries deck n es) taken).node.star ≡ n.star
 star-turned deck n es taken = (stays-turned deck n es taken).star

@@ -6,7 +6,8 @@ use Rattle.grs_wire.specs.declared.request.Req.{Req}
 use Rattle.task_state.proofs.Keeps.{keeps}
 use Rattle.grs_node.specs.Node.{are_of_system}
 
-pub are_of-more : (s n : ℕ) (qs : List Req) (q : Req) → are_of_system s n qs ≡ true → (s == q.task.system.0) && nat_lt q.task.task n ≡ true → are_of_system s n (qs ++ q ∷ []) ≡ true
+pub are_of-more : (s n : ℕ) (qs : List Req) (q : Req) → are_of_system s n qs ≡ true
+    → (s == q.task.system.0) && nat_lt q.task.task n ≡ true → are_of_system s n (qs ++ q ∷ []) ≡ true
 are_of-more s n [] q h new = grind (arith, nat_tests, new)
 are_of-more s n (x ∷ qs) q h new = grind (arith, nat_tests, h, new, are_of-more s n qs q)
 

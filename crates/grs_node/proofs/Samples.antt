@@ -79,19 +79,41 @@ deck = record {
   entries = 16;
   limit = 4096;
   lists = record { incl = no_entries which.Incl; excl = no_entries which.Excl; con = no_entries which.Con };
-  systems = map (λ name. record { name = name; desk = []; jobs = record { name = codes "J"; tasks = record { name = codes "T"; lines = [] } ∷ [] } ∷ [] }) (codes "A" ∷ codes "B" ∷ []);
+  systems =
+      map (λ name. record {
+        name = name;
+        desk = [];
+        jobs = record { name = codes "J"; tasks = record { name = codes "T"; lines = [] } ∷ [] } ∷ [];
+      })
+      (codes "A" ∷ codes "B" ∷ []);
   events = [];
 }
 
 abbrev node : NodeState
-node = record { tasks = record { system = 0; tasks = new_tasks 1; told = [] }; own = []; shared = []; outbox = []; star = None; known = 0; done = 0 }
+node = record {
+  tasks = record { system = 0; tasks = new_tasks 1; told = [] };
+  own = [];
+  shared = [];
+  outbox = [];
+  star = None;
+  known = 0;
+  done = 0;
+}
 
 -- an entry by which a task of the second system asks for (A,B), and its element in the table
 abbrev entry_of : ℕ → ℕ → ℕ → RingBody
-entry_of s job n = bodies.Request (record { task = record { system = record { 0 = s }; job = job; task = n }; want = Enq (Systems (codes "A") (codes "B")) E RetNone false })
+entry_of s job n =
+    bodies.Request (record {
+      task = record { system = record { 0 = s }; job = job; task = n };
+      want = Enq (Systems (codes "A") (codes "B")) E RetNone false;
+    })
 
 abbrev asked_first : State
-asked_first = (Systems (codes "A") (codes "B"), record { task = record { system = record { 0 = 1 }; job = 0; task = 0 }; ctl = E }) ∷ []
+asked_first = (
+  Systems (codes "A") (codes "B"),
+  record { task = record { system = record { 0 = 1 }; job = 0; task = 0 }; ctl = E },
+)
+    ∷ []
 
 of_the_deck : read_entry deck node (entry_of 1 0 0) ≡ record node { shared = asked_first }
 unfolding answer_own tell_all tell_new process process_entry
@@ -112,6 +134,7 @@ removes : read_entry deck (record node { shared = asked_first }) (bodies.Remove 
 unfolding tell_freed tell_new tell_all
 removes = refl
 
-stays : read_entry deck (record node { shared = asked_first }) (bodies.Remove (record { 0 = 2 })) ≡ record node { shared = asked_first }
+stays : read_entry deck (record node { shared = asked_first }) (bodies.Remove (record { 0 = 2 }))
+    ≡ record node { shared = asked_first }
 unfolding tell_freed tell_new tell_all
 stays = refl

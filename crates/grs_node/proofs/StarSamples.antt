@@ -1,5 +1,5 @@
--- What a system does in star mode, on examples: each is what the rules of the service give by hand. The hash of A and B is
--- 16820, which is slice 52 and entry 4 of 16.
+-- What a system does in star mode, on examples: each is what the rules of the service give by hand. The hash of A and B
+-- is 16820, which is slice 52 and entry 4 of 16.
 use Rattle.std.proofs.Common.{◌≡◌, ℕ, Bool, true, false, List, [], ◌∷◌, Option, Some, None, refl, codes, map}
 use Rattle.contention_mgr.specs.Manager.{Managed, Ranked, no_elements}
 use Rattle.grs_base.specs.Rnl.{no_entries}
@@ -13,7 +13,8 @@ use Rattle.grs_base.specs.declared.resource.SysId.{SysId}
 use Rattle.grs_base.specs.declared.resource.TaskId.{TaskId}
 use Rattle.grs_base.specs.declared.rnl.Which.TheVariants as which
 use Rattle.grs_node.specs.Node.{NodeState, take_mail, is_pending, prepare, star_call, may_send}
-use Rattle.grs_node.specs.Star.{StarPart, fixing_none, own_step, decide_own, took_mail, settle_step, begun, left_at, leave_by, first_held, settle_by, send_of}
+use Rattle.grs_node.specs.Star.{StarPart, fixing_none, own_step, decide_own, took_mail, settle_step, begun, left_at}
+use Rattle.grs_node.specs.Star.{leave_by, first_held, settle_by, send_of}
 use Rattle.grs_node.specs.declared.prepared.Prepared.{Prepared}
 use Rattle.grs_node.specs.declared.prepared.Prepared.TheVariants.{Quiet, Call, Nothing}
 use Rattle.grs_node.specs.declared.star.Need.TheVariants.{Alone, Asks, Idle}
@@ -32,8 +33,10 @@ use Rattle.grs_wire.specs.declared.told.ToldLine.{ToldLine}
 use Rattle.grs_wire.specs.declared.told.ToldLine.TheVariants as told
 use Rattle.grs_wire.specs.declared.told.Verb.TheVariants as verbs
 use Rattle.star_client.specs.Client.{tell_answer_ranked, after_mail}
-use Rattle.task_state.specs.Replies.{tell_code, record_enq, after_code, replied, tell_line, tell_untold, tell_control, tell_all, tell_new, recalled, tell_answer}
-use Rattle.task_state.specs.View.{TasksView, new_tasks, state_of, with_state, with_phase, with_outstanding, with_record, without_record, with_told, with_rank, telling}
+use Rattle.task_state.specs.Replies.{tell_code, record_enq, after_code, replied, tell_line, tell_untold, tell_control}
+use Rattle.task_state.specs.Replies.{tell_all, tell_new, recalled, tell_answer}
+use Rattle.task_state.specs.View.{TasksView, new_tasks, state_of, with_state, with_phase, with_outstanding, with_record}
+use Rattle.task_state.specs.View.{without_record, with_told, with_rank, telling}
 use Rattle.task_state.specs.declared.state.Asked.{Asked}
 use Rattle.task_state.specs.declared.state.Phase.{Phase}
 use Rattle.task_state.specs.declared.state.Phase.TheVariants as phases
@@ -56,7 +59,13 @@ deck = record {
   entries = 16;
   limit = 4096;
   lists = record { incl = no_entries which.Incl; excl = no_entries which.Excl; con = no_entries which.Con };
-  systems = map (λ name. record { name = name; desk = []; jobs = record { name = codes "J"; tasks = record { name = codes "T"; lines = [] } ∷ [] } ∷ [] }) (codes "A" ∷ codes "B" ∷ []);
+  systems =
+      map (λ name. record {
+        name = name;
+        desk = [];
+        jobs = record { name = codes "J"; tasks = record { name = codes "T"; lines = [] } ∷ [] } ∷ [];
+      })
+      (codes "A" ∷ codes "B" ∷ []);
   events = [];
 }
 
@@ -66,9 +75,15 @@ tasks = record { system = 0; tasks = new_tasks 1; told = [] }
 
 abbrev at_fourth : Option Managed → Bool → List Req → StarPart
 at_fourth o interest held = record {
-  manager = record { system = system 0; entries = None ∷ None ∷ None ∷ None ∷ o ∷ None ∷ None ∷ None ∷ None ∷ None ∷ None ∷ None ∷ None ∷ None ∷ None ∷ None ∷ [] };
+  manager = record {
+    system = system 0;
+    entries =
+        None ∷ None ∷ None ∷ None ∷ o ∷ None ∷ None ∷ None ∷ None ∷ None ∷ None ∷ None ∷ None ∷ None ∷ None ∷ None ∷ [];
+  };
   held = held;
-  interest = false ∷ false ∷ false ∷ false ∷ interest ∷ false ∷ false ∷ false ∷ false ∷ false ∷ false ∷ false ∷ false ∷ false ∷ false ∷ false ∷ [];
+  interest =
+      false ∷ false ∷ false ∷ false ∷ interest ∷ false ∷ false ∷ false ∷ false ∷ false ∷ false ∷ false ∷ false ∷ false
+      ∷ false ∷ false ∷ [];
 }
 
 abbrev managing : List Req → StarPart
@@ -107,96 +122,133 @@ abbrev listing : List Ranked → List Req → StarPart
 listing xs held = at_fourth (Some (record { next = 3; items = xs })) true held
 
 -- ---- requests of others
-held : take_mail deck tasks (managing []) (Request 4 (system 1) (asks (task 1 0) enq)) ≡ fixing_none tasks (managing (asks (task 1 0) enq ∷ []))
+held : take_mail deck tasks (managing []) (Request 4 (system 1) (asks (task 1 0) enq))
+    ≡ fixing_none tasks (managing (asks (task 1 0) enq ∷ []))
 unfolding took_mail
 held = refl
 
 -- of another entry than that of the resource
-other_entry : take_mail deck tasks (managing []) (Request 5 (system 1) (asks (task 1 0) enq)) ≡ fixing_none tasks (managing [])
+other_entry : take_mail deck tasks (managing []) (Request 5 (system 1) (asks (task 1 0) enq))
+    ≡ fixing_none tasks (managing [])
 unfolding took_mail
 other_entry = refl
 
 -- of an entry that there isn't
-no_entry : take_mail deck tasks (managing []) (Request 16 (system 1) (asks (task 1 0) enq)) ≡ fixing_none tasks (managing [])
+no_entry : take_mail deck tasks (managing []) (Request 16 (system 1) (asks (task 1 0) enq))
+    ≡ fixing_none tasks (managing [])
 unfolding took_mail
 no_entry = refl
 
 -- of an entry that isn't managed
-unmanaged : take_mail deck tasks (at_fourth None false []) (Request 4 (system 1) (asks (task 1 0) enq)) ≡ fixing_none tasks (at_fourth None false [])
+unmanaged : take_mail deck tasks (at_fourth None false []) (Request 4 (system 1) (asks (task 1 0) enq))
+    ≡ fixing_none tasks (at_fourth None false [])
 unfolding took_mail
 unmanaged = refl
 
 -- for a resource of one system alone, and for slices that there aren't
-own_resource : take_mail deck tasks (managing []) (Request 4 (system 1) (asks (task 1 0) (Deq (System (system 1) (codes "A") (codes "B")) false))) ≡ fixing_none tasks (managing [])
+own_resource :
+    take_mail deck tasks (managing [])
+    (Request 4 (system 1) (asks (task 1 0) (Deq (System (system 1) (codes "A") (codes "B")) false)))
+    ≡ fixing_none tasks (managing [])
 unfolding took_mail
 own_resource = refl
 
-own_step_resource : take_mail deck tasks (managing []) (Request 4 (system 1) (asks (task 1 0) (Deq (Step (system 1) 0 (codes "A") (codes "B")) false))) ≡ fixing_none tasks (managing [])
+own_step_resource :
+    take_mail deck tasks (managing [])
+    (Request 4 (system 1) (asks (task 1 0) (Deq (Step (system 1) 0 (codes "A") (codes "B")) false)))
+    ≡ fixing_none tasks (managing [])
 unfolding took_mail
 own_step_resource = refl
 
-no_slices : take_mail deck tasks (managing []) (Request 4 (system 1) (asks (task 1 0) (Look 68 1 All))) ≡ fixing_none tasks (managing [])
+no_slices : take_mail deck tasks (managing []) (Request 4 (system 1) (asks (task 1 0) (Look 68 1 All)))
+    ≡ fixing_none tasks (managing [])
 unfolding took_mail
 no_slices = refl
 
 -- one slice of the entry may be looked at, and not two together, of which each is of an entry of its own
-one_slice : take_mail deck tasks (managing []) (Request 4 (system 1) (asks (task 1 0) (Look 52 1 All))) ≡ fixing_none tasks (managing (asks (task 1 0) (Look 52 1 All) ∷ []))
+one_slice : take_mail deck tasks (managing []) (Request 4 (system 1) (asks (task 1 0) (Look 52 1 All)))
+    ≡ fixing_none tasks (managing (asks (task 1 0) (Look 52 1 All) ∷ []))
 unfolding took_mail
 one_slice = refl
 
-two_slices : take_mail deck tasks (managing []) (Request 4 (system 1) (asks (task 1 0) (Look 52 2 All))) ≡ fixing_none tasks (managing [])
+two_slices : take_mail deck tasks (managing []) (Request 4 (system 1) (asks (task 1 0) (Look 52 2 All)))
+    ≡ fixing_none tasks (managing [])
 unfolding took_mail
 two_slices = refl
 
 -- ---- names outside the deck
-no_task : take_mail deck tasks (managing []) (Request 4 (system 1) (asks (task 1 1) enq)) ≡ fixing_none tasks (managing [])
+no_task : take_mail deck tasks (managing []) (Request 4 (system 1) (asks (task 1 1) enq))
+    ≡ fixing_none tasks (managing [])
 no_task = refl
 
-no_system : take_mail deck tasks (managing []) (Request 4 (system 2) (asks (task 1 0) enq)) ≡ fixing_none tasks (managing [])
+no_system : take_mail deck tasks (managing []) (Request 4 (system 2) (asks (task 1 0) enq))
+    ≡ fixing_none tasks (managing [])
 no_system = refl
 
-other_job : take_mail deck tasks (managing []) (Request 4 (system 1) (asks (record { system = system 1; job = 1; task = 0 }) enq)) ≡ fixing_none tasks (managing [])
+other_job :
+    take_mail deck tasks (managing [])
+    (Request 4 (system 1) (asks (record { system = system 1; job = 1; task = 0 }) enq))
+    ≡ fixing_none tasks (managing [])
 other_job = refl
 
 -- a second task of system 0 that the deck lacks, be it that it has sent a request, or waits for control
 abbrev beyond : Phase → List Rec → Option Asked → TasksView
 beyond phase recs asked = of_system (in_phase phases.Ready [] None ∷ in_phase phase recs asked ∷ [])
 
-unknown_answer : take_mail deck (beyond phases.Sent [] (outstanding enq)) (managing []) (Answered (task 0 1) (Coded C00) 2) ≡ fixing_none (beyond phases.Sent [] (outstanding enq)) (managing [])
+unknown_answer :
+    take_mail deck (beyond phases.Sent [] (outstanding enq)) (managing []) (Answered (task 0 1) (Coded C00) 2)
+    ≡ fixing_none (beyond phases.Sent [] (outstanding enq)) (managing [])
 unknown_answer = refl
 
-unknown_grant : take_mail deck (beyond phases.HeldAnswer (rec_told false ∷ []) None) (managing []) (Granted (task 0 1) res) ≡ fixing_none (beyond phases.HeldAnswer (rec_told false ∷ []) None) (managing [])
+unknown_grant :
+    take_mail deck (beyond phases.HeldAnswer (rec_told false ∷ []) None) (managing []) (Granted (task 0 1) res)
+    ≡ fixing_none (beyond phases.HeldAnswer (rec_told false ∷ []) None) (managing [])
 unknown_grant = refl
 
 -- ---- mail to tasks
 -- an answer and control reach a task of the deck and of this system
 own_answer : take_mail deck (one phases.Sent [] (outstanding enq)) (managing []) (Answered (task 0 0) (Coded C00) 2)
-    ≡ fixing_none (record (one phases.Ready (rec_told true ∷ []) None) { told = told.Coded (task 0 0) 1 0 verbs.Enq C00 ∷ [] }) (managing [])
-unfolding state_of with_state with_phase with_outstanding with_record with_rank telling tell_code record_enq after_code replied recalled tell_answer tell_answer_ranked after_mail took_mail
+    ≡ fixing_none
+    (record (one phases.Ready (rec_told true ∷ []) None) { told = told.Coded (task 0 0) 1 0 verbs.Enq C00 ∷ [] })
+    (managing [])
+unfolding state_of with_state with_phase with_outstanding with_record with_rank telling tell_code record_enq after_code
+    replied recalled tell_answer tell_answer_ranked after_mail took_mail
 own_answer = refl
 
 own_grant : take_mail deck (one phases.HeldAnswer (rec_told false ∷ []) None) (managing []) (Granted (task 0 0) res)
-    ≡ fixing_none (record (one phases.Ready (rec_told true ∷ []) None) { told = told.Coded (task 0 0) 1 0 verbs.Enq C00 ∷ [] }) (managing [])
+    ≡ fixing_none
+    (record (one phases.Ready (rec_told true ∷ []) None) { told = told.Coded (task 0 0) 1 0 verbs.Enq C00 ∷ [] })
+    (managing [])
 unfolding state_of with_state with_phase with_told telling tell_line tell_untold tell_control after_mail took_mail
 own_grant = refl
 
 -- not one of the deck and of another system
-other_answer : take_mail deck (one phases.Sent [] (outstanding enq)) (managing []) (Answered (task 1 0) (Coded C00) 2) ≡ fixing_none (one phases.Sent [] (outstanding enq)) (managing [])
+other_answer : take_mail deck (one phases.Sent [] (outstanding enq)) (managing []) (Answered (task 1 0) (Coded C00) 2)
+    ≡ fixing_none (one phases.Sent [] (outstanding enq)) (managing [])
 unfolding after_mail took_mail
 other_answer = refl
 
-other_grant : take_mail deck (one phases.HeldAnswer (rec_told false ∷ []) None) (managing []) (Granted (task 1 0) res) ≡ fixing_none (one phases.HeldAnswer (rec_told false ∷ []) None) (managing [])
+other_grant : take_mail deck (one phases.HeldAnswer (rec_told false ∷ []) None) (managing []) (Granted (task 1 0) res)
+    ≡ fixing_none (one phases.HeldAnswer (rec_told false ∷ []) None) (managing [])
 unfolding tell_control after_mail took_mail
 other_grant = refl
 
 -- ---- control by a request that the manager carries out
 -- A task of system 1 gives (A,B) up, and task 0 of system 0, the manager, waits behind it.
 abbrev given_up : TasksView → TasksView → Type 0
-given_up before after = settle_step before (listing (item (task 1 0) 1 false ∷ item (task 0 0) 2 false ∷ []) (asks (task 1 0) deq ∷ [])) replies.Settled
-    ≡ record { tasks = after; part = listing (item (task 0 0) 2 false ∷ []) []; fixed = fixes.Asked (asks (task 1 0) deq) ∷ [] }
+given_up before after =
+    settle_step before (listing (item (task 1 0) 1 false ∷ item (task 0 0) 2 false ∷ []) (asks (task 1 0) deq ∷ []))
+    replies.Settled
+    ≡ record {
+      tasks = after;
+      part = listing (item (task 0 0) 2 false ∷ []) [];
+      fixed = fixes.Asked (asks (task 1 0) deq) ∷ [];
+    }
 
 -- it goes on where it waits by its answer
-goes_on_by_control : given_up (one phases.HeldAnswer (rec_told false ∷ []) None) (record (one phases.Ready (rec_told true ∷ []) None) { told = told.Coded (task 0 0) 1 0 verbs.Enq C00 ∷ [] })
+goes_on_by_control :
+    given_up (one phases.HeldAnswer (rec_told false ∷ []) None)
+    (record (one phases.Ready (rec_told true ∷ []) None) { told = told.Coded (task 0 0) 1 0 verbs.Enq C00 ∷ [] })
 unfolding state_of with_state with_phase with_told telling tell_line tell_untold tell_control tell_all tell_new
 goes_on_by_control = refl
 
@@ -209,34 +261,53 @@ told_before : given_up (one phases.Ready (rec_told true ∷ []) None) (one phase
 unfolding state_of tell_untold tell_control tell_all tell_new
 told_before = refl
 
-about_to_leave : given_up (one phases.ToSend (rec_told false ∷ []) (outstanding deq)) (one phases.ToSend (rec_told true ∷ []) (outstanding deq))
+about_to_leave :
+    given_up (one phases.ToSend (rec_told false ∷ []) (outstanding deq))
+    (one phases.ToSend (rec_told true ∷ []) (outstanding deq))
 unfolding state_of with_state with_told tell_untold tell_control tell_all tell_new
 about_to_leave = refl
 
--- A task of the manager's own system gives (A,B) up, and the next task of that system waits behind it: the answer is told
--- first.
+-- A task of the manager's own system gives (A,B) up, and the next task of that system waits behind it: the answer is
+-- told first.
 abbrev gives_up_own : TaskState → TasksView → Type 0
-gives_up_own second after = own_step (of_system (in_phase phases.ToSend (rec_told true ∷ []) (outstanding deq) ∷ second ∷ [])) (listing (item (task 0 0) 1 false ∷ item (task 0 1) 2 false ∷ []) []) (task 0 0) (outstanding deq)
-    ≡ record { tasks = after; part = listing (item (task 0 1) 2 false ∷ []) []; fixed = fixes.Asked (asks (task 0 0) deq) ∷ [] }
+gives_up_own second after =
+    own_step (of_system (in_phase phases.ToSend (rec_told true ∷ []) (outstanding deq) ∷ second ∷ []))
+    (listing (item (task 0 0) 1 false ∷ item (task 0 1) 2 false ∷ []) []) (task 0 0) (outstanding deq)
+    ≡ record {
+      tasks = after;
+      part = listing (item (task 0 1) 2 false ∷ []) [];
+      fixed = fixes.Asked (asks (task 0 0) deq) ∷ [];
+    }
 
 abbrev answered_with : TaskState → List ToldLine → TasksView
-answered_with second lines = record (of_system (in_phase phases.Ready [] None ∷ second ∷ [])) { told = told.Coded (task 0 0) 1 0 verbs.Deq C00 ∷ lines }
+answered_with second lines =
+    record (of_system (in_phase phases.Ready [] None ∷ second ∷ []))
+    { told = told.Coded (task 0 0) 1 0 verbs.Deq C00 ∷ lines }
 
-own_goes_on : gives_up_own (in_phase phases.HeldAnswer (rec_told false ∷ []) None) (answered_with (in_phase phases.Ready (rec_told true ∷ []) None) (told.Coded (task 0 1) 1 0 verbs.Enq C00 ∷ []))
-unfolding state_of with_state with_phase with_outstanding without_record with_told with_rank telling tell_code after_code replied recalled tell_answer tell_answer_ranked tell_line tell_untold tell_control tell_all tell_new decide_own
+own_goes_on :
+    gives_up_own (in_phase phases.HeldAnswer (rec_told false ∷ []) None)
+    (answered_with (in_phase phases.Ready (rec_told true ∷ []) None) (told.Coded (task 0 1) 1 0 verbs.Enq C00 ∷ []))
+unfolding state_of with_state with_phase with_outstanding without_record with_told with_rank telling tell_code
+    after_code replied recalled tell_answer tell_answer_ranked tell_line tell_untold tell_control tell_all tell_new
+    decide_own
 own_goes_on = refl
 
 own_without_record : gives_up_own (in_phase phases.Ready [] None) (answered_with (in_phase phases.Ready [] None) [])
-unfolding state_of with_state with_phase with_outstanding without_record with_rank telling tell_code after_code replied recalled tell_answer tell_answer_ranked tell_untold tell_control tell_all tell_new decide_own
+unfolding state_of with_state with_phase with_outstanding without_record with_rank telling tell_code after_code replied
+    recalled tell_answer tell_answer_ranked tell_untold tell_control tell_all tell_new decide_own
 own_without_record = refl
 
-own_told_before : gives_up_own (in_phase phases.Ready (rec_told true ∷ []) None) (answered_with (in_phase phases.Ready (rec_told true ∷ []) None) [])
-unfolding state_of with_state with_phase with_outstanding without_record with_rank telling tell_code after_code replied recalled tell_answer tell_answer_ranked tell_untold tell_control tell_all tell_new decide_own
+own_told_before :
+    gives_up_own (in_phase phases.Ready (rec_told true ∷ []) None)
+    (answered_with (in_phase phases.Ready (rec_told true ∷ []) None) [])
+unfolding state_of with_state with_phase with_outstanding without_record with_rank telling tell_code after_code replied
+    recalled tell_answer tell_answer_ranked tell_untold tell_control tell_all tell_new decide_own
 own_told_before = refl
 
 -- ---- what is asked of the medium
 -- a held request is answered to its task's system, with the rank that it gives
-settles : settle_by (managing (asks (task 1 0) enq ∷ [])) (first_held (managing (asks (task 1 0) enq ∷ []))) ≡ Asks (acts.Settle (system 1) (Answered (task 1 0) (Coded C00) 1))
+settles : settle_by (managing (asks (task 1 0) enq ∷ [])) (first_held (managing (asks (task 1 0) enq ∷ [])))
+    ≡ Asks (acts.Settle (system 1) (Answered (task 1 0) (Coded C00) 1))
 settles = refl
 
 -- who manages the entry decides a request of its own alone, else it is sent
@@ -286,22 +357,32 @@ sends_quietly : prepare deck (node ready_to_send (Some (managing []))) (choices.
 unfolding state_of may_send star_call prepare
 sends_quietly = refl
 
-submits : prepare deck (node ready_to_send (Some (at_fourth None false []))) (choices.Send (task 0 0)) ≡ calls (acts.Submit 4 (asks (task 0 0) enq))
+submits : prepare deck (node ready_to_send (Some (at_fourth None false []))) (choices.Send (task 0 0))
+    ≡ calls (acts.Submit 4 (asks (task 0 0) enq))
 unfolding state_of may_send star_call prepare
 submits = refl
 
 -- nothing is sent in another phase, nor of a task of another system, or of none
-not_sent_again : (prepare deck (node (one phases.Sent [] (outstanding enq)) (Some (managing []))) (choices.Send (task 0 0)) ≡ Nothing)
-    × (prepare deck (node (one phases.Ready [] (outstanding enq)) (Some (managing []))) (choices.Send (task 0 0)) ≡ Nothing)
-    × (prepare deck (node (one phases.HeldAnswer [] (outstanding enq)) (Some (managing []))) (choices.Send (task 0 0)) ≡ Nothing)
-    × (prepare deck (node (one (phases.HeldLine res) [] (outstanding enq)) (Some (managing []))) (choices.Send (task 0 0)) ≡ Nothing)
-    × (prepare deck (node (one (phases.Ending 0) [] (outstanding enq)) (Some (managing []))) (choices.Send (task 0 0)) ≡ Nothing)
-    × (prepare deck (node (one phases.Ended [] (outstanding enq)) (Some (managing []))) (choices.Send (task 0 0)) ≡ Nothing)
+not_sent_again :
+    (prepare deck (node (one phases.Sent [] (outstanding enq)) (Some (managing []))) (choices.Send (task 0 0))
+    ≡ Nothing)
+    × (prepare deck (node (one phases.Ready [] (outstanding enq)) (Some (managing []))) (choices.Send (task 0 0))
+    ≡ Nothing)
+    × (prepare deck (node (one phases.HeldAnswer [] (outstanding enq)) (Some (managing []))) (choices.Send (task 0 0))
+    ≡ Nothing)
+    × (prepare deck (node (one (phases.HeldLine res) [] (outstanding enq)) (Some (managing [])))
+    (choices.Send (task 0 0))
+    ≡ Nothing)
+    × (prepare deck (node (one (phases.Ending 0) [] (outstanding enq)) (Some (managing []))) (choices.Send (task 0 0))
+    ≡ Nothing)
+    × (prepare deck (node (one phases.Ended [] (outstanding enq)) (Some (managing []))) (choices.Send (task 0 0))
+    ≡ Nothing)
 unfolding state_of may_send star_call prepare
 not_sent_again = (refl, refl, refl, refl, refl, refl)
 
 not_sent_elsewhere : (prepare deck (node ready_to_send (Some (managing []))) (choices.Send (task 1 0)) ≡ Nothing)
-    × (prepare deck (node (beyond phases.ToSend [] (outstanding enq)) (Some (managing []))) (choices.Send (task 0 1)) ≡ Nothing)
+    × (prepare deck (node (beyond phases.ToSend [] (outstanding enq)) (Some (managing []))) (choices.Send (task 0 1))
+    ≡ Nothing)
 unfolding state_of may_send star_call prepare
 not_sent_elsewhere = (refl, refl)
 
@@ -314,11 +395,13 @@ settles_none : prepare deck (node ready_to_send (Some (managing []))) choices.Se
 unfolding star_call prepare
 settles_none = refl
 
-tells : prepare deck (node ready_to_send (Some (listing (item (task 1 0) 1 true ∷ []) []))) (choices.Tell 4) ≡ calls (acts.Tell (system 1) (Granted (task 1 0) res))
+tells : prepare deck (node ready_to_send (Some (listing (item (task 1 0) 1 true ∷ []) []))) (choices.Tell 4)
+    ≡ calls (acts.Tell (system 1) (Granted (task 1 0) res))
 unfolding star_call prepare
 tells = refl
 
-tells_none : (prepare deck (node ready_to_send (Some (listing (item (task 1 0) 1 true ∷ []) []))) (choices.Tell 5) ≡ Nothing)
+tells_none :
+    (prepare deck (node ready_to_send (Some (listing (item (task 1 0) 1 true ∷ []) []))) (choices.Tell 5) ≡ Nothing)
     × (prepare deck (node ready_to_send (Some (listing (item (task 1 0) 1 false ∷ []) []))) (choices.Tell 4) ≡ Nothing)
     × (prepare deck (node ready_to_send (Some (listing (item (task 0 0) 1 true ∷ []) []))) (choices.Tell 4) ≡ Nothing)
 unfolding star_call prepare
@@ -350,7 +433,8 @@ waits_to_send : prepare deck (node ready_to_send (Some (managing []))) choices.R
 unfolding is_pending prepare
 waits_to_send = refl
 
-waits_for_answer : prepare deck (node (one phases.Sent [] (outstanding enq)) (Some (managing []))) choices.Rest ≡ calls acts.Rest
+waits_for_answer : prepare deck (node (one phases.Sent [] (outstanding enq)) (Some (managing []))) choices.Rest
+    ≡ calls acts.Rest
 unfolding is_pending prepare
 waits_for_answer = refl
 

@@ -1,5 +1,5 @@
--- A system's table of the Systems resources goes on to have elements of systems of the deck alone, and no task twice in a
--- list.
+-- A system's table of the Systems resources goes on to have elements of systems of the deck alone, and no task twice in
+-- a list.
 use Rattle.std.proofs.Common.{◌≡◌, ℕ, Bool, true, false, cond, not, ◌&&◌, List, [], ◌∷◌, ◌++◌, refl, ap, sym, subst}
 use Rattle.std.specs.Prelude.{◌==◌, filter}
 use Rattle.std.specs.List.{list_all}
@@ -42,7 +42,8 @@ module _ (p : TaskId → Bool) where
 
   all-push : (t : State) (r : Res) (x : Elem) → all_of t ≡ true → p x.task ≡ true → all_of (t ++ (r, x) ∷ []) ≡ true
   all-push [] r x h new = both (p x.task) true new refl
-  all-push (y ∷ t) r x h new = both (p y.1.task) _ (and_parts (p y.1.task) _ h).0 (all-push t r x (and_parts (p y.1.task) _ h).1 new)
+  all-push (y ∷ t) r x h new =
+      both (p y.1.task) _ (and_parts (p y.1.task) _ h).0 (all-push t r x (and_parts (p y.1.task) _ h).1 new)
 
   all-filter : (test : Res × Elem → Bool) (t : State) → all_of t ≡ true → all_of (filter test t) ≡ true
   all-filter test [] h = refl
@@ -54,13 +55,15 @@ module _ (p : TaskId → Bool) where
 
   all-exclusive : (t : State) (r : Res) (u : TaskId) → all_of t ≡ true → all_of (with_exclusive same_res t r u) ≡ true
   all-exclusive [] r u h = refl
-  all-exclusive (y ∷ t) r u h = both _ _ (go (is_at same_res r u y)) (all-exclusive t r u (and_parts (p y.1.task) _ h).1)
+  all-exclusive (y ∷ t) r u h =
+      both _ _ (go (is_at same_res r u y)) (all-exclusive t r u (and_parts (p y.1.task) _ h).1)
     where
       go : (b : Bool) → p (cond b (y.0, record { task = y.1.task; ctl = E }) y).1.task ≡ true
       go true = (and_parts (p y.1.task) _ h).0
       go false = (and_parts (p y.1.task) _ h).0
 
-  all-effect : (t : State) (r : Res) (u : TaskId) (c : Ctl) (e : Effect) → all_of t ≡ true → p u ≡ true → all_of (after_effect t r u c e) ≡ true
+  all-effect : (t : State) (r : Res) (u : TaskId) (c : Ctl) (e : Effect) → all_of t ≡ true → p u ≡ true
+      → all_of (after_effect t r u c e) ≡ true
   all-effect t r u c Nothing h new = h
   all-effect t r u c Append h new = all-push t r (record { task = u; ctl = c }) h new
   all-effect t r u c MakeExclusive h new = all-exclusive t r u h
@@ -79,9 +82,13 @@ module _ (p : TaskId → Bool) where
   all-want t u (Look first count f) h new = h
 
 -- ---- of an entry of the message
--- what holds of a table behind each request of a task of the deck, and behind each removal, holds of that of a system which has read entries
-module _ (deck : Deck) (P : State → Type 0) (kept : (t : State) (u : TaskId) (w : Want) → is_of_deck deck u ≡ true → P t → P (after_want t u w)) (left : (t : State) (s : ℕ) → P t → P (remove_state t s)) where
-  process-kept : (side : Side) (q : Req) → is_of_deck deck q.task ≡ true → P side.shared → P (process_entry side q).shared
+-- what holds of a table behind each request of a task of the deck, and behind each removal, holds of that of a system
+-- which has read entries
+module _ (deck : Deck) (P : State → Type 0)
+    (kept : (t : State) (u : TaskId) (w : Want) → is_of_deck deck u ≡ true → P t → P (after_want t u w))
+    (left : (t : State) (s : ℕ) → P t → P (remove_state t s)) where
+  process-kept : (side : Side) (q : Req) → is_of_deck deck q.task ≡ true → P side.shared
+      → P (process_entry side q).shared
   unfolding process process_entry
   process-kept side q own h = go (is_for_all (res_wanted q.want))
     where
@@ -92,7 +99,8 @@ module _ (deck : Deck) (P : State → Type 0) (kept : (t : State) (u : TaskId) (
   entry-kept : (n : NodeState) (b : RingBody) → P n.shared → P (read_entry deck n b).shared
   entry-kept n (bodies.Request q) h = go (is_of_deck deck q.task) refl
     where
-      go : (b : Bool) → is_of_deck deck q.task ≡ b → P (cond b (with_side n (process_entry (side_of n.tasks n.shared) q)) n).shared
+      go : (b : Bool) → is_of_deck deck q.task ≡ b
+          → P (cond b (with_side n (process_entry (side_of n.tasks n.shared) q)) n).shared
       go true is = process-kept (side_of n.tasks n.shared) q is h
       go false is = h
   entry-kept n (bodies.Remove target) h = left n.shared target.0 h
@@ -103,14 +111,23 @@ module _ (deck : Deck) (P : State → Type 0) (kept : (t : State) (u : TaskId) (
   entries-kept n (e ∷ es) h = entries-kept (read_entry deck n e.body) es (entry-kept n e.body h)
 
 -- no task comes to stand twice
-pub apart-entries : (deck : Deck) (n : NodeState) (es : List RingEntry) → AreApart n.shared → AreApart (read_entries deck n es).shared
-apart-entries deck n es h = entries-kept deck AreApart (λ t u w own apart r. apart-want t u w r apart) (λ t s apart r. apart-remove t s r (apart r)) n es h
+pub apart-entries : (deck : Deck) (n : NodeState) (es : List RingEntry) → AreApart n.shared
+    → AreApart (read_entries deck n es).shared
+apart-entries deck n es h =
+    entries-kept deck AreApart (λ t u w own apart r. apart-want t u w r apart)
+    (λ t s apart r. apart-remove t s r (apart r)) n es h
 
 -- and who comes is of a system that the deck has
-pub all-entries : (p : TaskId → Bool) (deck : Deck) (n : NodeState) (es : List RingEntry) → ((t : TaskId) → is_of_deck deck t ≡ true → p t ≡ true) → list_all (λ h. p h.1.task) n.shared ≡ true → list_all (λ h. p h.1.task) (read_entries deck n es).shared ≡ true
-all-entries p deck n es own h = entries-kept deck (λ t. list_all (λ x. p x.1.task) t ≡ true) (λ t u w is all. all-want p t u w all (own u is)) (λ t s all. all-filter p (λ h. not (is_systems h.0 && (s == h.1.task.system.0))) t all) n es h
+pub all-entries : (p : TaskId → Bool) (deck : Deck) (n : NodeState) (es : List RingEntry)
+    → ((t : TaskId) → is_of_deck deck t ≡ true → p t ≡ true) → list_all (λ h. p h.1.task) n.shared ≡ true
+    → list_all (λ h. p h.1.task) (read_entries deck n es).shared ≡ true
+all-entries p deck n es own h =
+    entries-kept deck (λ t. list_all (λ x. p x.1.task) t ≡ true) (λ t u w is all. all-want p t u w all (own u is))
+    (λ t s all. all-filter p (λ h. not (is_systems h.0 && (s == h.1.task.system.0))) t all) n es h
 
 -- putting requests in leaves the table
-pub apart-turned : (deck : Deck) (n m : NodeState) (es : List RingEntry) (taken : ℕ) (fixed : List Fixed) → AreApart n.shared → stepped m fixed ≡ put_in (read_entries deck n es) taken → AreApart m.shared
+pub apart-turned : (deck : Deck) (n m : NodeState) (es : List RingEntry) (taken : ℕ) (fixed : List Fixed)
+    → AreApart n.shared → stepped m fixed ≡ put_in (read_entries deck n es) taken → AreApart m.shared
 unfolding put_in
-apart-turned deck n m es taken fixed h is = subst AreApart (sym (ap (λ (x : Step). x.node.shared) is)) (apart-entries deck n es h)
+apart-turned deck n m es taken fixed h is =
+    subst AreApart (sym (ap (λ (x : Step). x.node.shared) is)) (apart-entries deck n es h)

@@ -1,5 +1,6 @@
 -- To whom the calls of a system go: to systems of the deck, and to lock entries that there are.
-use Rattle.std.specs.Prelude.{◌≡◌, ◌<◌, ℕ, Bool, true, nat_lt, nat_le, length, not, All, Option, Some, None, ◌≤◌, ◌&&◌, ◌==◌, slice_get}
+use Rattle.std.specs.Prelude.{◌≡◌, ◌<◌, ℕ, Bool, true, nat_lt, nat_le, length, not, All, Option, Some, None, ◌≤◌, ◌&&◌}
+use Rattle.std.specs.Prelude.{◌==◌, slice_get}
 use Rattle.std.specs.List.{list_all}
 use Rattle.contention_mgr.specs.Elements.{all_of}
 use Rattle.grs_base.specs.Limits.{most_systems, most_commands}
@@ -19,12 +20,13 @@ use Rattle.grs_wire.specs.declared.medium.Act.TheVariants as acts
 use Rattle.lock_structure.specs.Words.{word_fits}
 use Rattle.mode_migrate.specs.Migrate.{AreApart}
 
--- Whether an act of the system of a number goes to a system of the deck and speaks of a lock entry that there is, where it
--- does so, a Turn puts in no more than it may, a Switch has a word for each lock entry, which names systems of the deck
--- alone, and a Purge is of another system of the deck. What else an act carries isn't looked at.
+-- Whether an act of the system of a number goes to a system of the deck and speaks of a lock entry that there is, where
+-- it does so, a Turn puts in no more than it may, a Switch has a word for each lock entry, which names systems of the
+-- deck alone, and a Purge is of another system of the deck. What else an act carries isn't looked at.
 abbrev pub is_act_addressed : Deck → ℕ → Act → Bool
 is_act_addressed deck home (acts.Turn out) = nat_le (length out) most_additions
-is_act_addressed deck home (acts.Switch words) = (length words == deck.entries) && list_all (word_fits (length deck.systems)) words
+is_act_addressed deck home (acts.Switch words) =
+    (length words == deck.entries) && list_all (word_fits (length deck.systems)) words
 is_act_addressed deck home (acts.Submit e q) = nat_lt e deck.entries
 is_act_addressed deck home acts.Take = true
 is_act_addressed deck home (acts.Settle to mail) = nat_lt to.0 (length deck.systems)
@@ -48,8 +50,8 @@ TargetFits choice = Unit {0}
 abbrev pub is_within : Deck → TaskId → Bool
 is_within deck t = nat_lt t.system.0 (length deck.systems)
 
--- What the part in star mode of the system of a number keeps: its manager is of that system, there are as many lock entries
--- as the deck says, one at least, and elements and held requests are of systems of the deck.
+-- What the part in star mode of the system of a number keeps: its manager is of that system, there are as many lock
+-- entries as the deck says, one at least, and elements and held requests are of systems of the deck.
 pub record PartFits (deck : Deck) (home : ℕ) (p : StarPart) : Type 0 where
   pub system : p.manager.system.0 ≡ home
   pub some : 0 < deck.entries
@@ -62,15 +64,17 @@ abbrev pub AnyPartFits : Deck → ℕ → Option StarPart → Type 0
 AnyPartFits deck home None = Unit {0}
 AnyPartFits deck home (Some p) = PartFits deck home p
 
--- A system of the deck, which has as many systems, lock entries and as many commands at the system's desk as a deck may have, and
--- whose commands remove other systems of the deck alone. The elements of its table are of systems of the deck, and no task
--- stands twice in a list; and its part in star mode fits.
+-- A system of the deck, which has as many systems, lock entries and as many commands at the system's desk as a deck may
+-- have, and whose commands remove other systems of the deck alone. The elements of its table are of systems of the
+-- deck, and no task stands twice in a list; and its part in star mode fits.
 pub record NodeFits (deck : Deck) (n : NodeState) : Type 0 where
   pub system : n.tasks.system < length deck.systems
   pub some : 0 < deck.entries
   pub few : length deck.systems ≤ most_systems
   pub desk : desk_count (slice_get deck.systems n.tasks.system) ≤ most_commands
-  pub orders : All (λ (c : Desk). IsOrderOf (length deck.systems) n.tasks.system c.order) (desk_of (slice_get deck.systems n.tasks.system))
+  pub orders :
+      All (λ (c : Desk). IsOrderOf (length deck.systems) n.tasks.system c.order)
+      (desk_of (slice_get deck.systems n.tasks.system))
   pub shared : list_all (λ h. is_within deck h.1.task) n.shared ≡ true
   pub apart : AreApart n.shared
   pub part : AnyPartFits deck n.tasks.system n.star

@@ -1,5 +1,5 @@
--- What a system comes to in star mode by its table of the Systems resources: its part there, and its tasks, whose records
--- get ranks and whose requests wait to be sent each by itself.
+-- What a system comes to in star mode by its table of the Systems resources: its part there, and its tasks, whose
+-- records get ranks and whose requests wait to be sent each by itself.
 use Rattle.std.specs.Prelude.{ℕ, Bool, ◌==◌, min, cond, List, [], ◌∷◌, map, Option, Some, None}
 use Rattle.std.specs.List.{list_any, range_with_len}
 use Rattle.contention_mgr.specs.Loads.{loaded}
@@ -31,7 +31,8 @@ part_by_table entries s t = record {
   interest = map (interest_by_table entries s t) (range_with_len 0 entries);
 }
 
--- ---- the same by what a system is told of its table: which entries it manages, in which it has interest, and the ranked rows
+-- ---- the same by what a system is told of its table: which entries it manages, in which it has interest, and the
+-- ranked rows
 
 -- whether an entry is one of these
 abbrev pub is_among : List ℕ → ℕ → Bool
@@ -43,7 +44,8 @@ entry_by_roles entries managed ranked e = cond (is_among managed e) (Some (loade
 
 -- a manager that has taken an entry over, if it is to
 abbrev pub with_entry_by : ManagerView → ℕ → List ℕ → List RankedRow → ℕ → ManagerView
-with_entry_by m entries managed ranked e = cond (is_among managed e) (with_entry m (Some e) (Some (loaded (part_of entries e ranked)))) m
+with_entry_by m entries managed ranked e =
+    cond (is_among managed e) (with_entry m (Some e) (Some (loaded (part_of entries e ranked)))) m
 
 -- the part of a system
 abbrev pub part_by_roles : ℕ → SysId → List ℕ → List ℕ → List RankedRow → StarPart
@@ -75,7 +77,8 @@ abbrev pub with_first_look : TasksView → TaskId → Want → TasksView
 with_first_look v t (Enq r c ret full) = v
 with_first_look v t (Deq r have) = v
 with_first_look v t (Release r) = v
-with_first_look v t (Look first count f) = with_outstanding v t (Some (record { req = record { task = t; want = Look first (min count 1) f }; unit = None }))
+with_first_look v t (Look first count f) =
+    with_outstanding v t (Some (record { req = record { task = t; want = Look first (min count 1) f }; unit = None }))
 
 -- the same of all requests of an outbox
 abbrev pub one_by_one : TasksView → List Req → TasksView

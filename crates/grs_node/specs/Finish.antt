@@ -62,8 +62,12 @@ MayFinish v choice (Some r) = (may_come (prepare v.deck v.node choice) r.0 ≡ t
 
 -- A finish of a call without an entry in the journal leaves the system as it is, its log too.
 abbrev pub UnjournalledLeaves : Type 0
-UnjournalledLeaves = (v : NodeView) (choice : Choice) (reply : Reply) → MayFinish v choice (Some (reply, false)) → finished v choice (Some (reply, false)) ≡ v
+UnjournalledLeaves =
+    (v : NodeView) (choice : Choice) (reply : Reply) → MayFinish v choice (Some (reply, false))
+    → finished v choice (Some (reply, false)) ≡ v
 
 -- A reply that leaves the system as it is leaves it so whatever the choice, and fixes nothing.
 abbrev pub RepliesLeave : Type 0
-RepliesLeave = (deck : Deck) (n : NodeState) (choice : Choice) (reply : Reply) → leaves_all reply ≡ true → finish deck n choice (Some reply) ≡ only n
+RepliesLeave =
+    (deck : Deck) (n : NodeState) (choice : Choice) (reply : Reply) → leaves_all reply ≡ true
+    → finish deck n choice (Some reply) ≡ only n

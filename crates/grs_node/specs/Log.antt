@@ -41,7 +41,8 @@ step_done n choice journalled s = record {
 
 -- the same with this step behind its events
 abbrev pub logged : NodeView → Choice → Bool → Step → NodeView
-logged v choice journalled s = record { deck = v.deck; node = s.node; log = v.log ++ step_done v.node choice journalled s ∷ [] }
+logged v choice journalled
+    s = record { deck = v.deck; node = s.node; log = v.log ++ step_done v.node choice journalled s ∷ [] }
 
 -- The system after a choice. What is done without a call goes into the log, and a call exactly where it has an
 -- entry in the journal.

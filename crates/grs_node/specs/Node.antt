@@ -1,6 +1,7 @@
 -- A system, event by event: what each choice comes to, and what the system is afterwards. An event is prepared,
 -- makes at most one call of the medium, and is finished with the reply.
-use Rattle.std.specs.Prelude.{ℕ, ◌+◌, Bool, true, false, not, cond, ◌&&◌, ◌||◌, ◌==◌, nat_le, nat_lt, List, [], ◌∷◌, ◌++◌, length, map, take, drop, replicate, Option, Some, None, slice_get, is_some, is_none}
+use Rattle.std.specs.Prelude.{ℕ, ◌+◌, Bool, true, false, not, cond, ◌&&◌, ◌||◌, ◌==◌, nat_le, nat_lt, List, [], ◌∷◌}
+use Rattle.std.specs.Prelude.{◌++◌, length, map, take, drop, replicate, Option, Some, None, slice_get, is_some, is_none}
 use Rattle.std.specs.List.{list_any}
 use Rattle.grs_base.specs.Limits.{most_additions}
 use Rattle.std.specs.Option.{option_map}
@@ -41,7 +42,9 @@ use Rattle.grs_wire.specs.declared.told.Verb.TheVariants as verbs
 use Rattle.grs_wire.specs.declared.told.ToldLine.TheVariants as told
 use Rattle.mode_migrate.specs.Migrate.{table_words, ranked_by}
 use Rattle.grs_node.specs.Change.{part_by_table, with_ranks, one_by_one}
-use Rattle.grs_node.specs.Star.{StarPart, StarStep, first_part, to_tell, first_held, is_part_pending, send_of, settle_by, tell_by, leave_by, fixing_none, own_step, took_mail, send_step, settle_step, tell_step, leave_step}
+use Rattle.grs_node.specs.Star.{StarPart, StarStep, first_part, to_tell, first_held, is_part_pending, send_of}
+use Rattle.grs_node.specs.Star.{settle_by, tell_by, leave_by, fixing_none, own_step, took_mail, send_step, settle_step}
+use Rattle.grs_node.specs.Star.{tell_step, leave_step}
 use Rattle.grs_node.specs.declared.star.Need.{Need}
 use Rattle.grs_node.specs.declared.star.Need.TheVariants.{Alone, Asks, Idle}
 use Rattle.grs_node.specs.declared.prepared.Prepared.{Prepared}
@@ -52,7 +55,8 @@ use Rattle.task_state.specs.Replies.{replied, tell_code, tell_new}
 use Rattle.task_state.specs.declared.state.Rec.{Rec}
 use Rattle.task_state.specs.declared.state.Phase.{Phase}
 use Rattle.task_state.specs.declared.state.Phase.TheVariants as phases
-use Rattle.task_state.specs.View.{TasksView, new_tasks, is_task, state_of, record_of, with_line, with_phase, with_outstanding, telling}
+use Rattle.task_state.specs.View.{TasksView, new_tasks, is_task, state_of, record_of, with_line, with_phase}
+use Rattle.task_state.specs.View.{with_outstanding, telling}
 
 -- A system: its tasks; the lists of its own Step and System resources; in ring mode its table of the Systems resources,
 -- and the requests that wait to be put into the message, in order; in star mode its part there; the set of the systems
@@ -152,7 +156,8 @@ end_step n t code (x ∷ xs) = ask n t (Release x.res) None
 
 -- a task that is Ready: it takes its next line, or begins to end
 unfoldable pub ready_step : ℕ → NodeState → TaskId → Option Meaning → Step
-ready_step limit n t None = let v = with_phase n.tasks t (phases.Ending 0) in end_step (with_tasks n v) t 0 (state_of v t).records
+ready_step limit n t None =
+    let v = with_phase n.tasks t (phases.Ending 0) in end_step (with_tasks n v) t 0 (state_of v t).records
 ready_step limit n t (Some l) = take_line limit (with_tasks n (with_line n.tasks t)) t l
 
 -- what a task does by its phase
@@ -200,7 +205,8 @@ is_star_pending v (Some p) = list_any (λ x. is_to_send x.phase) v.tasks || is_p
 unfoldable pub is_pending : Deck → NodeState → Bool
 is_pending deck n =
     list_any (λ x. goes_on x.phase) n.tasks.tasks
-    || (not (length n.outbox == 0) || (is_star_pending n.tasks n.star || nat_lt n.done (desk_count (slice_get deck.systems n.tasks.system))))
+    || (not (length n.outbox == 0)
+    || (is_star_pending n.tasks n.star || nat_lt n.done (desk_count (slice_get deck.systems n.tasks.system))))
 
 -- whether a task is one of the deck
 abbrev pub is_of_deck : Deck → TaskId → Bool
@@ -254,7 +260,8 @@ switch_call deck n order = Nothing
 
 -- the removal of a system, where the next desk line orders it
 abbrev pub purge_call : NodeState → SysId → Option Order → Prepared
-purge_call n target (Some (orders.Vary named)) = cond (named.0 == target.0) (Call (record { known = n.known; act = acts.Purge target })) Nothing
+purge_call n target (Some (orders.Vary named)) =
+    cond (named.0 == target.0) (Call (record { known = n.known; act = acts.Purge target })) Nothing
 purge_call n target order = Nothing
 
 -- What a choice comes to.
@@ -285,14 +292,16 @@ finish_quiet deck n _ = only n
 abbrev pub with_side : NodeState → Side → NodeState
 with_side n side = record n { tasks = side.tasks; shared = side.shared }
 
--- A system processes that another one is removed: the elements of that one's tasks leave its table, and those of its own
--- tasks that became owners by it are told control.
+-- A system processes that another one is removed: the elements of that one's tasks leave its table, and those of its
+-- own tasks that became owners by it are told control.
 abbrev pub process_removal : NodeState → SysId → NodeState
-process_removal n target = record n { tasks = tell_freed n.tasks target.0 (rows_of n.shared); shared = remove_state n.shared target.0 }
+process_removal n target =
+    record n { tasks = tell_freed n.tasks target.0 (rows_of n.shared); shared = remove_state n.shared target.0 }
 
 -- A system processes an entry of the message. A request of a task that isn't of the deck has no effect.
 abbrev pub read_entry : Deck → NodeState → RingBody → NodeState
-read_entry deck n (bodies.Request q) = cond (is_of_deck deck q.task) (with_side n (process_entry (side_of n.tasks n.shared) q)) n
+read_entry deck n (bodies.Request q) =
+    cond (is_of_deck deck q.task) (with_side n (process_entry (side_of n.tasks n.shared) q)) n
 read_entry deck n (bodies.Remove target) = process_removal n target
 
 -- the entries of the message that the system was given, in order
@@ -324,10 +333,11 @@ change_to_star deck n = record n {
 
 -- a step, behind which the system changes to star mode where it is to, unless it has
 abbrev pub changed_if : Deck → Bool → Step → Step
-changed_if deck closed s = cond (closed && is_none s.node.star) (record { node = change_to_star deck s.node; fixed = s.fixed }) s
+changed_if deck closed s =
+    cond (closed && is_none s.node.star) (record { node = change_to_star deck s.node; fixed = s.fixed }) s
 
--- A Turn at the message: the entries that were given are processed, and the first requests of the outbox are put in. Where
--- the message is closed the system then changes to star mode.
+-- A Turn at the message: the entries that were given are processed, and the first requests of the outbox are put in.
+-- Where the message is closed the system then changes to star mode.
 unfoldable pub turned : Deck → NodeState → List RingEntry → ℕ → Bool → Step
 turned deck n entries taken closed = changed_if deck closed (put_in (read_entries deck n entries) taken)
 
@@ -335,7 +345,8 @@ turned deck n entries taken closed = changed_if deck closed (put_in (read_entrie
 unfoldable pub desk_told : NodeState → Said → NodeState
 desk_told n said = record n { tasks = telling n.tasks (told.Desk (n.done + 1) said); done = n.done + 1 }
 
--- The complex changed to star mode by the system's desk line, and the system with it. One that is in star mode did so before.
+-- The complex changed to star mode by the system's desk line, and the system with it. One that is in star mode did so
+-- before.
 unfoldable pub switched : Deck → NodeState → NodeState
 switched deck n = cond (is_none n.star) (change_to_star deck (desk_told n saids.StarDone)) n
 
@@ -351,7 +362,10 @@ removal_by choice = []
 
 -- A system was removed by the system's desk line: the removal is fixed, and the system knows of it.
 unfoldable pub purged : NodeState → Choice → Step
-purged n choice = record { node = record (desk_told n saids.VaryDone) { known = known_with n.known choice }; fixed = removal_by choice }
+purged n choice = record {
+  node = record (desk_told n saids.VaryDone) { known = known_with n.known choice };
+  fixed = removal_by choice;
+}
 
 -- whether the tasks and systems that a mail names are of the deck
 abbrev pub is_for_deck : Deck → Mail → Bool

@@ -1,9 +1,12 @@
--- A system's part in star mode: the lock entries that it manages, the requests of others that it has still to settle, and
--- the entries in which it has interest; and what each event of star mode comes to by this part.
-use Rattle.std.specs.Prelude.{ℕ, Bool, true, false, not, ◌&&◌, ◌||◌, ◌==◌, List, [], ◌∷◌, ◌++◌, length, drop, replicate, cond, Option, Some, None, is_some, slice_get, slice_index_or, slice_set}
+-- A system's part in star mode: the lock entries that it manages, the requests of others that it has still to settle,
+-- and the entries in which it has interest; and what each event of star mode comes to by this part.
+use Rattle.std.specs.Prelude.{ℕ, Bool, true, false, not, ◌&&◌, ◌||◌, ◌==◌, List, [], ◌∷◌, ◌++◌, length, drop, replicate}
+use Rattle.std.specs.Prelude.{cond, Option, Some, None, is_some, slice_get, slice_index_or, slice_set}
 use Rattle.std.specs.List.{list_any}
 use Rattle.std.specs.Option.{option_map}
-use Rattle.contention_mgr.specs.Manager.{ManagerView, no_elements, plain, first_untold, owner_of, any_untold_at, entry_wanted, managed_at, managed_for, items_of, with_entry, after_request, rank_for, after_telling}
+use Rattle.contention_mgr.specs.Manager.{ManagerView, no_elements, plain, first_untold, owner_of, any_untold_at}
+use Rattle.contention_mgr.specs.Manager.{entry_wanted, managed_at, managed_for, items_of, with_entry, after_request}
+use Rattle.contention_mgr.specs.Manager.{rank_for, after_telling}
 use Rattle.lock_structure.specs.Entries.{entry_of_res, is_entry}
 use Rattle.grs_base.specs.State.{State}
 use Rattle.grs_base.specs.declared.resource.Res.{Res}
@@ -31,8 +34,8 @@ use Rattle.task_state.specs.declared.state.TaskState.{TaskState}
 use Rattle.task_state.specs.Replies.{tell_new}
 use Rattle.task_state.specs.View.{TasksView, is_task, state_of, with_phase}
 
--- `held` are the requests that were taken from the inbox and have still to be settled, in order; `interest` tells of each
--- lock entry whether the system has interest in it.
+-- `held` are the requests that were taken from the inbox and have still to be settled, in order; `interest` tells of
+-- each lock entry whether the system has interest in it.
 pub record StarPart : Type 0 where
   pub manager : ManagerView
   pub held : List Req
@@ -94,12 +97,15 @@ asks_in p e (Some a) = is_entry e (entry_for p a.req.want)
 
 -- whether a task has a request on record, or one that isn't answered yet, in an entry
 abbrev pub is_busy_in : StarPart → ℕ → TaskState → Bool
-is_busy_in p e x = list_any (λ y. is_entry e (entry_of_res (length p.manager.entries) y.res)) x.records || asks_in p e x.outstanding
+is_busy_in p e x =
+    list_any (λ y. is_entry e (entry_of_res (length p.manager.entries) y.res)) x.records || asks_in p e x.outstanding
 
 -- whether nothing stands in the lists of an entry that the system manages, and no request of it is held; so of an entry
 -- that it doesn't manage
 abbrev pub is_done_with : StarPart → ℕ → Bool
-is_done_with p e = (length (items_of (managed_at p.manager e)) == 0) && not (manages p e && list_any (λ q. is_entry e (entry_for p q.want)) p.held)
+is_done_with p e =
+    (length (items_of (managed_at p.manager e)) == 0)
+    && not (manages p e && list_any (λ q. is_entry e (entry_for p q.want)) p.held)
 
 -- whether a system of these tasks may give up its interest in an entry
 abbrev pub may_leave : StarPart → TasksView → ℕ → Bool
@@ -123,7 +129,8 @@ first_held p = slice_get p.held 0
 -- it is answered by the lists of its entry
 abbrev pub settle_by : StarPart → Option Req → Need
 settle_by p None = Idle
-settle_by p (Some q) = cond (serves p q) (Asks (acts.Settle q.task.system (Answered q.task (answer_for p q) (rank_of p q)))) Idle
+settle_by p (Some q) =
+    cond (serves p q) (Asks (acts.Settle q.task.system (Answered q.task (answer_for p q) (rank_of p q)))) Idle
 
 -- the owner of another system who is to be told first is told
 abbrev pub tell_by : Option (TaskId × Res) → Need

@@ -21,7 +21,8 @@ history_line names n (Deq t r have code) = line (
 history_line names n (Release t r) = line (
     codes "H" ∷ decimal n ∷ task_word names t ∷ codes "RELEASE" ∷ res_word names r ∷ [])
 history_line names n (Look t place filter rows) =
-    line (codes "H" ∷ decimal n ∷ task_word names t ∷ codes "LOOK" ∷ place_word place ∷ filter_word filter ∷ decimal (length rows) ∷ [])
+    line (codes "H" ∷ decimal n ∷ task_word names t ∷ codes "LOOK" ∷ place_word place ∷ filter_word filter
+    ∷ decimal (length rows) ∷ [])
     ++ flat_map (row_line names 82) rows
 history_line names n (Remove by target) = line (
     codes "H" ∷ decimal n ∷ name_at names.systems by.0 ∷ codes "REMOVE" ∷ name_at names.systems target.0 ∷ [])

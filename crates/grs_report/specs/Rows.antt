@@ -23,7 +23,9 @@ names_word q r = ((printed_name q ++ 44 ∷ []) ++ printed_name r) ++ 41 ∷ []
 unfoldable pub res_word : Names → Res → List ℕ
 res_word names (Systems q r) = codes "SYSTEMS(" ++ names_word q r
 res_word names (System s q r) = ((codes "SYSTEM(" ++ name_at names.systems s.0) ++ 44 ∷ []) ++ names_word q r
-res_word names (Step s j q r) = ((((codes "STEP(" ++ name_at names.systems s.0) ++ 44 ∷ []) ++ name_in names.jobs s.0 j) ++ 44 ∷ []) ++ names_word q r
+res_word names (Step s j q r) =
+    ((((codes "STEP(" ++ name_at names.systems s.0) ++ 44 ∷ []) ++ name_in names.jobs s.0 j) ++ 44 ∷ [])
+    ++ names_word q r
 
 -- where a look was taken: a slice, or LOCAL
 unfoldable pub place_word : Place → List ℕ

@@ -4,7 +4,8 @@ use Rattle.std.specs.Fmt.{decimal}
 use Rattle.std.specs.List.{flat_map}
 use Rattle.grs_wire.specs.declared.seen.Names.{Names}
 use Rattle.grs_wire.specs.declared.deck.Choice.{Choice}
-use Rattle.grs_wire.specs.declared.deck.Choice.TheVariants.{Task, Turn, Send, Take, Settle, Tell, Leave, Switch, Purge, Rest}
+use Rattle.grs_wire.specs.declared.deck.Choice.TheVariants.{Task, Turn, Send, Take, Settle, Tell, Leave, Switch, Purge}
+use Rattle.grs_wire.specs.declared.deck.Choice.TheVariants.{Rest}
 use Rattle.grs_wire.specs.declared.deck.Event.{Event}
 use Rattle.grs_report.specs.Lines.{line}
 use Rattle.grs_report.specs.Names.{name_at, task_in_job}

@@ -1,5 +1,6 @@
 -- What was told, system by system and task by task.
-use Rattle.std.specs.Prelude.{ℕ, ◌+◌, ◌==◌, Bool, true, false, List, [], ◌∷◌, ◌++◌, length, filter, codes, if◌then◌else◌}
+use Rattle.std.specs.Prelude.{ℕ, ◌+◌, ◌==◌, Bool, true, false, List, [], ◌∷◌, ◌++◌, length, filter, codes}
+use Rattle.std.specs.Prelude.{if◌then◌else◌}
 use Rattle.std.specs.Fmt.{decimal}
 use Rattle.std.specs.List.{flat_map}
 use Rattle.grs_base.specs.Same.{same_task}
@@ -20,7 +21,8 @@ use Rattle.grs_report.specs.Spelled.{verb_word, code_word, event_word, three_dig
 
 -- a told line with the number of its event, and the rows that it shows
 unfoldable pub told_line : Names → ℕ → ToldLine → List ℕ
-told_line names e (Coded t k part verb code) = line (codes "T" ∷ decimal k ∷ verb_word verb ∷ code_word code ∷ event_word e ∷ [])
+told_line names e (Coded t k part verb code) =
+    line (codes "T" ∷ decimal k ∷ verb_word verb ∷ code_word code ∷ event_word e ∷ [])
 told_line names e (Shown t k verb code rows) =
     line (codes "T" ∷ decimal k ∷ verb_word verb ∷ code_word code ∷ decimal (length rows) ∷ event_word e ∷ [])
     ++ flat_map (row_line names 82) rows
@@ -68,13 +70,15 @@ task_text names told ended job task name =
 abbrev pub tasks_text : Names → List Told → List (TaskId × TaskEnd) → List ℕ → ℕ → ℕ → ℕ → List TaskDef → List ℕ
 tasks_text names told ended name system job first [] = []
 tasks_text names told ended name system job first (t ∷ ts) =
-    task_text names told ended name (task_at system job first) t.name ++ tasks_text names told ended name system job (first + 1) ts
+    task_text names told ended name (task_at system job first) t.name
+    ++ tasks_text names told ended name system job (first + 1) ts
 
 -- the jobs of a system from a job on, of whose tasks the first is at the place first
 abbrev pub jobs_text : Names → List Told → List (TaskId × TaskEnd) → ℕ → ℕ → ℕ → List JobDef → List ℕ
 jobs_text names told ended system job first [] = []
 jobs_text names told ended system job first (j ∷ js) =
-    tasks_text names told ended j.name system job first j.tasks ++ jobs_text names told ended system (job + 1) (first + length j.tasks) js
+    tasks_text names told ended j.name system job first j.tasks
+    ++ jobs_text names told ended system (job + 1) (first + length j.tasks) js
 
 -- a system's name, what was told at its desk, and its tasks with what it told them
 unfoldable pub system_text : Names → List Told → List (TaskId × TaskEnd) → ℕ → SystemDef → List ℕ
@@ -85,7 +89,8 @@ system_text names told ended system s =
 -- systems, of which the first is at this place
 abbrev pub systems_text : Names → List Told → List (TaskId × TaskEnd) → ℕ → List SystemDef → List ℕ
 systems_text names told ended system [] = []
-systems_text names told ended system (s ∷ ss) = system_text names told ended system s ++ systems_text names told ended (system + 1) ss
+systems_text names told ended system (s ∷ ss) =
+    system_text names told ended system s ++ systems_text names told ended (system + 1) ss
 
 unfoldable pub told_text : Names → List Told → List (TaskId × TaskEnd) → List SystemDef → List ℕ
 told_text names told ended systems = line (codes "TOLD" ∷ []) ++ systems_text names told ended 0 systems

@@ -1,5 +1,6 @@
 -- What is due for a text, by what its reading answers.
-use Rattle.std.proofs.Common.{◌≡◌, ℕ, true, List, length, ap, sym, subst, ◌∙◌, inl, inr, Result, Ok, Err, IfOk, if◌then◌else◌}
+use Rattle.std.proofs.Common.{◌≡◌, ℕ, true, List, length, ap, sym, subst, ◌∙◌, inl, inr, Result, Ok, Err, IfOk}
+use Rattle.std.proofs.Common.{if◌then◌else◌}
 use Rattle.grs_base.specs.declared.fault.DeckFault.{DeckFault}
 use Rattle.grs_deck.specs.Faults.{IsFault}
 use Rattle.grs_deck.specs.Spells.{SpellsDeck}
@@ -27,19 +28,26 @@ use Rattle.grs_top.specs.declared.status.Status.TheVariants.{Deck, Done, Waits}
 use Rattle.grs_top.specs.declared.words.Command.{Command}
 use Rattle.grs_top.specs.declared.words.Command.TheVariants.{Replay, Run}
 
-pub answered_due : {E : Type 0} (c : Command) (text : List ℕ) (d : DeckValue) (r : Result Due E) → SpellsDeck text d → IfOk r (λ due. IsTextOf c d due.out due.status) → IfOk r (λ due. IsDue c text due.out due.status)
+pub answered_due : {E : Type 0} (c : Command) (text : List ℕ) (d : DeckValue) (r : Result Due E) → SpellsDeck text d
+    → IfOk r (λ due. IsTextOf c d due.out due.status) → IfOk r (λ due. IsDue c text due.out due.status)
 answered_due c text d (Ok due) spelled is_text = inr (record { deck = d; spelled = spelled; is_text = is_text })
 answered_due c text d (Err e) spelled is_text = tt
 
 pub refused_due : {E : Type 0} (c : Command) (text : List ℕ) (f : DeckFault) (r : Result Due E) → IsFault text f
-    → IfOk r (λ due. due.out ≡ fault_line f) → IfOk r (λ due. due.status ≡ Deck) → IfOk r (λ due. IsDue c text due.out due.status)
+    → IfOk r (λ due. due.out ≡ fault_line f) → IfOk r (λ due. due.status ≡ Deck)
+    → IfOk r (λ due. IsDue c text due.out due.status)
 refused_due c text f (Ok due) first out status = inl (record { first = f; is_first = first; line = out }, status)
 refused_due c text f (Err e) first out status = tt
 
 -- ---- the report of a run, by what is seen of it
 
-pub replay_due : {E : Type 0} (d : DeckValue) (seen : Seen) (r : Result Due E) → IsDeck d → ((deck : DeckValue) → (may_be_star deck ≡ true → FitsStar deck) → AreOrders (length deck.systems) 0 deck.systems → (es : List Event) → Sound deck es) → seen ≡ seen_of_run d d.events
-    → IfOk r (λ due. due.out ≡ report d seen) → IfOk r (λ due. due.status ≡ (if all_ended seen.ended then Done else Waits)) → IfOk r (λ due. IsTextOf Replay d due.out due.status)
+pub replay_due : {E : Type 0} (d : DeckValue) (seen : Seen) (r : Result Due E) → IsDeck d
+    → ((deck : DeckValue) → (may_be_star deck ≡ true → FitsStar deck) → AreOrders (length deck.systems) 0 deck.systems
+    → (es : List Event) → Sound deck es)
+    → seen ≡ seen_of_run d d.events
+    → IfOk r (λ due. due.out ≡ report d seen)
+    → IfOk r (λ due. due.status ≡ (if all_ended seen.ended then Done else Waits))
+    → IfOk r (λ due. IsTextOf Replay d due.out due.status)
 unfolding report_of ending
 replay_due d seen (Ok due) whole sound is out status = record {
   whole = out ∙ ap (report d) is;
@@ -48,13 +56,25 @@ replay_due d seen (Ok due) whole sound is out status = record {
 }
 replay_due d seen (Err e) whole sound is out status = tt
 
-pub run_due : {E : Type 0} (d : DeckValue) (m : MediumState) (journal slice : List JEntry) (vs : List NodeView) (seen : Seen) (r : Result Due E) → IsDeck d → ((deck : DeckValue) → (may_be_star deck ≡ true → FitsStar deck) → AreOrders (length deck.systems) 0 deck.systems → (es : List Event) → Sound deck es) → MergedRuns → MergedRests
-    → ((deck : DeckValue) → IsDeck deck → (es : List Event) → RestsInTheEnd deck es) → RanBeside d m journal vs → AllLast d journal → slice ≡ journal → seen.events ≡ (merged_steps slice (logs_of vs)).events → seen ≡ seen_of_run d seen.events
-    → IfOk r (λ due. due.out ≡ report d seen) → IfOk r (λ due. due.status ≡ (if all_ended seen.ended then Done else Waits)) → IfOk r (λ due. IsTextOf Run d due.out due.status)
+pub run_due :
+    {E : Type 0} (d : DeckValue) (m : MediumState) (journal slice : List JEntry) (vs : List NodeView) (seen : Seen)
+    (r : Result Due E)
+    → IsDeck d
+    → ((deck : DeckValue) → (may_be_star deck ≡ true → FitsStar deck) → AreOrders (length deck.systems) 0 deck.systems
+    → (es : List Event) → Sound deck es)
+    → MergedRuns → MergedRests
+    → ((deck : DeckValue) → IsDeck deck → (es : List Event) → RestsInTheEnd deck es) → RanBeside d m journal vs
+    → AllLast d journal → slice ≡ journal → seen.events ≡ (merged_steps slice (logs_of vs)).events
+    → seen ≡ seen_of_run d seen.events
+    → IfOk r (λ due. due.out ≡ report d seen)
+    → IfOk r (λ due. due.status ≡ (if all_ended seen.ended then Done else Waits))
+    → IfOk r (λ due. IsTextOf Run d due.out due.status)
 unfolding report_of ending
 run_due d m journal slice vs seen (Ok due) whole sound runs rests kept ran last lent made is out status =
-    let events : seen.events ≡ (merged_steps journal (logs_of vs)).events = made ∙ ap (λ (j : List JEntry). (merged_steps j (logs_of vs)).events) lent in
-    let rest : at_rest d (run d seen.events) ≡ true = ap (λ (es : List Event). at_rest d (run d es)) events ∙ rests d m journal vs whole.some ran last in
+    let events : seen.events ≡ (merged_steps journal (logs_of vs)).events =
+    made ∙ ap (λ (j : List JEntry). (merged_steps j (logs_of vs)).events) lent in
+    let rest : at_rest d (run d seen.events) ≡ true =
+    ap (λ (es : List Event). at_rest d (run d es)) events ∙ rests d m journal vs whole.some ran last in
     record {
       events = seen.events;
       all_do = subst (λ (es : List Event). AllDo d (first_world d) es) (sym events) (runs d m journal vs ran).all_do;

@@ -18,7 +18,12 @@ pub record Streams : Type 0 where
   pub failed_writes : ℕ
 
 abbrev pub streams : Option (List ℕ) → Option (List ℕ) → ℕ → ℕ → Streams
-streams left written failed_reads failed_writes = record { left = left; written = written; failed_reads = failed_reads; failed_writes = failed_writes }
+streams left written failed_reads failed_writes = record {
+  left = left;
+  written = written;
+  failed_reads = failed_reads;
+  failed_writes = failed_writes;
+}
 
 -- A text is all bytes that were left, and none is left now.
 abbrev pub TakesAll : Option (List ℕ) → Option (List ℕ) → List ℕ → Type 0

@@ -18,7 +18,8 @@ use Rattle.grs_world.specs.World.{World, first_world, happens, run, hist, told}
 abbrev pub logs_of : List NodeView → List (List StepDone)
 logs_of vs = map (λ v. v.log) vs
 
--- An event has something to do in a world: it is of a system that is there and wasn't removed, and its choice comes to something.
+-- An event has something to do in a world: it is of a system that is there and wasn't removed, and its choice comes to
+-- something.
 pub record HasToDo (deck : Deck) (w : World) (e : Event) : Type 0 where
   pub node : NodeState
   pub at : slice_get w.nodes e.system.0 ≡ Some node
@@ -30,8 +31,8 @@ abbrev pub AllDo : Deck → World → List Event → Type 0
 AllDo deck w [] = Unit {0}
 AllDo deck w (e ∷ es) = HasToDo deck w e × AllDo deck (happens deck w e) es
 
--- What is shown is the run of its events, each of which has something to do: it has this medium, these systems, this history, and
--- tells these lines.
+-- What is shown is the run of its events, each of which has something to do: it has this medium, these systems, this
+-- history, and tells these lines.
 pub record IsRun (deck : Deck) (m : MediumState) (vs : List NodeView) (x : Merged) : Type 0 where
   pub all_do : AllDo deck (first_world deck) x.events
   pub medium : (run deck x.events).medium ≡ m
@@ -41,10 +42,14 @@ pub record IsRun (deck : Deck) (m : MediumState) (vs : List NodeView) (x : Merge
 
 -- What systems show that ran beside each other is the run of their events in the journal's order.
 abbrev pub MergedRuns : Type 0
-MergedRuns = (deck : Deck) (m : MediumState) (journal : List JEntry) (vs : List NodeView) → RanBeside deck m journal vs → IsRun deck m vs (merged_steps journal (logs_of vs))
+MergedRuns =
+    (deck : Deck) (m : MediumState) (journal : List JEntry) (vs : List NodeView) → RanBeside deck m journal vs
+    → IsRun deck m vs (merged_steps journal (logs_of vs))
 
--- Where each system's last call was answered that all have come to rest, or that the system was removed, that run ends at
--- rest.
+-- Where each system's last call was answered that all have come to rest, or that the system was removed, that run ends
+-- at rest.
 abbrev pub MergedRests : Type 0
-MergedRests = (deck : Deck) (m : MediumState) (journal : List JEntry) (vs : List NodeView) → 0 < length deck.systems → RanBeside deck m journal vs → AllLast deck journal
+MergedRests =
+    (deck : Deck) (m : MediumState) (journal : List JEntry) (vs : List NodeView) → 0 < length deck.systems
+    → RanBeside deck m journal vs → AllLast deck journal
     → at_rest deck (run deck (merged_steps journal (logs_of vs)).events) ≡ true

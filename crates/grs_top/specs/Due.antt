@@ -34,8 +34,8 @@ pub record IsReported (deck : DeckValue) (es : List Event) (out : List ℕ) (sta
   pub ends : status ≡ ending deck es
   pub sound : Sound deck es
 
--- The same of events that systems made beside each other: each has something to do where it stands, and in the end the world is at
--- rest, and nothing is lost.
+-- The same of events that systems made beside each other: each has something to do where it stands, and in the end the
+-- world is at rest, and nothing is lost.
 pub record IsRunToRest (deck : DeckValue) (out : List ℕ) (status : Status) : Type 0 where
   pub events : List Event
   pub all_do : AllDo deck (first_world deck) events
@@ -43,8 +43,8 @@ pub record IsRunToRest (deck : DeckValue) (out : List ℕ) (status : Status) : T
   pub rest : at_rest deck (run deck events) ≡ true
   pub nothing_lost : NothingIsLost deck events
 
--- What a command writes for a deck, and how it ends that has written all of it. `replay` reports the run of the deck's events,
--- and `run` that of events that it makes, until all systems have come to rest. `lists` has nothing to wait for.
+-- What a command writes for a deck, and how it ends that has written all of it. `replay` reports the run of the deck's
+-- events, and `run` that of events that it makes, until all systems have come to rest. `lists` has nothing to wait for.
 abbrev pub IsTextOf : Command → DeckValue → List ℕ → Status → Type 0
 IsTextOf Replay deck out status = IsReported deck deck.events out status
 IsTextOf Run deck out status = IsRunToRest deck out status

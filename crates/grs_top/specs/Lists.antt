@@ -15,4 +15,6 @@ entries_text es = flat_map entry_text es
 
 -- the entries of the inclusion list, then of the exclusion list, then of the conversion list, each in order
 unfoldable pub lists_text : Deck → List ℕ
-lists_text deck = (entries_text deck.lists.incl.entries ++ entries_text deck.lists.excl.entries) ++ entries_text deck.lists.con.entries
+lists_text deck =
+    (entries_text deck.lists.incl.entries ++ entries_text deck.lists.excl.entries)
+    ++ entries_text deck.lists.con.entries

@@ -1,7 +1,10 @@
 -- The laws of masks that the rest cites. No other file opens a mask.
-use Rattle.std.proofs.Common.{ℕ, zero, suc, ◌≡◌, ◌≢◌, true, false, not, eqb, ◌^◌, ◌+◌, ◌*◌, ◌%◌, ◌<◌, min, max, zero-mul, one-mul, pow_pos, bit_and, bit_or, w32, sym, ◌∙◌, refl, arith, eqb-true, ne_eqb}
+use Rattle.std.proofs.Common.{ℕ, zero, suc, ◌≡◌, ◌≢◌, true, false, not, eqb, ◌^◌, ◌+◌, ◌*◌, ◌%◌, ◌<◌, min, max}
+use Rattle.std.proofs.Common.{zero-mul, one-mul, pow_pos, bit_and, bit_or, w32, sym, ◌∙◌, refl, arith, eqb-true, ne_eqb}
 use Rattle.std.specs.Int.{bit_at, bit_not}
-use Rattle.std.proofs.lemmas.Nat.Bits.{bit_at_and, bit_at_xor, bit_at_or, bit_at-pow_same, bit_at-pow_other, bit_at-lt, bit_at-zero, and_pow, same_from_bits, bit_at_clear_same, bit_at_clear_other, bit_at_above}
+use Rattle.std.proofs.lemmas.Nat.Bits.{bit_at_and, bit_at_xor, bit_at_or, bit_at-pow_same, bit_at-pow_other, bit_at-lt}
+use Rattle.std.proofs.lemmas.Nat.Bits.{bit_at-zero, and_pow, same_from_bits, bit_at_clear_same, bit_at_clear_other}
+use Rattle.std.proofs.lemmas.Nat.Bits.{bit_at_above}
 use Rattle.std.proofs.lemmas.Nat.{and_le_l, one_shl, or_lt, pow_below, xor_lt}
 use native.Mathlib.Decide.{dec_lt, ℕ_discrete}
 use Rattle.grs_wire.specs.Masks.{has, without, with_also}
@@ -27,7 +30,8 @@ has-without_same m s = rw (bit_at_xor, bit_at_and, bit_at-pow_same, twice_gone (
 
 pub has-without_other : (m s t : ℕ) → t ≢ s → has (without m s) t ≡ has m t
 unfolding has without
-has-without_other m s t ne = rw (bit_at_xor, bit_at_and, bit_at-pow_other s t ne, kept_bit (bit_at m t) (bit_at-lt m t)) refl
+has-without_other m s t ne =
+    rw (bit_at_xor, bit_at_and, bit_at-pow_other s t ne, kept_bit (bit_at m t) (bit_at-lt m t)) refl
 
 pub has-zero : (s : ℕ) → has 0 s ≡ false
 unfolding has
@@ -58,7 +62,8 @@ bits_without_same m s = rw (bit_at_xor, bit_at_and, bit_at-pow_same, twice_gone 
 pub without_code : (m s : ℕ) → s < 32 → m < 2 ^ 32 → bit_and m (bit_not w32 ((1 * 2 ^ s) % 2 ^ 32)) ≡ without m s
 without_code m s h fits = same_from_bits _ _ (λ i. go i (dec_lt i 32) (ℕ_discrete i s))
   where
-    go : (i : ℕ) → Dec (i < 32) → Dec (i ≡ s) → bit_at (bit_and m (bit_not w32 ((1 * 2 ^ s) % 2 ^ 32))) i ≡ bit_at (without m s) i
+    go : (i : ℕ) → Dec (i < 32) → Dec (i ≡ s)
+        → bit_at (bit_and m (bit_not w32 ((1 * 2 ^ s) % 2 ^ 32))) i ≡ bit_at (without m s) i
     go i _ (yes e) = rw e (bit_at_clear_same w32 m s h ∙ sym (bits_without_same m s))
     go i (yes l) (no ne) = bit_at_clear_other w32 m s h i l ne ∙ sym (bits_without m s i ne)
     go i (no far) (no ne) =

@@ -1,7 +1,9 @@
 -- What a deck is like that is read: within the limits, and its events speak of what is there.
-use Rattle.std.specs.Prelude.{◌≡◌, ◌≢◌, ℕ, true, ◌+◌, ◌<◌, ◌≤◌, List, [], ◌∷◌, length, take, map, filter, slice_get, Some, All}
+use Rattle.std.specs.Prelude.{◌≡◌, ◌≢◌, ℕ, true, ◌+◌, ◌<◌, ◌≤◌, List, [], ◌∷◌, length, take, map, filter, slice_get}
+use Rattle.std.specs.Prelude.{Some, All}
 use Rattle.std.specs.List.{flat_map, AllPairs}
-use Rattle.grs_base.specs.Limits.{most_systems, most_commands, most_jobs, most_tasks, most_lines, most_displays, is_entries, is_limit}
+use Rattle.grs_base.specs.Limits.{most_systems, most_commands, most_jobs, most_tasks, most_lines, most_displays}
+use Rattle.grs_base.specs.Limits.{is_entries, is_limit}
 use Rattle.grs_base.specs.ShortNames.{IsShortName}
 use Rattle.grs_base.specs.Lines.{IsDeckLine, is_display}
 use Rattle.grs_base.specs.declared.line.Line.{Line}

@@ -80,7 +80,8 @@ replay limit hs = replay_from limit [] hs
 -- looks at so many slices from this one on, an entry for each slice
 abbrev pub look_entries : State → TaskId → ℕ → ℕ → Filter → List HistEntry
 look_entries s t first zero f = []
-look_entries s t first (suc count) f = Look t (Slice first) f (look s (Slice first) f) ∷ look_entries s t (suc first) count f
+look_entries s t first (suc count) f =
+    Look t (Slice first) f (look s (Slice first) f) ∷ look_entries s t (suc first) count f
 
 -- a request as entries, with the replies that these lists give
 abbrev pub entries_for : State → TaskId → Want → List HistEntry

@@ -21,7 +21,9 @@ may_change (Remove by target) r = is_systems r
 
 -- An entry changes no other list.
 abbrev pub KeepsOtherLists : Type 0
-KeepsOtherLists = (limit : ℕ) (s : State) (h : HistEntry) (r : Res) → may_change h r ≡ false → list_of (step limit s h) r ≡ list_of s r
+KeepsOtherLists =
+    (limit : ℕ) (s : State) (h : HistEntry) (r : Res) → may_change h r ≡ false
+    → list_of (step limit s h) r ≡ list_of s r
 
 -- a list that an entry may change, afterwards, from that list and whether the asker is full
 abbrev pub list_stepped : (TaskId → Bool) → List Elem → HistEntry → List Elem
@@ -33,7 +35,9 @@ list_stepped full es (Remove by target) = filter (λ e. not (target.0 == e.task.
 
 -- A list that an entry may change becomes what the tables say of that list alone.
 abbrev pub StepsByLists : Type 0
-StepsByLists = (limit : ℕ) (s : State) (h : HistEntry) (r : Res) → may_change h r ≡ true → list_of (step limit s h) r ≡ list_stepped (is_full limit s) (list_of s r) h
+StepsByLists =
+    (limit : ℕ) (s : State) (h : HistEntry) (r : Res) → may_change h r ≡ true
+    → list_of (step limit s h) r ≡ list_stepped (is_full limit s) (list_of s r) h
 
 -- whether an entry is of this task, or removes its system
 abbrev pub concerns : TaskId → HistEntry → Bool
@@ -45,7 +49,9 @@ concerns t (Remove by target) = target.0 == t.system.0
 
 -- An owner stays one after an entry of another task, unless its system is removed.
 abbrev pub KeepsOwners : Type 0
-KeepsOwners = (limit : ℕ) (s : State) (h : HistEntry) (r : Res) (t : TaskId) → concerns t h ≡ false → owns (list_of s r) t ≡ true → owns (list_of (step limit s h) r) t ≡ true
+KeepsOwners =
+    (limit : ℕ) (s : State) (h : HistEntry) (r : Res) (t : TaskId) → concerns t h ≡ false → owns (list_of s r) t ≡ true
+    → owns (list_of (step limit s h) r) t ≡ true
 
 -- No task stands twice in a list, at any time.
 abbrev pub NoneTwice : Type 0

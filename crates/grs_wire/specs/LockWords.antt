@@ -60,5 +60,6 @@ leave_changes w c = has (interest w) c.0 && not (is_kept w c)
 unfoldable pub left_word : ℕ → SysId → ℕ
 left_word w c =
     cond (leave_changes w c)
-    (cond (is_manager (manager w) c) (lock_word 0 None (epoch w)) (lock_word (without (interest w) c.0) (manager w) (epoch w)))
+    (cond (is_manager (manager w) c) (lock_word 0 None (epoch w))
+    (lock_word (without (interest w) c.0) (manager w) (epoch w)))
     w

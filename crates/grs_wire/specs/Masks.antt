@@ -1,6 +1,7 @@
 -- Sets of systems as numbers. Everything else knows them by the first three words and their laws, and never by
 -- their bits.
-use Rattle.std.specs.Prelude.{ℕ, zero, suc, ◌^◌, Bool, true, cond, not, ◌&&◌, ◌||◌, eqb, nat_lt, bit_and, bit_or, bit_xor}
+use Rattle.std.specs.Prelude.{ℕ, zero, suc, ◌^◌, Bool, true, cond, not, ◌&&◌, ◌||◌, eqb, nat_lt, bit_and, bit_or}
+use Rattle.std.specs.Prelude.{bit_xor}
 use Rattle.std.specs.Int.{bit_at}
 
 -- whether s is in the set m

@@ -7,7 +7,8 @@ use Rattle.grs_wire.specs.declared.deck.Choice.TheVariants.{Turn, Take}
 use Rattle.grs_wire.specs.declared.deck.Deck.{Deck}
 
 -- where a Turn comes to nothing the system is in star mode, where it may look into its inbox
-pub take-without_turn : (deck : Deck) (n : NodeState) → prepare deck n Turn ≡ Nothing → ¬ (prepare deck n Take ≡ Nothing)
+pub take-without_turn : (deck : Deck) (n : NodeState) → prepare deck n Turn ≡ Nothing
+    → ¬ (prepare deck n Take ≡ Nothing)
 unfolding prepare star_call
 take-without_turn deck n h = by_mode n.star h
   where

@@ -1,5 +1,7 @@
 -- What events of a worker come to: what its log and its seat have more, and how many they are.
-use Rattle.std.proofs.Common.{◌≡◌, ℕ, ◌+◌, Bool, true, false, cond, not, ◌||◌, List, [], ◌∷◌, ◌++◌, length, Option, Some, None, refl, ap, sym, ◌∙◌, subst, inl, inr, arith, append_assoc, append-nil, length-append, zero-add, add-zero}
+use Rattle.std.proofs.Common.{◌≡◌, ℕ, ◌+◌, Bool, true, false, cond, not, ◌||◌, List, [], ◌∷◌, ◌++◌, length, Option}
+use Rattle.std.proofs.Common.{Some, None, refl, ap, sym, ◌∙◌, subst, inl, inr, arith, append_assoc, append-nil}
+use Rattle.std.proofs.Common.{length-append, zero-add, add-zero}
 use Rattle.std.specs.List.{count_by, list_any}
 use Rattle.std.proofs.Math.Bool.{or-true}
 use Rattle.std.proofs.lemmas.List.Sums.{sum_by-append}
@@ -18,33 +20,47 @@ use Rattle.grs_wire.specs.declared.log.StepDone.{StepDone}
 use Rattle.grs_wire.specs.declared.medium.Call.{Call as MediumCall}
 use Rattle.grs_wire.specs.declared.medium.JEntry.{JEntry}
 use Rattle.grs_wire.specs.declared.medium.Reply.{Reply}
-use Rattle.grs_workers.specs.Stands.{Stand, journalled_steps, quiet_steps, Agrees, Deed, is_last, IsAlone, IsCalled, IsDone, IsDoneBy, Does}
+use Rattle.grs_workers.specs.Stands.{Stand, journalled_steps, quiet_steps, Agrees, Deed, is_last, IsAlone, IsCalled}
+use Rattle.grs_workers.specs.Stands.{IsDone, IsDoneBy, Does}
 use Rattle.grs_workers.specs.Rounds.{most_events, made, Went, Grew}
 use Rattle.grs_workers.proofs.Listed.{may_come-reply}
 use Rattle.grs_workers.proofs.LeftOut.{leaves_all-left_out}
 
 -- ---- a system may be finished with what its seat was told
 
-pub may_finish : (node : NodeView) (seat after : SeatValue) (choice : Choice) (call : MediumCall) (told : Reply × Bool) → prepare node.deck node.node choice ≡ Call call → IsAnswered seat call told after → MayFinish node choice (Some told)
+pub may_finish : (node : NodeView) (seat after : SeatValue) (choice : Choice) (call : MediumCall) (told : Reply × Bool)
+    → prepare node.deck node.node choice ≡ Call call → IsAnswered seat call told after
+    → MayFinish node choice (Some told)
 may_finish node seat after choice call told prepared a = (
-  subst (λ (r : Reply). may_come (prepare node.deck node.node choice) r ≡ true) (sym a.reply) (may_come-reply (after_all seat.bus.first a.journal) seat.system node.deck node.node choice call prepared),
+  subst (λ (r : Reply). may_come (prepare node.deck node.node choice) r ≡ true) (sym a.reply)
+      (may_come-reply (after_all seat.bus.first a.journal) seat.system node.deck node.node choice call prepared),
   by_entry (is_entered (after_all seat.bus.first a.journal) seat.system call) refl,
 ) where
-  by_entry : (b : Bool) → is_entered (after_all seat.bus.first a.journal) seat.system call ≡ b → (told.1 || leaves_all told.0) ≡ true
+  by_entry : (b : Bool) → is_entered (after_all seat.bus.first a.journal) seat.system call ≡ b
+      → (told.1 || leaves_all told.0) ≡ true
   by_entry true is = ap (λ (b : Bool). b || leaves_all told.0) (a.entered ∙ is)
-  by_entry false is = ap (λ (b : Bool). told.1 || b) (ap leaves_all a.reply ∙ leaves_all-left_out (after_all seat.bus.first a.journal) seat.system call is) ∙ or-true told.1
+  by_entry false is =
+      ap (λ (b : Bool). told.1 || b)
+      (ap leaves_all a.reply ∙ leaves_all-left_out (after_all seat.bus.first a.journal) seat.system call is)
+      ∙ or-true told.1
 
 -- ---- counts
 
-count-snoc : (p : StepDone → Bool) (xs : List StepDone) (x : StepDone) (b : Bool) → p x ≡ b → count_by p (xs ++ x ∷ []) ≡ count_by p xs + cond b 1 0
-count-snoc p xs x b is = sum_by-append (λ y. cond (p y) 1 0) xs (x ∷ []) ∙ ap (λ (n : ℕ). count_by p xs + n) (zero-add (cond (p x) 1 0) ∙ ap (λ (c : Bool). cond c 1 0) is)
+count-snoc : (p : StepDone → Bool) (xs : List StepDone) (x : StepDone) (b : Bool) → p x ≡ b
+    → count_by p (xs ++ x ∷ []) ≡ count_by p xs + cond b 1 0
+count-snoc p xs x b is =
+    sum_by-append (λ y. cond (p y) 1 0) xs (x ∷ [])
+    ∙ ap (λ (n : ℕ). count_by p xs + n) (zero-add (cond (p x) 1 0) ∙ ap (λ (c : Bool). cond c 1 0) is)
 
 -- the steps that a finish logs
-log-alone : (v : NodeView) (choice : Choice) → (finished v choice None).log ≡ v.log ++ step_done v.node choice false (finish v.deck v.node choice None) ∷ []
+log-alone : (v : NodeView) (choice : Choice)
+    → (finished v choice None).log ≡ v.log ++ step_done v.node choice false (finish v.deck v.node choice None) ∷ []
 unfolding finished
 log-alone v choice = refl
 
-log-called : (v : NodeView) (choice : Choice) (reply : Reply) → (finished v choice (Some (reply, true))).log ≡ v.log ++ step_done v.node choice true (finish v.deck v.node choice (Some reply)) ∷ []
+log-called : (v : NodeView) (choice : Choice) (reply : Reply)
+    → (finished v choice (Some (reply, true))).log
+    ≡ v.log ++ step_done v.node choice true (finish v.deck v.node choice (Some reply)) ∷ []
 unfolding finished
 log-called v choice reply = refl
 
@@ -52,7 +68,8 @@ node-alone : (v : NodeView) (choice : Choice) → (finished v choice None).node 
 unfolding finished
 node-alone v choice = refl
 
-node-called : (v : NodeView) (choice : Choice) (reply : Reply) → (finished v choice (Some (reply, true))).node ≡ (finish v.deck v.node choice (Some reply)).node
+node-called : (v : NodeView) (choice : Choice) (reply : Reply)
+    → (finished v choice (Some (reply, true))).node ≡ (finish v.deck v.node choice (Some reply)).node
 unfolding finished
 node-called v choice reply = refl
 
@@ -65,49 +82,77 @@ unfolding finished
 deck-called v choice reply = refl
 
 -- a worker whose seat has as many entries as its log has journalled steps still has as many
-entries-alone : (v w : Stand) (choice : Choice) → IsAlone v choice w → length v.seat.own ≡ journalled_steps v.node.log → length w.seat.own ≡ journalled_steps w.node.log
+entries-alone : (v w : Stand) (choice : Choice) → IsAlone v choice w → length v.seat.own ≡ journalled_steps v.node.log
+    → length w.seat.own ≡ journalled_steps w.node.log
 entries-alone v w choice k same =
-    let log : w.node.log ≡ v.node.log ++ step_done v.node.node choice false (finish v.node.deck v.node.node choice None) ∷ [] = ap (λ (n : NodeView). n.log) k.node ∙ log-alone v.node choice in
-    ap (λ (s : SeatValue). length s.own) k.seat ∙ same ∙ sym (ap journalled_steps log ∙ count-snoc (λ x. x.journalled) v.node.log (step_done v.node.node choice false (finish v.node.deck v.node.node choice None)) false refl ∙ add-zero (journalled_steps v.node.log))
+    let log : w.node.log
+    ≡ v.node.log ++ step_done v.node.node choice false (finish v.node.deck v.node.node choice None) ∷ [] =
+    ap (λ (n : NodeView). n.log) k.node ∙ log-alone v.node choice in
+    ap (λ (s : SeatValue). length s.own) k.seat
+    ∙ same
+    ∙ sym (ap journalled_steps log
+    ∙ count-snoc (λ x. x.journalled) v.node.log
+    (step_done v.node.node choice false (finish v.node.deck v.node.node choice None)) false refl
+    ∙ add-zero (journalled_steps v.node.log))
 
-entries-called : (v w : Stand) (choice : Choice) (told : Reply × Bool) → IsCalled v choice told w → length v.seat.own ≡ journalled_steps v.node.log → length w.seat.own ≡ journalled_steps w.node.log
+entries-called : (v w : Stand) (choice : Choice) (told : Reply × Bool) → IsCalled v choice told w
+    → length v.seat.own ≡ journalled_steps v.node.log → length w.seat.own ≡ journalled_steps w.node.log
 entries-called v w choice (reply, true) k same =
     let x : StepDone = step_done v.node.node choice true (finish v.node.deck v.node.node choice (Some reply)) in
-    let log : w.node.log ≡ v.node.log ++ x ∷ [] = ap (λ (n : NodeView). n.log) k.node ∙ log-called v.node choice reply in
-    ap length k.answered.own ∙ length-append v.seat.own (entry_of v.seat.system k.call reply ∷ []) ∙ ap (λ (n : ℕ). n + 1) same ∙ sym (ap journalled_steps log ∙ count-snoc (λ x. x.journalled) v.node.log x true refl)
+    let log : w.node.log ≡ v.node.log ++ x ∷ [] =
+    ap (λ (n : NodeView). n.log) k.node ∙ log-called v.node choice reply in
+    ap length k.answered.own
+    ∙ length-append v.seat.own (entry_of v.seat.system k.call reply ∷ [])
+    ∙ ap (λ (n : ℕ). n + 1) same
+    ∙ sym (ap journalled_steps log ∙ count-snoc (λ x. x.journalled) v.node.log x true refl)
 entries-called v w choice (reply, false) k same =
-    let node : w.node ≡ v.node = k.node ∙ unjournalled_leaves v.node choice reply (may_finish v.node v.seat w.seat choice k.call (reply, false) k.prepared k.answered) in
+    let node : w.node ≡ v.node =
+    k.node
+    ∙ unjournalled_leaves v.node choice reply
+    (may_finish v.node v.seat w.seat choice k.call (reply, false) k.prepared k.answered) in
     ap length k.answered.own ∙ same ∙ ap (λ (n : NodeView). journalled_steps n.log) (sym node)
 
-entries-done : (v w : Stand) (d : Deed) → IsDone v d w → length v.seat.own ≡ journalled_steps v.node.log → length w.seat.own ≡ journalled_steps w.node.log
+entries-done : (v w : Stand) (d : Deed) → IsDone v d w → length v.seat.own ≡ journalled_steps v.node.log
+    → length w.seat.own ≡ journalled_steps w.node.log
 entries-done v w d k same = by_told d.told k
   where
-    by_told : (told : Option (Reply × Bool)) → IsDoneBy v d.choice told w → length w.seat.own ≡ journalled_steps w.node.log
+    by_told : (told : Option (Reply × Bool)) → IsDoneBy v d.choice told w
+        → length w.seat.own ≡ journalled_steps w.node.log
     by_told None k = entries-alone v w d.choice k same
     by_told (Some told) k = entries-called v w d.choice told k same
 
 -- a worker still agrees where its system is of the same number
-pub agrees-done : (v w : Stand) (d : Deed) → IsDone v d w → w.seat.system ≡ v.seat.system → w.node.node.tasks.system ≡ v.node.node.tasks.system → Agrees v → Agrees w
-agrees-done v w d k seat system a = record { system = ap (λ (s : SysId). s.0) seat ∙ a.system ∙ sym system; entries = entries-done v w d k a.entries }
+pub agrees-done : (v w : Stand) (d : Deed) → IsDone v d w → w.seat.system ≡ v.seat.system
+    → w.node.node.tasks.system ≡ v.node.node.tasks.system → Agrees v → Agrees w
+agrees-done v w d k seat system a = record {
+  system = ap (λ (s : SysId). s.0) seat ∙ a.system ∙ sym system;
+  entries = entries-done v w d k a.entries;
+}
 
 -- an event is a take or a quiet step
 made-alone : (v w : Stand) (choice : Choice) → IsAlone v choice w → made w ≡ made v + 1
 made-alone v w choice k =
     let x : StepDone = step_done v.node.node choice false (finish v.node.deck v.node.node choice None) in
     let log : w.node.log ≡ v.node.log ++ x ∷ [] = ap (λ (n : NodeView). n.log) k.node ∙ log-alone v.node choice in
-    let quiet : quiet_steps w.node.log ≡ quiet_steps v.node.log + 1 = ap quiet_steps log ∙ count-snoc (λ x. not x.journalled) v.node.log x true refl in
+    let quiet : quiet_steps w.node.log ≡ quiet_steps v.node.log + 1 =
+    ap quiet_steps log ∙ count-snoc (λ x. not x.journalled) v.node.log x true refl in
     let takes : w.seat.takes ≡ v.seat.takes = ap (λ (s : SeatValue). s.takes) k.seat in
     omega arith
 
 made-called : (v w : Stand) (choice : Choice) (told : Reply × Bool) → IsCalled v choice told w → made w ≡ made v + 1
 made-called v w choice (reply, true) k =
     let x : StepDone = step_done v.node.node choice true (finish v.node.deck v.node.node choice (Some reply)) in
-    let log : w.node.log ≡ v.node.log ++ x ∷ [] = ap (λ (n : NodeView). n.log) k.node ∙ log-called v.node choice reply in
-    let quiet : quiet_steps w.node.log ≡ quiet_steps v.node.log + 0 = ap quiet_steps log ∙ count-snoc (λ x. not x.journalled) v.node.log x false refl in
+    let log : w.node.log ≡ v.node.log ++ x ∷ [] =
+    ap (λ (n : NodeView). n.log) k.node ∙ log-called v.node choice reply in
+    let quiet : quiet_steps w.node.log ≡ quiet_steps v.node.log + 0 =
+    ap quiet_steps log ∙ count-snoc (λ x. not x.journalled) v.node.log x false refl in
     let takes : w.seat.takes ≡ v.seat.takes + 1 = k.takes in
     omega arith
 made-called v w choice (reply, false) k =
-    let node : w.node ≡ v.node = k.node ∙ unjournalled_leaves v.node choice reply (may_finish v.node v.seat w.seat choice k.call (reply, false) k.prepared k.answered) in
+    let node : w.node ≡ v.node =
+    k.node
+    ∙ unjournalled_leaves v.node choice reply
+    (may_finish v.node v.seat w.seat choice k.call (reply, false) k.prepared k.answered) in
     let quiet : quiet_steps w.node.log ≡ quiet_steps v.node.log = ap (λ (n : NodeView). quiet_steps n.log) node in
     let takes : w.seat.takes ≡ v.seat.takes + 1 = k.takes in
     omega arith
@@ -128,11 +173,18 @@ made-does (d ∷ ds) v w h =
 
 -- ---- what the log and the seat have more
 
-pub Makes-append : (deck : Deck) (n : NodeState) (xs : List StepDone) (es : List JEntry) (k : NodeState) (ys : List StepDone) (fs : List JEntry) (m : NodeState) → Makes deck n xs es k → Makes deck k ys fs m → Makes deck n (xs ++ ys) (es ++ fs) m
-Makes-append deck n [] es k ys fs m first second = subst (λ (z : NodeState). Makes deck z ys (es ++ fs) m) first.1 (subst (λ (z : List JEntry). Makes deck k ys (z ++ fs) m) (sym first.0) second)
-Makes-append deck n (x ∷ xs) es k ys fs m first second = by_step (λ l ds h. Makes-append deck l xs ds k ys fs m h second) first
+pub Makes-append :
+    (deck : Deck) (n : NodeState) (xs : List StepDone) (es : List JEntry) (k : NodeState) (ys : List StepDone)
+    (fs : List JEntry) (m : NodeState)
+    → Makes deck n xs es k → Makes deck k ys fs m → Makes deck n (xs ++ ys) (es ++ fs) m
+Makes-append deck n [] es k ys fs m first second =
+    subst (λ (z : NodeState). Makes deck z ys (es ++ fs) m) first.1
+    (subst (λ (z : List JEntry). Makes deck k ys (z ++ fs) m) (sym first.0) second)
+Makes-append deck n (x ∷ xs) es k ys fs m first second =
+    by_step (λ l ds h. Makes-append deck l xs ds k ys fs m h second) first
   where
-    by_step : ((l : NodeState) (ds : List JEntry) → Makes deck l xs ds k → Makes deck l (xs ++ ys) (ds ++ fs) m) → Makes deck n (x ∷ xs) es k → Makes deck n (x ∷ xs ++ ys) (es ++ fs) m
+    by_step : ((l : NodeState) (ds : List JEntry) → Makes deck l xs ds k → Makes deck l (xs ++ ys) (ds ++ fs) m)
+        → Makes deck n (x ∷ xs) es k → Makes deck n (x ∷ xs ++ ys) (es ++ fs) m
     by_step rest (inl h) = inl (h.0, h.1, rest h.0 es h.2)
     by_step rest (inr h) = inr (h.0, h.1 ++ fs, ap (λ (z : List JEntry). z ++ fs) h.2, h.3, h.4, rest h.3 h.1 h.5)
 
@@ -149,13 +201,22 @@ grew-none v = record {
 
 grew-alone : (v w : Stand) (choice : Choice) → IsAlone v choice w → Grew v w
 grew-alone v w choice k = record {
-  seat = (ap (λ (s : SeatValue). s.bus) k.seat, ap (λ (s : SeatValue). s.system) k.seat, ap (λ (s : SeatValue). s.seats) k.seat);
+  seat = (
+    ap (λ (s : SeatValue). s.bus) k.seat,
+    ap (λ (s : SeatValue). s.system) k.seat,
+    ap (λ (s : SeatValue). s.seats) k.seat,
+  );
   deck = ap (λ (n : NodeView). n.deck) k.node ∙ deck-alone v.node choice;
   steps = step_done v.node.node choice false (finish v.node.deck v.node.node choice None) ∷ [];
   entries = [];
   log = ap (λ (n : NodeView). n.log) k.node ∙ log-alone v.node choice;
   own = ap (λ (s : SeatValue). s.own) k.seat ∙ sym (append-nil v.seat.own);
-  makes = inl ((finish v.node.deck v.node.node choice None).node, record { prepared = k.prepared; step = refl; after = refl }, (refl, ap (λ (n : NodeView). n.node) k.node ∙ node-alone v.node choice));
+  makes =
+      inl (
+        (finish v.node.deck v.node.node choice None).node,
+        record { prepared = k.prepared; step = refl; after = refl },
+        (refl, ap (λ (n : NodeView). n.node) k.node ∙ node-alone v.node choice),
+      );
 }
 
 grew-called : (v w : Stand) (choice : Choice) (told : Reply × Bool) → IsCalled v choice told w → Grew v w
@@ -166,10 +227,22 @@ grew-called v w choice (reply, true) k = record {
   entries = entry_of v.seat.system k.call reply ∷ [];
   log = ap (λ (n : NodeView). n.log) k.node ∙ log-called v.node choice reply;
   own = k.answered.own;
-  makes = inr (entry_of v.seat.system k.call reply, [], refl, (finish v.node.deck v.node.node choice (Some reply)).node, record { prepared = k.prepared; step = refl; after = refl }, (refl, ap (λ (n : NodeView). n.node) k.node ∙ node-called v.node choice reply));
+  makes =
+      inr (
+        entry_of v.seat.system k.call reply,
+        [],
+        refl,
+        (finish v.node.deck v.node.node choice (Some reply)).node,
+        record { prepared = k.prepared; step = refl; after = refl },
+        (refl, ap (λ (n : NodeView). n.node) k.node ∙ node-called v.node choice reply),
+      );
 }
 grew-called v w choice (reply, false) k =
-    let node : w.node ≡ v.node = k.node ∙ unjournalled_leaves v.node choice reply (may_finish v.node v.seat w.seat choice k.call (reply, false) k.prepared k.answered) in record {
+    let node : w.node ≡ v.node =
+    k.node
+    ∙ unjournalled_leaves v.node choice reply
+    (may_finish v.node v.seat w.seat choice k.call (reply, false) k.prepared k.answered) in
+    record {
       seat = k.same;
       deck = ap (λ (n : NodeView). n.deck) node;
       steps = [];
@@ -194,7 +267,9 @@ grew-further u v w g h = record {
   entries = g.entries ++ h.entries;
   log = h.log ∙ ap (λ (l : List StepDone). l ++ h.steps) g.log ∙ append_assoc u.node.log g.steps h.steps;
   own = h.own ∙ ap (λ (l : List JEntry). l ++ h.entries) g.own ∙ append_assoc u.seat.own g.entries h.entries;
-  makes = Makes-append u.node.deck u.node.node g.steps g.entries v.node.node h.steps h.entries w.node.node g.makes (subst (λ (d : Deck). Makes d v.node.node h.steps h.entries w.node.node) g.deck h.makes);
+  makes =
+      Makes-append u.node.deck u.node.node g.steps g.entries v.node.node h.steps h.entries w.node.node g.makes
+      (subst (λ (d : Deck). Makes d v.node.node h.steps h.entries w.node.node) g.deck h.makes);
 }
 
 grew-does : (ds : List Deed) (v w : Stand) → Does v ds w → Grew v w
@@ -207,11 +282,13 @@ does-more : (ds : List Deed) (v u w : Stand) (d : Deed) → Does v ds u → IsDo
 does-more [] v u w d same k = (w, subst (λ (z : Stand). IsDone z d w) same k, refl)
 does-more (x ∷ xs) v u w d h k = (h.0, h.1, does-more xs h.0 u w d h.2 k)
 
-none_last-more : (ds : List Deed) (d : Deed) → list_any is_last ds ≡ false → is_last d ≡ false → list_any is_last (ds ++ d ∷ []) ≡ false
+none_last-more : (ds : List Deed) (d : Deed) → list_any is_last ds ≡ false → is_last d ≡ false
+    → list_any is_last (ds ++ d ∷ []) ≡ false
 none_last-more [] d none last = ap (λ (b : Bool). b || false) last
 none_last-more (x ∷ xs) d none last = by_first (is_last x) (λ h. none_last-more xs d h last) none
   where
-    by_first : (b : Bool) → (list_any is_last xs ≡ false → list_any is_last (xs ++ d ∷ []) ≡ false) → (b || list_any is_last xs) ≡ false → (b || list_any is_last (xs ++ d ∷ [])) ≡ false
+    by_first : (b : Bool) → (list_any is_last xs ≡ false → list_any is_last (xs ++ d ∷ []) ≡ false)
+        → (b || list_any is_last xs) ≡ false → (b || list_any is_last (xs ++ d ∷ [])) ≡ false
     by_first true rest h = cc
     by_first false rest h = rest h
 
@@ -241,5 +318,6 @@ went-on v w n g all = record {
 }
 
 pub went-grew : (v : Stand) (out : Bool) (w : Stand) → Went v out w → Grew v w
-went-grew v true w g = grew-further v g.between w (grew-does g.before v g.between g.does) (grew-done g.between w g.ends.0 g.ends.1)
+went-grew v true w g =
+    grew-further v g.between w (grew-does g.before v g.between g.does) (grew-done g.between w g.ends.0 g.ends.1)
 went-grew v false w g = subst (Grew v) (sym g.ends.0) (grew-does g.before v g.between g.does)

@@ -1,5 +1,6 @@
 -- What is known of a worker whose round went well.
-use Rattle.std.proofs.Common.{◌≡◌, ◌<◌, ℕ, Bool, true, false, List, length, get_or, Result, Ok, Err, IfOk, IfErr, sym, ◌∙◌, subst}
+use Rattle.std.proofs.Common.{◌≡◌, ◌<◌, ℕ, Bool, true, false, List, length, get_or, Result, Ok, Err, IfOk, IfErr, sym}
+use Rattle.std.proofs.Common.{◌∙◌, subst}
 use Rattle.std.specs.Prelude.{All}
 use Rattle.std.specs.List.{list_all}
 use Rattle.std.proofs.lemmas.Bool.{true≢false}
@@ -15,7 +16,9 @@ use Rattle.grs_workers.proofs.DeedLaws.{went-grew, grew-none, grew-further}
 pub worked-grew : (b : BusValue) (v w : Worker) → HasWorked b v w → IfErr w.outcome (λ _. ⊥) → Grew (stand v) (stand w)
 worked-grew b v w worked fine = by_outcome w.outcome worked fine
   where
-    by_outcome : (o : Result Bool NoMemory) → IfOk o (λ out. Went (stand v) out (stand w) × IsOn b (stand w) × Agrees (stand w)) → IfErr o (λ _. ⊥) → Grew (stand v) (stand w)
+    by_outcome : (o : Result Bool NoMemory)
+        → IfOk o (λ out. Went (stand v) out (stand w) × IsOn b (stand w) × Agrees (stand w)) → IfErr o (λ _. ⊥)
+        → Grew (stand v) (stand w)
     by_outcome (Ok out) worked fine = went-grew (stand v) out (stand w) worked.0
     by_outcome (Err e) worked fine = absurd fine
 
@@ -24,11 +27,14 @@ worked-grew b v w worked fine = by_outcome w.outcome worked fine
 pub grew-still : (ws : List Worker) → Each (λ v w. Grew (stand v) (stand w)) ws ws
 grew-still ws i d below = grew-none (stand (get_or ws i d))
 
-pub grew-again : (us vs ws : List Worker) → length vs ≡ length us → Each (λ v w. Grew (stand v) (stand w)) us vs → Each (λ v w. Grew (stand v) (stand w)) vs ws → Each (λ v w. Grew (stand v) (stand w)) us ws
+pub grew-again : (us vs ws : List Worker) → length vs ≡ length us → Each (λ v w. Grew (stand v) (stand w)) us vs
+    → Each (λ v w. Grew (stand v) (stand w)) vs ws → Each (λ v w. Grew (stand v) (stand w)) us ws
 grew-again us vs ws count first second i d below =
-    grew-further (stand (get_or us i d)) (stand (get_or vs i d)) (stand (get_or ws i d)) (first i d below) (second i d (subst (λ k. i < k) (sym count) below))
+    grew-further (stand (get_or us i d)) (stand (get_or vs i d)) (stand (get_or ws i d)) (first i d below)
+    (second i d (subst (λ k. i < k) (sym count) below))
 
-out-at : (ws : List Worker) (i : ℕ) (d : Worker) → list_all (λ w. is_out w.outcome) ws ≡ true → i < length ws → is_out (get_or ws i d).outcome ≡ true
+out-at : (ws : List Worker) (i : ℕ) (d : Worker) → list_all (λ w. is_out w.outcome) ws ≡ true → i < length ws
+    → is_out (get_or ws i d).outcome ≡ true
 out-at ws i d all below = by_out (is_out (get_or ws i d).outcome) (list_all_at (λ w. is_out w.outcome) ws i d below)
   where
     by_out : (b : Bool) → (b ≡ false → list_all (λ w. is_out w.outcome) ws ≡ false) → b ≡ true
@@ -36,8 +42,12 @@ out-at ws i d all below = by_out (is_out (get_or ws i d).outcome) (list_all_at (
     by_out false none = absurd (true≢false (sym all ∙ none (λ j. false)))
 
 -- where all were answered Over or Removed in the last
-pub all-over : (vs ws : List Worker) → length ws ≡ length vs → list_all (λ w. is_out w.outcome) ws ≡ true → Each (λ v w. Went (stand v) (is_out w.outcome) (stand w)) vs ws → All (λ w. IsOver (stand w)) ws
-all-over vs ws count all went i d below =
-    (stand (get_or vs i d), subst (λ (b : Bool). Went (stand (get_or vs i d)) b (stand (get_or ws i d))) (out-at ws i d all below) (went i d (subst (λ k. i < k) count below)))
+pub all-over : (vs ws : List Worker) → length ws ≡ length vs → list_all (λ w. is_out w.outcome) ws ≡ true
+    → Each (λ v w. Went (stand v) (is_out w.outcome) (stand w)) vs ws → All (λ w. IsOver (stand w)) ws
+all-over vs ws count all went i d below = (
+  stand (get_or vs i d),
+  subst (λ (b : Bool). Went (stand (get_or vs i d)) b (stand (get_or ws i d))) (out-at ws i d all below)
+      (went i d (subst (λ k. i < k) count below)),
+)
 
 pub ruleset rounds = (grew-still, grew-again, all-over)

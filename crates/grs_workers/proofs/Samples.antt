@@ -4,7 +4,8 @@ use Rattle.grs_base.specs.Rnl.{no_entries}
 use Rattle.grs_base.specs.declared.rnl.Which.TheVariants as which
 use Rattle.grs_base.specs.declared.resource.TaskId.{TaskId}
 use Rattle.grs_bus.specs.Journal.{entry_of}
-use Rattle.grs_node.specs.Node.{NodeState, may_go, finish_quiet, phase_step, ready_step, end_step, finish_call, finish_star, is_pending, prepare, finish}
+use Rattle.grs_node.specs.Node.{NodeState, may_go, finish_quiet, phase_step, ready_step, end_step, finish_call}
+use Rattle.grs_node.specs.Node.{finish_star, is_pending, prepare, finish}
 use Rattle.grs_wire.specs.declared.deck.Choice.TheVariants.{Task, Rest}
 use Rattle.grs_wire.specs.declared.deck.Deck.{Deck}
 use Rattle.grs_wire.specs.declared.log.StepDone.{StepDone}
@@ -24,7 +25,13 @@ deck = record {
   entries = 16;
   limit = 4096;
   lists = record { incl = no_entries which.Incl; excl = no_entries which.Excl; con = no_entries which.Con };
-  systems = map (λ name. record { name = name; desk = []; jobs = record { name = codes "J"; tasks = record { name = codes "T"; lines = [] } ∷ [] } ∷ [] }) (codes "A" ∷ []);
+  systems =
+      map (λ name. record {
+        name = name;
+        desk = [];
+        jobs = record { name = codes "J"; tasks = record { name = codes "T"; lines = [] } ∷ [] } ∷ [];
+      })
+      (codes "A" ∷ []);
   events = [];
 }
 
@@ -33,10 +40,22 @@ task = record { system = record { 0 = 0 }; job = 0; task = 0 }
 
 -- the system before its first event, and once its task has ended
 abbrev first : NodeState
-first = record { tasks = record { system = 0; tasks = new_tasks 1; told = [] }; own = []; shared = []; outbox = []; star = None; known = 0; done = 0 }
+first = record {
+  tasks = record { system = 0; tasks = new_tasks 1; told = [] };
+  own = [];
+  shared = [];
+  outbox = [];
+  star = None;
+  known = 0;
+  done = 0;
+}
 
 abbrev ended : NodeState
-ended = record first { tasks = telling (with_phase (with_phase first.tasks task (phases.Ending 0)) task phases.Ended) (lines.Ended task 0) }
+ended =
+    record first {
+      tasks =
+          telling (with_phase (with_phase first.tasks task (phases.Ending 0)) task phases.Ended) (lines.Ended task 0);
+    }
 
 -- the task ends, without a call; then the system rests, and is the last to
 abbrev ends : StepDone
@@ -49,8 +68,14 @@ abbrev over : JEntry
 over = entry_of (record { 0 = 0 }) (record { known = 0; act = acts.Rest }) replies.Over
 
 both : Makes deck first (ends ∷ rests ∷ []) (over ∷ []) ended
-unfolding state_of with_state with_line with_phase telling may_go finish_quiet phase_step ready_step end_step finish_call finish_star is_pending prepare finish
-both = inl (ended, record { prepared = refl; step = refl; after = refl }, inr (over, [], refl, ended, record { prepared = refl; step = refl; after = refl }, (refl, refl)))
+unfolding state_of with_state with_line with_phase telling may_go finish_quiet phase_step ready_step end_step
+    finish_call finish_star is_pending prepare finish
+both =
+    inl (
+      ended,
+      record { prepared = refl; step = refl; after = refl },
+      inr (over, [], refl, ended, record { prepared = refl; step = refl; after = refl }, (refl, refl)),
+    )
 
 -- a step with a call that has no entry, and an entry that has no step, make nothing
 without_entry : ¬ Makes deck ended (rests ∷ []) [] ended

@@ -33,8 +33,8 @@ abbrev pub AreServed : MediumState → List JEntry → Type 0
 AreServed m [] = Unit {0}
 AreServed m (e ∷ es) = IsServed m e × AreServed (medium_after m e.system e.call) es
 
--- A system is what its log's steps make of the deck's system of this number, where its calls are replied as its entries of
--- the journal say.
+-- A system is what its log's steps make of the deck's system of this number, where its calls are replied as its entries
+-- of the journal say.
 pub record IsMade (deck : Deck) (journal : List JEntry) (s : ℕ) (v : NodeView) : Type 0 where
   pub of_deck : v.deck ≡ deck
   pub makes : Makes deck (first_node deck s) v.log (entries_of s journal) v.node
@@ -44,8 +44,8 @@ abbrev pub AreMade : Deck → List JEntry → ℕ → List NodeView → Type 0
 AreMade deck journal s [] = Unit {0}
 AreMade deck journal s (v ∷ vs) = IsMade deck journal s v × AreMade deck journal (s + 1) vs
 
--- The systems of a deck ran beside each other: the journal's entries are served and lead from the deck's medium to this one,
--- and each system is what its log's steps make of it.
+-- The systems of a deck ran beside each other: the journal's entries are served and lead from the deck's medium to this
+-- one, and each system is what its log's steps make of it.
 pub record RanBeside (deck : Deck) (m : MediumState) (journal : List JEntry) (vs : List NodeView) : Type 0 where
   pub served : AreServed (medium_of deck) journal
   pub medium : m ≡ after_all (medium_of deck) journal

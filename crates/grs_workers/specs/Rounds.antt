@@ -1,5 +1,6 @@
 -- What a round does to its workers.
-use Rattle.std.specs.Prelude.{◌≡◌, ◌+◌, ◌<◌, ℕ, List, ◌++◌, length, slice_index_or, Bool, true, false, Result, Ok, Err, IfOk}
+use Rattle.std.specs.Prelude.{◌≡◌, ◌+◌, ◌<◌, ℕ, List, ◌++◌, length, slice_index_or, Bool, true, false, Result, Ok, Err}
+use Rattle.std.specs.Prelude.{IfOk}
 use Rattle.std.specs.List.{list_any}
 use Rattle.grs_base.specs.declared.fault.NoMemory.{NoMemory}
 use Rattle.grs_bus.specs.Seats.{BusValue, IsSameSeat}
@@ -17,8 +18,8 @@ most_events = 64
 abbrev pub made : Stand → ℕ
 made v = v.seat.takes + quiet_steps v.node.log
 
--- The events of a round end with one that was answered Over or Removed, or there are as many as a round has: the worker stands
--- at u before it, and at w in the end.
+-- The events of a round end with one that was answered Over or Removed, or there are as many as a round has: the worker
+-- stands at u before it, and at w in the end.
 abbrev pub Ends : Bool → List Deed → Stand → Stand → Type 0
 Ends true before u w = (d : Deed) × IsDone u d w × (is_last d ≡ true) × (length before < most_events)
 Ends false before u w = (w ≡ u) × (length before ≡ most_events)
@@ -33,8 +34,8 @@ pub record Went (v : Stand) (out : Bool) (w : Stand) : Type 0 where
   -- where it wasn't, its takes and the quiet steps of its log are as many more as a round has
   pub count : out ≡ false → made w ≡ made v + most_events
 
--- What a worker's log and its seat's own have more: the new steps lead from its system before to its system afterwards, and the
--- journalled ones have the seat's new entries, in order.
+-- What a worker's log and its seat's own have more: the new steps lead from its system before to its system afterwards,
+-- and the journalled ones have the seat's new entries, in order.
 pub record Grew (v w : Stand) : Type 0 where
   pub seat : IsSameSeat v.seat w.seat
   pub deck : w.node.deck ≡ v.node.deck

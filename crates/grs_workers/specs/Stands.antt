@@ -1,5 +1,6 @@
 -- Where a worker stands, and what one event of it does.
-use Rattle.std.specs.Prelude.{◌≡◌, ◌+◌, ◌-◌, ◌^◌, ◌<◌, ℕ, min, not, ◌&&◌, List, [], ◌∷◌, length, Bool, true, false, Option, Some, None}
+use Rattle.std.specs.Prelude.{◌≡◌, ◌+◌, ◌-◌, ◌^◌, ◌<◌, ℕ, min, not, ◌&&◌, List, [], ◌∷◌, length, Bool, true, false}
+use Rattle.std.specs.Prelude.{Option, Some, None}
 use Rattle.std.specs.List.{count_by}
 use Rattle.grs_bus.specs.Seats.{BusValue, SeatValue, IsSameSeat, IsAnswered}
 use Rattle.grs_medium.specs.Medium.{systems_of}
@@ -34,8 +35,8 @@ journalled_steps log = count_by (λ x. x.journalled) log
 abbrev pub quiet_steps : List StepDone → ℕ
 quiet_steps log = count_by (λ x. not x.journalled) log
 
--- A worker at the bus: its seat is one of the bus, of a system that the medium of the bus has, and its system is of a deck with
--- as many systems and lock entries as that medium has.
+-- A worker at the bus: its seat is one of the bus, of a system that the medium of the bus has, and its system is of a
+-- deck with as many systems and lock entries as that medium has.
 pub record IsOn (b : BusValue) (v : Stand) : Type 0 where
   pub seat : v.seat.bus ≡ b
   pub caller : v.seat.system.0 < systems_of b.first
@@ -82,8 +83,8 @@ pub record IsAlone (v : Stand) (choice : Choice) (w : Stand) : Type 0 where
   pub seat : w.seat ≡ v.seat
   pub calls : w.calls ≡ v.calls
 
--- An event with a call, which was told this: the seat made the call and was answered, and the system was finished with what it
--- was told. Interest in a lock entry is given up only where nothing is pending.
+-- An event with a call, which was told this: the seat made the call and was answered, and the system was finished with
+-- what it was told. Interest in a lock entry is given up only where nothing is pending.
 pub record IsCalled (v : Stand) (choice : Choice) (told : Reply × Bool) (w : Stand) : Type 0 where
   pub in_time : is_early v.node choice ≡ false
   pub call : MediumCall

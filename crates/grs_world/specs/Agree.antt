@@ -1,5 +1,6 @@
 -- What is told agrees with the history.
-use Rattle.std.specs.Prelude.{◌≡◌, ◌<◌, ℕ, Bool, true, false, not, ◌&&◌, ◌||◌, ◌==◌, nat_lt, ◌-◌, List, [], ◌∷◌, ◌++◌, length, map, take, drop, Option, Some, None, slice_get}
+use Rattle.std.specs.Prelude.{◌≡◌, ◌<◌, ℕ, Bool, true, false, not, ◌&&◌, ◌||◌, ◌==◌, nat_lt, ◌-◌, List, [], ◌∷◌, ◌++◌}
+use Rattle.std.specs.Prelude.{length, map, take, drop, Option, Some, None, slice_get}
 use Rattle.std.specs.List.{list_all, list_any}
 use Rattle.grs_base.specs.declared.resource.SysId.{SysId}
 use Rattle.grs_base.specs.declared.resource.TaskId.{TaskId}
@@ -84,7 +85,8 @@ DeskAgrees deck m e s k said =
 
 -- a line that system s tells a task agrees: the task is one of its own
 abbrev pub TaskAgrees : Deck → Moment → SysId → TaskId → ToldLine → Type 0
-TaskAgrees deck m s t line = (s ≡ t.system) × AgreesOf deck.limit (lines_of deck t) m.history (lines_of_told m.before) line
+TaskAgrees deck m s t line =
+    (s ≡ t.system) × AgreesOf deck.limit (lines_of deck t) m.history (lines_of_told m.before) line
 
 -- a line that event e of system s tells agrees; a code is that of its whole line, part 0, and no display is shown yet
 abbrev pub AgreesBy : Deck → Moment → ℕ → SysId → ToldLine → Type 0
@@ -109,7 +111,8 @@ moment deck es e before = record { history = hist deck (take e es); fixed = fixe
 -- each of these agrees at its moment, the first behind what was told before
 abbrev pub AllAgree : Deck → List Event → List Told → List Told → Type 0
 AllAgree deck es before [] = Unit {0}
-AllAgree deck es before (x ∷ xs) = Agrees deck (moment deck es x.event before) x × AllAgree deck es (before ++ x ∷ []) xs
+AllAgree deck es before (x ∷ xs) =
+    Agrees deck (moment deck es x.event before) x × AllAgree deck es (before ++ x ∷ []) xs
 
 -- whether a command is to remove this system
 abbrev pub is_vary : SysId → Option Order → Bool
@@ -127,7 +130,8 @@ is_removal deck e s target x = (x.event == e) && ((x.system.0 == s.0) && tells_r
 
 -- Each removal among what event e fixed is told by that event.
 abbrev pub RemovalsTold : Deck → ℕ → List (SysId × Fixed) → List Told → Type 0
-RemovalsTold deck e fixed lines = (s target : SysId) → purges s target fixed ≡ true → list_any (is_removal deck e s target) lines ≡ true
+RemovalsTold deck e fixed lines =
+    (s target : SysId) → purges s target fixed ≡ true → list_any (is_removal deck e s target) lines ≡ true
 
 -- whether an event is there, and is this system's
 abbrev pub is_event_of : SysId → Option Event → Bool

@@ -1,6 +1,7 @@
--- What holds of a run that ends at rest: nothing is lost. Each owner of a live system was told, each reply has its line, whoever
--- hasn't ended waits, and the units are reserved that owners reserved.
-use Rattle.std.specs.Prelude.{◌≡◌, ◌≢◌, ◌<◌, ◌+◌, ◌-◌, ℕ, Bool, true, false, not, cond, ◌&&◌, ◌||◌, ◌==◌, List, [], ◌∷◌, length, take, filter, Option, Some, None, is_some, slice_get}
+-- What holds of a run that ends at rest: nothing is lost. Each owner of a live system was told, each reply has its
+-- line, whoever hasn't ended waits, and the units are reserved that owners reserved.
+use Rattle.std.specs.Prelude.{◌≡◌, ◌≢◌, ◌<◌, ◌+◌, ◌-◌, ℕ, Bool, true, false, not, cond, ◌&&◌, ◌||◌, ◌==◌, List, [], ◌∷◌}
+use Rattle.std.specs.Prelude.{length, take, filter, Option, Some, None, is_some, slice_get}
 use Rattle.std.specs.List.{list_any, count_by, range_with_len}
 use Rattle.grs_base.specs.Lists.{owns, has_task}
 use Rattle.grs_base.specs.Same.{same_res}
@@ -38,7 +39,8 @@ pub record IsThere (deck : Deck) (es : List Event) (t : TaskId) (ls : List Meani
 
 -- who owns in the end was told control of the element
 abbrev pub OwnersAreTold : Deck → List Event → Type 0
-OwnersAreTold deck es = (t : TaskId) (ls : List Meaning) (r : Res) → IsThere deck es t ls → owns (list_of (lists_after deck es) r) t ≡ true
+OwnersAreTold deck es =
+    (t : TaskId) (ls : List Meaning) (r : Res) → IsThere deck es t ls → owns (list_of (lists_after deck es) r) t ≡ true
     → list_any (tells_control t ls (line_entries t (hist deck es)) r) (lines_of_told (told deck es)) ≡ true
 
 -- whether a code is WAIT
@@ -56,7 +58,9 @@ is_coded (Remove by target) = false
 
 -- each such entry of a task's line has its code line
 abbrev pub RepliesAreTold : Deck → List Event → Type 0
-RepliesAreTold deck es = (t : TaskId) (ls : List Meaning) (k : ℕ) (h : HistEntry) → IsThere deck es t ls → 0 < k → entry_of_line ls (line_entries t (hist deck es)) k ≡ Some h → is_coded h ≡ true
+RepliesAreTold deck es =
+    (t : TaskId) (ls : List Meaning) (k : ℕ) (h : HistEntry) → IsThere deck es t ls → 0 < k
+    → entry_of_line ls (line_entries t (hist deck es)) k ≡ Some h → is_coded h ≡ true
     → list_any (is_code_of t k) (lines_of_told (told deck es)) ≡ true
 
 -- whether an entry waits for control of a resource: an ENQ that was answered WAIT
@@ -86,8 +90,8 @@ is_uncoded t ls lines_told k = is_wait (slice_get ls (k - 1)) && not (list_any (
 abbrev pub first_uncoded : TaskId → List Meaning → List ToldLine → Option ℕ
 first_uncoded t ls lines_told = slice_get (filter (is_uncoded t ls lines_told) (range_with_len 1 (length ls))) 0
 
--- whether the line of this number is the next of a task that has these entries: the lines before it asked for them, and none
--- of them ended the task
+-- whether the line of this number is the next of a task that has these entries: the lines before it asked for them, and
+-- none of them ended the task
 abbrev pub is_next : List Meaning → List HistEntry → ℕ → Bool
 is_next ls entries k = not (is_some (end_among entries)) && (length (asks_of (take (k - 1) ls)) == length entries)
 
@@ -96,10 +100,11 @@ abbrev pub stands_at : Res → List Meaning → List HistEntry → Option ℕ �
 stands_at r ls entries None = false
 stands_at r ls entries (Some k) = waits_at r (slice_get ls (k - 1)) && is_next ls entries k
 
--- whether a task goes on only where it owns a resource: its last entry waits for it, or its first WAIT line without a code
--- line does, and that is its next
+-- whether a task goes on only where it owns a resource: its last entry waits for it, or its first WAIT line without a
+-- code line does, and that is its next
 abbrev pub goes_on_with : TaskId → List Meaning → List HistEntry → List ToldLine → Res → Bool
-goes_on_with t ls hist lines_told r = waits_on r (last_entry (entries_of t hist)) || stands_at r ls (line_entries t hist) (first_uncoded t ls lines_told)
+goes_on_with t ls hist lines_told r =
+    waits_on r (last_entry (entries_of t hist)) || stands_at r ls (line_entries t hist) (first_uncoded t ls lines_told)
 
 -- A task waits for an element that it has and doesn't own, without which it doesn't go on, and is shown to wait.
 pub record IsWaiting (deck : Deck) (es : List Event) (t : TaskId) (ls : List Meaning) : Type 0 where
@@ -111,7 +116,9 @@ pub record IsWaiting (deck : Deck) (es : List Event) (t : TaskId) (ls : List Mea
 
 -- who hasn't ended waits
 abbrev pub TasksWait : Deck → List Event → Type 0
-TasksWait deck es = (t : TaskId) (ls : List Meaning) → IsThere deck es t ls → task_end (run deck es).medium.removed (run deck es).nodes t ≢ Ended → IsWaiting deck es t ls
+TasksWait deck es =
+    (t : TaskId) (ls : List Meaning) → IsThere deck es t ls
+    → task_end (run deck es).medium.removed (run deck es).nodes t ≢ Ended → IsWaiting deck es t ls
 
 -- ---- units
 
@@ -127,7 +134,8 @@ reserves u _ = false
 
 -- whether the line of a task that queued its element on a resource reserves a unit
 abbrev pub queued_with : ℕ → List Meaning → List HistEntry → Res → Bool
-queued_with u ls entries r = list_any (λ k. queued_last ls entries r k && reserves u (slice_get ls (k - 1))) (range_with_len 1 (length ls))
+queued_with u ls entries r =
+    list_any (λ k. queued_last ls entries r k && reserves u (slice_get ls (k - 1))) (range_with_len 1 (length ls))
 
 -- the same, where the deck may lack the task
 abbrev pub queued_with_by : ℕ → Option (List Meaning) → List HistEntry → Res → Bool
@@ -148,7 +156,8 @@ unit_count s u (c ∷ cs) = cond ((c.0.0 == s.0) && (c.1 == u)) (c.2 + unit_coun
 -- A unit's count on a live system is that of the owners of its tasks which a RESERVE of the unit queued.
 abbrev pub UnitsAreReserved : Deck → List Event → Type 0
 UnitsAreReserved deck es = (s : SysId) (u : ℕ) → is_live (run deck es) s ≡ true
-    → unit_count s u (units_of (run deck es).nodes) ≡ count_by (is_reserve deck (hist deck es) s u) (lists_after deck es)
+    → unit_count s u (units_of (run deck es).nodes)
+    ≡ count_by (is_reserve deck (hist deck es) s u) (lists_after deck es)
 
 -- Nothing is lost in a run: owners and replies are told, who hasn't ended waits, and units are reserved.
 pub record NothingIsLost (deck : Deck) (es : List Event) : Type 0 where

@@ -1,5 +1,6 @@
 -- The change to star mode fixes nothing.
-use Rattle.std.specs.Prelude.{◌≡◌, ◌&&◌, ◌||◌, ◌++◌, ◌∷◌, Bool, true, false, List, [], Option, Some, None, is_none, slice_get}
+use Rattle.std.specs.Prelude.{◌≡◌, ◌&&◌, ◌||◌, ◌++◌, ◌∷◌, Bool, true, false, List, [], Option, Some, None, is_none}
+use Rattle.std.specs.Prelude.{slice_get}
 use Rattle.std.specs.Option.{is_some}
 use Rattle.grs_wire.specs.declared.deck.Choice.{Choice}
 use Rattle.grs_wire.specs.declared.deck.Choice.TheVariants as choices
@@ -22,9 +23,12 @@ star_at (Some n) = n.star
 abbrev pub has_moved : Option NodeState → Option NodeState → Bool
 has_moved before after = is_none (star_at before) && is_some (star_at after)
 
--- Where the next event is a Switch, or its system changes to star mode by it, it fixes nothing. So no list of the history
--- changes by it.
+-- Where the next event is a Switch, or its system changes to star mode by it, it fixes nothing. So no list of the
+-- history changes by it.
 abbrev pub ChangesFixNothing : Deck → List Event → Event → Type 0
 ChangesFixNothing deck es next =
-    (is_switch next.choice || has_moved (slice_get (run deck es).nodes next.system.0) (slice_get (run deck (es ++ next ∷ [])).nodes next.system.0)) ≡ true
+    (is_switch next.choice
+    || has_moved (slice_get (run deck es).nodes next.system.0)
+    (slice_get (run deck (es ++ next ∷ [])).nodes next.system.0))
+    ≡ true
     → (run deck (es ++ next ∷ [])).fixed ≡ (run deck es).fixed

@@ -13,8 +13,8 @@ use Rattle.grs_base.specs.declared.resource.SysId.{SysId}
 use Rattle.grs_node.specs.Change.{part_by_table}
 use Rattle.grs_world.specs.Kept.{table_behind}
 
--- A system's part in star mode. One that hasn't changed has yet to become what its table leads to, once it has processed what
--- it hasn't seen.
+-- A system's part in star mode. One that hasn't changed has yet to become what its table leads to, once it has
+-- processed what it hasn't seen.
 abbrev pub part_at : Deck → World → SysId → NodeState → Option StarPart → StarPart
 part_at deck w s n None = part_by_table deck.entries s (table_behind deck w s n)
 part_at deck w s n (Some p) = p
@@ -39,8 +39,10 @@ manages_there deck w s e = is_live w s && manages_at deck w s (slice_get w.nodes
 -- After these events each word goes with the live systems, and holds no other.
 pub record WordsGoWithSystems (deck : Deck) (es : List Event) : Type 0 where
   -- its set holds a system exactly where that system is live and has interest in the entry
-  pub interest : (e : ℕ) (s : SysId) → is_interested (run deck es).medium.words e s.0 ≡ has_interest_there deck (run deck es) s e
+  pub interest : (e : ℕ) (s : SysId)
+      → is_interested (run deck es).medium.words e s.0 ≡ has_interest_there deck (run deck es) s e
   -- a live system manages the entry exactly where the word names it,
-  pub manages : (e : ℕ) (s : SysId) → manages_there deck (run deck es) s e ≡ is_manager (manager_at (run deck es).medium.words e) s
+  pub manages : (e : ℕ) (s : SysId)
+      → manages_there deck (run deck es) s e ≡ is_manager (manager_at (run deck es).medium.words e) s
   -- and the word names one exactly where its set isn't empty, who is in it
   pub managed : (e : ℕ) → IsManaged (word_at (run deck es).medium.words e)

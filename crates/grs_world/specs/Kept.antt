@@ -31,8 +31,8 @@ in_table deck w s None r = []
 in_table deck w s (Some n) r = list_of (table_behind deck w s n) r
 
 -- A manager m keeps this list of a resource. Once it has changed to star mode that is the list of its elements, in the
--- order in which they stand, which in every run is that of their ranks (`ManagersKeepWell`). Before that it is the list of
--- its table, once it has processed what it hasn't seen.
+-- order in which they stand, which in every run is that of their ranks (`ManagersKeepWell`). Before that it is the list
+-- of its table, once it has processed what it hasn't seen.
 abbrev pub managed_list : Deck → World → SysId → NodeState → Option StarPart → Res → List Elem
 managed_list deck w m n None r = in_table deck w m (Some n) r
 managed_list deck w m n (Some p) r = list_of (plain (items_of (managed_of p.manager r))) r
@@ -68,13 +68,14 @@ KeptArePlaces deck es =
     (s : SysId) (r : Res) → is_live (run deck es) s ≡ true → is_systems r ≡ true
     → kept deck (run deck es) s r ≡ places deck es r
 
--- A system's part in star mode is well kept where the manager in it is the system's own, ranks rise along the list of each
--- resource, and each owner that is still to be told owns and is of another system.
+-- A system's part in star mode is well kept where the manager in it is the system's own, ranks rise along the list of
+-- each resource, and each owner that is still to be told owns and is of another system.
 pub record IsKeptBy (s : ℕ) (p : StarPart) : Type 0 where
   pub home : p.manager.system.0 ≡ s
   pub well : AreWellKept p.manager
 
--- After these events each system in star mode keeps well what it manages. So the list of a resource that a manager keeps
--- is that of its elements by rank.
+-- After these events each system in star mode keeps well what it manages. So the list of a resource that a manager
+-- keeps is that of its elements by rank.
 abbrev pub ManagersKeepWell : Deck → List Event → Type 0
-ManagersKeepWell deck es = (s : ℕ) (n : NodeState) (p : StarPart) → slice_get (run deck es).nodes s ≡ Some n → n.star ≡ Some p → IsKeptBy s p
+ManagersKeepWell deck es =
+    (s : ℕ) (n : NodeState) (p : StarPart) → slice_get (run deck es).nodes s ≡ Some n → n.star ≡ Some p → IsKeptBy s p

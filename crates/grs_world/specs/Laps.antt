@@ -1,6 +1,7 @@
 -- A request comes back last. It goes with the message from system to system, and its asker is answered when the
 -- message has come back to the system that put it in: by then no other system has still to process it.
-use Rattle.std.specs.Prelude.{◌≡◌, ◌≢◌, ℕ, Bool, true, false, drop, length, List, [], ◌∷◌, ◌++◌, Option, Some, None, slice_get}
+use Rattle.std.specs.Prelude.{◌≡◌, ◌≢◌, ℕ, Bool, true, false, drop, length, List, [], ◌∷◌, ◌++◌, Option, Some, None}
+use Rattle.std.specs.Prelude.{slice_get}
 use Rattle.std.specs.List.{list_any}
 use Rattle.grs_base.specs.Same.{same_task}
 use Rattle.grs_base.specs.declared.resource.SysId.{SysId}
@@ -62,7 +63,8 @@ given deck w e = given_at deck w e (slice_get w.nodes e.system.0)
 -- has processed it before.
 abbrev pub ProcessedLast : Deck → List Event → Event → Type 0
 ProcessedLast deck es e =
-    (before behind : List RingEntry) (entry : RingEntry) (q : Req) → given deck (run deck es) e ≡ before ++ entry ∷ behind
+    (before behind : List RingEntry) (entry : RingEntry) (q : Req)
+    → given deck (run deck es) e ≡ before ++ entry ∷ behind
     → entry.body ≡ Request q → entry.from ≡ e.system → OnlyLeft e.system entry
 
 -- A line answers a task where it tells it a code or a display.
@@ -82,8 +84,9 @@ LeftHome t es =
     → entry.body ≡ Request q → q.task ≡ t → OnlyLeft t.system entry
 
 -- Where the next event tells a task an answer, no other system has still to process a request of that task which
--- stands in the message, neither before that event nor behind it. So of a request that went into the message every other
--- system has processed it before its answer is told; and no request is answered by the very event that puts it in.
+-- stands in the message, neither before that event nor behind it. So of a request that went into the message every
+-- other system has processed it before its answer is told; and no request is answered by the very event that puts it
+-- in.
 abbrev pub AnsweredLast : Deck → List Event → Event → Type 0
 AnsweredLast deck es e =
     (t : TaskId) → list_any (λ x. answers t x.line) (told_next deck es e) ≡ true

@@ -1,6 +1,7 @@
--- What the removal of a system comes to in a run: when each answer of it comes, what stands in the history, which owners and
--- waiters stay, and where the message goes.
-use Rattle.std.specs.Prelude.{◌≡◌, ◌≢◌, ◌↔◌, ℕ, true, false, cond, List, [], ◌∷◌, ◌++◌, filter, Contains, Option, Some, None, slice_get}
+-- What the removal of a system comes to in a run: when each answer of it comes, what stands in the history, which
+-- owners and waiters stay, and where the message goes.
+use Rattle.std.specs.Prelude.{◌≡◌, ◌≢◌, ◌↔◌, ℕ, true, false, cond, List, [], ◌∷◌, ◌++◌, filter, Contains, Option, Some}
+use Rattle.std.specs.Prelude.{None, slice_get}
 use Rattle.std.specs.List.{list_any}
 use Rattle.grs_base.specs.Lists.{owns}
 use Rattle.grs_base.specs.State.{is_systems, is_of_other}
@@ -78,41 +79,54 @@ pub record AnswersHaveCauses (deck : Deck) (es : List Event) (e : Event) : Type 
   pub removed : reply_of deck (run deck es) e ≢ Some replies.Removed
   pub idle : is_live (run deck es) e.system ≡ false → happens deck (run deck es) e ≡ counted (run deck es)
   -- a system is told which were removed exactly where it doesn't know it
-  pub stale : (set : ℕ) → (reply_of deck (run deck es) e ≡ Some (replies.Stale set)) ↔ (CallsUnknowing deck (run deck es) e × (set ≡ (run deck es).medium.removed))
+  pub stale : (set : ℕ) → (reply_of deck (run deck es) e ≡ Some (replies.Stale set))
+      ↔ (CallsUnknowing deck (run deck es) e × (set ≡ (run deck es).medium.removed))
   -- there is no such system exactly where it was removed before, in ring mode
   pub no_such : (target : SysId) → e.choice ≡ Purge target
-      → (reply_of deck (run deck es) e ≡ Some replies.NoSuch) ↔ (CallsKnowing deck (run deck es) e × ((run deck es).medium.star ≡ false) × (list_any (removes target) (hist deck es) ≡ true))
+      → (reply_of deck (run deck es) e ≡ Some replies.NoSuch)
+      ↔ (CallsKnowing deck (run deck es) e × ((run deck es).medium.star ≡ false)
+      × (list_any (removes target) (hist deck es) ≡ true))
   -- nobody is removed exactly in star mode
   pub in_star : (target : SysId) → e.choice ≡ Purge target
-      → (reply_of deck (run deck es) e ≡ Some replies.InStar) ↔ (CallsKnowing deck (run deck es) e × ((run deck es).medium.star ≡ true))
+      → (reply_of deck (run deck es) e ≡ Some replies.InStar)
+      ↔ (CallsKnowing deck (run deck es) e × ((run deck es).medium.star ≡ true))
 
 -- ---- the history
 
 -- A removal is one entry of the history, at the event that makes it: the entries before it stay as they are.
 abbrev pub RemovalsAreEntries : Deck → List Event → Event → Type 0
-RemovalsAreEntries deck es e = (target : SysId) → IsAnswered deck es e target replies.Purged → hist deck (es ++ e ∷ []) ≡ hist deck es ++ Remove e.system target ∷ []
+RemovalsAreEntries deck es e =
+    (target : SysId) → IsAnswered deck es e target replies.Purged
+    → hist deck (es ++ e ∷ []) ≡ hist deck es ++ Remove e.system target ∷ []
 
 -- No entry of a task of the system stands behind it.
 abbrev pub NoneFollows : Deck → List Event → Type 0
-NoneFollows deck es = (before behind : List HistEntry) (by target : SysId) (t : TaskId) → hist deck es ≡ before ++ Remove by target ∷ behind
+NoneFollows deck es =
+    (before behind : List HistEntry) (by target : SysId) (t : TaskId)
+    → hist deck es ≡ before ++ Remove by target ∷ behind
     → t.system.0 ≡ target.0 → entries_of t behind ≡ []
 
 -- ---- owners and waiters
 
--- By a removal the elements of that system's tasks leave each list of the whole complex; the others stay, in their order,
--- and so do the lists of single systems. Who owns and isn't of that system still owns.
+-- By a removal the elements of that system's tasks leave each list of the whole complex; the others stay, in their
+-- order, and so do the lists of single systems. Who owns and isn't of that system still owns.
 pub record OthersStay (deck : Deck) (es : List Event) (e : Event) (target : SysId) : Type 0 where
-  pub lists : (r : Res) → places deck (es ++ e ∷ []) r ≡ cond (is_systems r) (filter (is_of_other target.0) (places deck es r)) (places deck es r)
-  pub owners : (r : Res) (t : TaskId) → t.system.0 ≢ target.0 → owns (places deck es r) t ≡ true → owns (places deck (es ++ e ∷ []) r) t ≡ true
+  pub lists : (r : Res)
+      → places deck (es ++ e ∷ []) r
+      ≡ cond (is_systems r) (filter (is_of_other target.0) (places deck es r)) (places deck es r)
+  pub owners : (r : Res) (t : TaskId) → t.system.0 ≢ target.0 → owns (places deck es r) t ≡ true
+      → owns (places deck (es ++ e ∷ []) r) t ≡ true
 
 abbrev pub RemovalsKeepOthers : Deck → List Event → Event → Type 0
-RemovalsKeepOthers deck es e = (target : SysId) → IsAnswered deck es e target replies.Purged → OthersStay deck es e target
+RemovalsKeepOthers deck es e =
+    (target : SysId) → IsAnswered deck es e target replies.Purged → OthersStay deck es e target
 
 -- ---- the message
 
--- Behind these events the message waits for no removed system: no entry has still to go to one, and in ring mode, where some
--- system is live, the message stands at a live one.
+-- Behind these events the message waits for no removed system: no entry has still to go to one, and in ring mode, where
+-- some system is live, the message stands at a live one.
 pub record MessageGoesOn (deck : Deck) (es : List Event) : Type 0 where
-  pub masks : (x : RingEntry) (s : SysId) → Contains (run deck es).medium.message.entries x → has x.mask s.0 ≡ true → is_live (run deck es) s ≡ true
+  pub masks : (x : RingEntry) (s : SysId) → Contains (run deck es).medium.message.entries x → has x.mask s.0 ≡ true
+      → is_live (run deck es) s ≡ true
   pub holder : (s : SysId) → (run deck es).medium.star ≡ false → is_live (run deck es) s ≡ true
       → (h : SysId) × ((run deck es).medium.message.holder ≡ Some h) × (is_live (run deck es) h ≡ true)

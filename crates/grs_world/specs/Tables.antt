@@ -1,6 +1,7 @@
 -- Each system's table of the Systems resources is that of a front of the history. The front is counted by what was
 -- fixed, since one entry of the message is one request or one removal, whatever lines of the history it makes.
-use Rattle.std.specs.Prelude.{◌≡◌, ℕ, Bool, true, ◌-◌, ◌==◌, cond, List, [], ◌∷◌, Some, slice_get, unwrap_or, ◌&&◌, is_none}
+use Rattle.std.specs.Prelude.{◌≡◌, ℕ, Bool, true, ◌-◌, ◌==◌, cond, List, [], ◌∷◌, Some, slice_get, unwrap_or, ◌&&◌}
+use Rattle.std.specs.Prelude.{is_none}
 use Rattle.grs_base.specs.declared.resource.SysId.{SysId}
 use Rattle.grs_known.specs.Parts.{systems_part}
 use Rattle.grs_known.specs.Items.{goes_round}

@@ -1,5 +1,6 @@
 -- What is spelled so is read as a task line.
-use Rattle.std.proofs.Common.{◌≡◌, inl, inr, ℕ, suc, ◌+◌, Bool, true, false, eqb, List, [], ◌∷◌, ◌++◌, length, Some, refl, arith, lit≤}
+use Rattle.std.proofs.Common.{◌≡◌, inl, inr, ℕ, suc, ◌+◌, Bool, true, false, eqb, List, [], ◌∷◌, ◌++◌, length, Some}
+use Rattle.std.proofs.Common.{refl, arith, lit≤}
 use Rattle.std.specs.List.{flat_map}
 use Rattle.std.proofs.lemmas.Bool.{ne_eqb}
 use Rattle.grs_base.specs.declared.line.Scope.{Scope}
@@ -23,15 +24,20 @@ use Rattle.job_syntax.specs.declared.line_ask.LineAsk.TheVariants as asks
 use Rattle.job_syntax.specs.declared.line_ask.LineWord.{LineWord}
 use Rattle.job_syntax.specs.declared.line_ask.LineWord.TheVariants as words
 use Rattle.job_syntax.specs.Options.{no_opts, ret_of, rnl_of, chosen, option_at, options_at}
-use Rattle.job_syntax.specs.Ask.{ctl_at, scope_at, names_at, place_at, controlled_at, uncontrolled_at, enq_at, reserve_at, deq_at, wait_at}
+use Rattle.job_syntax.specs.Ask.{ctl_at, scope_at, names_at, place_at, controlled_at, uncontrolled_at, enq_at}
+use Rattle.job_syntax.specs.Ask.{reserve_at, deq_at, wait_at}
 use Rattle.job_syntax.specs.Display.{no_names, reach_of, want_of, want_at, scan_at, resource_at, shown_at, display_at}
 use Rattle.job_syntax.specs.LineAsk.{line_word, line_ask_at}
 use Rattle.grs_base.specs.Printed.{ctl_word}
-use Rattle.job_syntax.specs.Spelled.{scope_word, reach_word, Opt, WithRet, WithRnl, WithUcb, option, IsFree, set, IsResAsk, WantedName, WithQname, WithRname, want, IsFreeWant, set_want, IsScan, IsShown, IsBehind, line_word_for, IsWord}
+use Rattle.job_syntax.specs.Spelled.{scope_word, reach_word, Opt, WithRet, WithRnl, WithUcb, option, IsFree, set}
+use Rattle.job_syntax.specs.Spelled.{IsResAsk, WantedName, WithQname, WithRname, want, IsFreeWant, set_want, IsScan}
+use Rattle.job_syntax.specs.Spelled.{IsShown, IsBehind, line_word_for, IsWord}
 
-names_again : (q r : Token) (qname rname : List ℕ) (rest : List Token) → Names q qname → Names r rname → names_at (Open ∷ q ∷ Comma ∷ r ∷ Comma ∷ rest) ≡ Some (qname, rname, rest)
+names_again : (q r : Token) (qname rname : List ℕ) (rest : List Token) → Names q qname → Names r rname
+    → names_at (Open ∷ q ∷ Comma ∷ r ∷ Comma ∷ rest) ≡ Some (qname, rname, rest)
 unfolding names_at
-names_again q r qname rname rest hq hr = rw (name_again q qname (Comma ∷ r ∷ Comma ∷ rest) hq, name_again r rname (Comma ∷ rest) hr) refl
+names_again q r qname rname rest hq hr =
+    rw (name_again q qname (Comma ∷ r ∷ Comma ∷ rest) hq, name_again r rname (Comma ∷ rest) hr) refl
 
 ctl_again : (c : Ctl) (rest : List Token) → ctl_at (Word (ctl_word c) ∷ rest) ≡ Some (c, rest)
 unfolding ctl_at
@@ -46,7 +52,8 @@ scope_again scopes.Systems rest = refl
 
 -- ---- options
 
-option_again : (x : Opt) (o : Opts) (rest : List Token) → IsFree x o → option_at o (option x ++ rest) ≡ Some (set x o, rest)
+option_again : (x : Opt) (o : Opts) (rest : List Token) → IsFree x o
+    → option_at o (option x ++ rest) ≡ Some (set x o, rest)
 unfolding option_at chosen ret_of rnl_of
 option_again (WithRet RetNone) o rest h = rw h refl
 option_again (WithRet RetUse) o rest h = rw h refl
@@ -78,31 +85,43 @@ fewer (WithRet r) o h = rw h (omega arith)
 fewer (WithRnl b) o h = rw h (omega arith)
 fewer (WithUcb w unit) o h = rw h.0 (omega arith)
 
-options_again : (given : List Opt) (o : Opts) → Sets IsFree set no_opts given o → options_at (flat_map option given) ≡ Some o
+options_again : (given : List Opt) (o : Opts) → Sets IsFree set no_opts given o
+    → options_at (flat_map option given) ≡ Some o
 unfolding options_at free_kinds
-options_again given o h = all_again IsFree set option option_at free_kinds long option_again fewer 3 given no_opts o (lit≤ tt) h
+options_again given o h =
+    all_again IsFree set option option_at free_kinds long option_again fewer 3 given no_opts o (lit≤ tt) h
 
 -- ---- ENQ, DEQ and WAIT
 
-place_again : (s : Scope) (given : List Opt) (o : Opts) → Sets IsFree set no_opts given o → place_at (Word (scope_word s) ∷ Close ∷ flat_map option given) ≡ Some (s, o)
+place_again : (s : Scope) (given : List Opt) (o : Opts) → Sets IsFree set no_opts given o
+    → place_at (Word (scope_word s) ∷ Close ∷ flat_map option given) ≡ Some (s, o)
 unfolding place_at
 place_again s given o h = rw (scope_again s (Close ∷ flat_map option given), options_again given o h) refl
 
-controlled_again : (ts : List Token) (e : EnqAsk) → IsResAsk (Word (ctl_word e.ctl) ∷ Comma ∷ []) ts e.ask → controlled_at ts ≡ Some e
+controlled_again : (ts : List Token) (e : EnqAsk) → IsResAsk (Word (ctl_word e.ctl) ∷ Comma ∷ []) ts e.ask
+    → controlled_at ts ≡ Some e
 unfolding controlled_at
 controlled_again ts e h =
     let place = Word (scope_word e.ask.scope) ∷ Close ∷ flat_map option h.given in
-    rw (h.spelled, names_again h.q h.r e.ask.q e.ask.r (Word (ctl_word e.ctl) ∷ Comma ∷ place) h.named_q h.named_r, ctl_again e.ctl (Comma ∷ place), place_again e.ask.scope h.given e.ask.opts h.options) refl
+    rw (
+      h.spelled,
+      names_again h.q h.r e.ask.q e.ask.r (Word (ctl_word e.ctl) ∷ Comma ∷ place) h.named_q h.named_r,
+      ctl_again e.ctl (Comma ∷ place),
+      place_again e.ask.scope h.given e.ask.opts h.options,
+    )
+    refl
 
 uncontrolled_again : (ts : List Token) (a : ResAsk) → IsResAsk [] ts a → uncontrolled_at ts ≡ Some a
 unfolding uncontrolled_at
 uncontrolled_again ts a h =
     let place = Word (scope_word a.scope) ∷ Close ∷ flat_map option h.given in
-    rw (h.spelled, names_again h.q h.r a.q a.r place h.named_q h.named_r, place_again a.scope h.given a.opts h.options) refl
+    rw (h.spelled, names_again h.q h.r a.q a.r place h.named_q h.named_r, place_again a.scope h.given a.opts h.options)
+    refl
 
 -- ---- GQSCAN and DISPLAY
 
-want_again : (x : WantedName) (o : Wanted) (rest : List Token) → IsFreeWant x o → want_at o (want x ++ rest) ≡ Some (set_want x o, rest)
+want_again : (x : WantedName) (o : Wanted) (rest : List Token) → IsFreeWant x o
+    → want_at o (want x ++ rest) ≡ Some (set_want x o, rest)
 unfolding want_at want_of
 want_again (WithQname t q) o rest h = rw (name_again t q rest h.1, h.0) refl
 want_again (WithRname t r) o rest h = rw (name_again t r rest h.1, h.0) refl
@@ -119,9 +138,12 @@ unfolding free_wants
 fewer_wants (WithQname t q) o h = rw h.0 (omega arith)
 fewer_wants (WithRname t r) o h = rw h.0 (omega arith)
 
-wants_again : (given : List WantedName) (o : Wanted) → Sets IsFreeWant set_want no_names given o → up_to 2 want_at no_names (flat_map want given) ≡ Some o
+wants_again : (given : List WantedName) (o : Wanted) → Sets IsFreeWant set_want no_names given o
+    → up_to 2 want_at no_names (flat_map want given) ≡ Some o
 unfolding free_wants
-wants_again given o h = all_again IsFreeWant set_want want want_at free_wants long_want want_again fewer_wants 2 given no_names o (lit≤ tt) h
+wants_again given o h =
+    all_again IsFreeWant set_want want want_at free_wants long_want want_again fewer_wants 2 given no_names o (lit≤ tt)
+    h
 
 reach_again : (b : Bool) → reach_of (reach_word b) ≡ Some b
 unfolding reach_of
@@ -135,7 +157,8 @@ scan_again ts s h = rw (h.spelled, reach_again s.global, wants_again h.given s.n
 display_again : (ts : List Token) (s : Shown) → IsShown ts s → display_at ts ≡ Some s
 unfolding display_at shown_at resource_at
 display_again ts shown.Contended h = rw h refl
-display_again ts (shown.Resource q r) h = rw (h.spelled, name_again h.q q (Comma ∷ h.r ∷ Close ∷ []) h.named_q, name_again h.r r (Close ∷ []) h.named_r) refl
+display_again ts (shown.Resource q r) h =
+    rw (h.spelled, name_again h.q q (Comma ∷ h.r ∷ Close ∷ []) h.named_q, name_again h.r r (Close ∷ []) h.named_r) refl
 
 -- ---- task lines
 

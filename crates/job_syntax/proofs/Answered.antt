@@ -10,7 +10,8 @@ use Rattle.job_syntax.specs.Spelled.{line_word_for, Answers}
 use Rattle.job_syntax.proofs.Taken.{line_ask_taken}
 use Rattle.job_syntax.proofs.Again.{line_ask_again}
 
-pub behind_answers : (r : Result LineAsk Miss) (v : LineWord) (ts : List Token) → Reads (λ (x : LineAsk). x) r (line_ask_at v ts) → Answers r v ts
+pub behind_answers : (r : Result LineAsk Miss) (v : LineWord) (ts : List Token)
+    → Reads (λ (x : LineAsk). x) r (line_ask_at v ts) → Answers r v ts
 behind_answers (Ok s) v ts h = let b = line_ask_taken v ts s h in (b.of, b.behind)
 behind_answers (Err e) v ts h = λ s of spelled. none s of (line_ask_again ts s spelled)
   where

@@ -6,11 +6,13 @@ use Rattle.grs_base.specs.declared.fault.Kind.{Kind}
 use Rattle.grs_base.specs.declared.fault.Kind.TheVariants.{UnknownStatement, BadOperand, NameLength}
 use Rattle.grs_base.specs.declared.line.Line.{Line}
 use Rattle.deck_scan.specs.Bytes.{is_word, is_hex, digit, is_allowed, bad_line}
-use Rattle.deck_scan.specs.Scan.{put, put_word, put_open, end_line, break_off, begin_word, begin, step_in, step, scan_from, finish_in, lines_of}
+use Rattle.deck_scan.specs.Scan.{put, put_word, put_open, end_line, break_off, begin_word, begin, step_in, step}
+use Rattle.deck_scan.specs.Scan.{scan_from, finish_in, lines_of}
 use Rattle.deck_scan.specs.AnyBytes.{readable}
 use Rattle.job_syntax.specs.Unit.{unit_of}
 use Rattle.job_syntax.specs.Options.{ret_of, rnl_of, chosen, option_at, options_at}
-use Rattle.job_syntax.specs.Ask.{ctl_at, scope_at, names_at, place_at, controlled_at, uncontrolled_at, enq_at, reserve_at, deq_at, wait_at}
+use Rattle.job_syntax.specs.Ask.{ctl_at, scope_at, names_at, place_at, controlled_at, uncontrolled_at, enq_at}
+use Rattle.job_syntax.specs.Ask.{reserve_at, deq_at, wait_at}
 use Rattle.job_syntax.specs.Display.{reach_of, want_of, want_at, scan_at, resource_at, shown_at, display_at}
 use Rattle.job_syntax.specs.LineAsk.{line_word, line_ask_at}
 use Rattle.job_syntax.specs.Printed.{printed_line}
@@ -31,7 +33,8 @@ Prints text line = (printed_of (reading text) ≡ line) × (reading line ≡ rea
 abbrev fault_at : ℕ → Kind → Result Line DeckFault
 fault_at n k = Err (record { line = n; kind = k })
 
--- options in another order; options that say what holds without them; ECB; a unit; a DEQ; names in other forms; DISPLAY; GQSCAN
+-- options in another order; options that say what holds without them; ECB; a unit; a DEQ; names in other forms;
+-- DISPLAY; GQSCAN
 printed_lines :
     Prints (codes "ENQ ( A , B,E,SYSTEM ),RNL=NO,RET=USE") (codes "ENQ (A,B,E,SYSTEM),RET=USE,RNL=NO")
     × Prints (codes "ENQ (A,B,E,SYSTEM),RET=NONE,RNL=YES") (codes "ENQ (A,B,E,SYSTEM)")
@@ -43,10 +46,25 @@ printed_lines :
     × Prints (codes "D GRS,RES=(A,'b c')") (codes "DISPLAY GRS,RES=(A,'b c')")
     × Prints (codes "GQSCAN SCOPE=GLOBAL,RNAME=B,QNAME=A") (codes "GQSCAN SCOPE=GLOBAL,QNAME=A,RNAME=B")
     × Prints (codes "GQSCAN SCOPE=LOCAL") (codes "GQSCAN SCOPE=LOCAL")
-unfolding is_word is_hex digit is_allowed bad_line put put_word put_open end_line break_off begin_word begin step_in step scan_from finish_in lines_of readable unit_of ret_of rnl_of chosen option_at options_at ctl_at scope_at names_at place_at controlled_at uncontrolled_at enq_at reserve_at deq_at wait_at reach_of want_of want_at scan_at resource_at shown_at display_at line_word line_ask_at line_ask_on one_line
-printed_lines = ((refl, refl), (refl, refl), (refl, refl), (refl, refl), (refl, refl), (refl, refl), (refl, refl), (refl, refl), (refl, refl), (refl, refl))
+unfolding is_word is_hex digit is_allowed bad_line put put_word put_open end_line break_off begin_word begin step_in
+    step scan_from finish_in lines_of readable unit_of ret_of rnl_of chosen option_at options_at ctl_at scope_at
+    names_at place_at controlled_at uncontrolled_at enq_at reserve_at deq_at wait_at reach_of want_of want_at scan_at
+    resource_at shown_at display_at line_word line_ask_at line_ask_on one_line
+printed_lines = (
+  (refl, refl),
+  (refl, refl),
+  (refl, refl),
+  (refl, refl),
+  (refl, refl),
+  (refl, refl),
+  (refl, refl),
+  (refl, refl),
+  (refl, refl),
+  (refl, refl),
+)
 
--- nothing; a comment alone; no word; a word of other statements; a further statement; an error on the third line; a long name; an empty one
+-- nothing; a comment alone; no word; a word of other statements; a further statement; an error on the third line; a
+-- long name; an empty one
 faults :
     (reading [] ≡ fault_at 1 UnknownStatement)
     × (reading (codes "/* x */") ≡ fault_at 1 UnknownStatement)
@@ -56,10 +74,14 @@ faults :
     × (reading (10 ∷ 10 ∷ codes "ENQ (A,B,X,SYSTEM)") ≡ fault_at 3 BadOperand)
     × (reading (codes "DEQ (ABCDEFGHI,B,SYSTEM)") ≡ fault_at 1 NameLength)
     × (reading (codes "GQSCAN SCOPE=LOCAL,QNAME=''") ≡ fault_at 1 NameLength)
-unfolding is_word is_hex digit is_allowed bad_line put put_word put_open end_line break_off begin_word begin step_in step scan_from finish_in lines_of readable unit_of ret_of rnl_of chosen option_at options_at ctl_at scope_at names_at place_at controlled_at uncontrolled_at enq_at reserve_at deq_at wait_at reach_of want_of want_at scan_at resource_at shown_at display_at line_word line_ask_at line_ask_on one_line
+unfolding is_word is_hex digit is_allowed bad_line put put_word put_open end_line break_off begin_word begin step_in
+    step scan_from finish_in lines_of readable unit_of ret_of rnl_of chosen option_at options_at ctl_at scope_at
+    names_at place_at controlled_at uncontrolled_at enq_at reserve_at deq_at wait_at reach_of want_of want_at scan_at
+    resource_at shown_at display_at line_word line_ask_at line_ask_on one_line
 faults = (refl, refl, refl, refl, refl, refl, refl, refl)
 
--- bytes that no deck may have: a tab in the first word; before it; behind it; in a name between quotes; in a comment before the first word; in one behind it; behind a name that is too long; on a further line; CR alone
+-- bytes that no deck may have: a tab in the first word; before it; behind it; in a name between quotes; in a comment
+-- before the first word; in one behind it; behind a name that is too long; on a further line; CR alone
 bad_bytes :
     (reading (codes "EN" ++ 9 ∷ codes "Q (A,B,E,SYSTEM)") ≡ fault_at 1 UnknownStatement)
     × (reading (9 ∷ codes "ENQ (A,B,E,SYSTEM)") ≡ fault_at 1 UnknownStatement)
@@ -71,5 +93,8 @@ bad_bytes :
     × (reading (codes "ENQ (A,B,E,SYSTEM)" ++ 10 ∷ 9 ∷ []) ≡ fault_at 2 BadOperand)
     × (reading (codes "ENQ (A,B,E,SYSTEM)" ++ 13 ∷ []) ≡ fault_at 1 BadOperand)
     × (printed_of (reading (codes "ENQ (A,B,E,SYSTEM)" ++ 13 ∷ 10 ∷ [])) ≡ codes "ENQ (A,B,E,SYSTEM)")
-unfolding is_word is_hex digit is_allowed bad_line put put_word put_open end_line break_off begin_word begin step_in step scan_from finish_in lines_of readable unit_of ret_of rnl_of chosen option_at options_at ctl_at scope_at names_at place_at controlled_at uncontrolled_at enq_at reserve_at deq_at wait_at reach_of want_of want_at scan_at resource_at shown_at display_at line_word line_ask_at line_ask_on one_line
+unfolding is_word is_hex digit is_allowed bad_line put put_word put_open end_line break_off begin_word begin step_in
+    step scan_from finish_in lines_of readable unit_of ret_of rnl_of chosen option_at options_at ctl_at scope_at
+    names_at place_at controlled_at uncontrolled_at enq_at reserve_at deq_at wait_at reach_of want_of want_at scan_at
+    resource_at shown_at display_at line_word line_ask_at line_ask_on one_line
 bad_bytes = (refl, refl, refl, refl, refl, refl, refl, refl, refl, refl)

@@ -1,5 +1,6 @@
 -- ENQ, RESERVE, DEQ and WAIT.
-use Rattle.std.specs.Prelude.{ℕ, Bool, true, false, ◌&&◌, List, codes, Option, Some, None, is_none, is_some, if◌then◌else◌}
+use Rattle.std.specs.Prelude.{ℕ, Bool, true, false, ◌&&◌, List, codes, Option, Some, None, is_none, is_some}
+use Rattle.std.specs.Prelude.{if◌then◌else◌}
 use Rattle.std.specs.Str.{bytes_eq}
 use Rattle.grs_base.specs.declared.line.Scope.{Scope}
 use Rattle.grs_base.specs.declared.line.Scope.TheVariants as scopes

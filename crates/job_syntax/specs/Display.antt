@@ -6,7 +6,8 @@ use Rattle.job_syntax.specs.declared.display.Wanted.{Wanted}
 use Rattle.job_syntax.specs.declared.display.ScanAsk.{ScanAsk}
 use Rattle.job_syntax.specs.declared.display.Shown.{Shown}
 use Rattle.job_syntax.specs.declared.display.Shown.TheVariants as shown
-use Rattle.deck_scan.specs.Next.{◌>>=◌, open_at, close_at, comma_at, equals_at, end_at, any_word_at, word_at, value_at, name_at, up_to, once}
+use Rattle.deck_scan.specs.Next.{◌>>=◌, open_at, close_at, comma_at, equals_at, end_at, any_word_at, word_at, value_at}
+use Rattle.deck_scan.specs.Next.{name_at, up_to, once}
 
 abbrev pub no_names : Wanted
 no_names = record { q = None; r = None }

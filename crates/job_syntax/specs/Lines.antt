@@ -1,5 +1,6 @@
 -- The line that a task line makes, where its names have the right lengths.
-use Rattle.std.specs.Prelude.{ℕ, Bool, true, false, not, ◌&&◌, ◌||◌, List, [], ◌∷◌, Option, Some, None, is_none, unwrap_or, if◌then◌else◌}
+use Rattle.std.specs.Prelude.{ℕ, Bool, true, false, not, ◌&&◌, ◌||◌, List, [], ◌∷◌, Option, Some, None, is_none}
+use Rattle.std.specs.Prelude.{unwrap_or, if◌then◌else◌}
 use Rattle.grs_base.specs.Names.{trim_blanks, is_qname, is_rname}
 use Rattle.grs_base.specs.declared.resource.Ret.{Ret}
 use Rattle.grs_base.specs.declared.resource.Ret.TheVariants.{RetNone, RetHave}
@@ -51,10 +52,14 @@ abbrev pub filter_of : Wanted → Filter
 filter_of n = if is_none n.q && is_none n.r then filters.All else filters.Named (trimmed n.q) n.r
 
 abbrev pub enq_line : EnqAsk → Line
-enq_line e = lines.Enq (record { q = trim_blanks e.ask.q; r = e.ask.r; ctl = e.ctl; scope = e.ask.scope } ∷ []) (ret_or_none e.ask.opts.ret) (rnl_or_yes e.ask.opts.rnl)
+enq_line e =
+    lines.Enq (record { q = trim_blanks e.ask.q; r = e.ask.r; ctl = e.ctl; scope = e.ask.scope } ∷ [])
+    (ret_or_none e.ask.opts.ret) (rnl_or_yes e.ask.opts.rnl)
 
 abbrev pub reserve_line : EnqAsk → Line
-reserve_line e = lines.Reserve (trim_blanks e.ask.q) e.ask.r e.ctl (unwrap_or e.ask.opts.unit 0) (ret_or_none e.ask.opts.ret) (rnl_or_yes e.ask.opts.rnl)
+reserve_line e =
+    lines.Reserve (trim_blanks e.ask.q) e.ask.r e.ctl (unwrap_or e.ask.opts.unit 0) (ret_or_none e.ask.opts.ret)
+    (rnl_or_yes e.ask.opts.rnl)
 
 abbrev pub deq_line : ResAsk → Line
 deq_line a = lines.Deq (trim_blanks a.q) a.r a.scope (is_have a.opts.ret) a.opts.unit (rnl_or_yes a.opts.rnl)

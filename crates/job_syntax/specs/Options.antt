@@ -41,7 +41,8 @@ chosen o w ts =
     if bytes_eq w (codes "ECB") then (with_ret o RetEcb >>= λ p. Some (p, ts))
     else if bytes_eq w (codes "RET") then (value_at ts >>= λ v. ret_of v.0 >>= λ x. with_ret o x >>= λ p. Some (p, v.1))
     else if bytes_eq w (codes "RNL") then (value_at ts >>= λ v. rnl_of v.0 >>= λ x. with_rnl o x >>= λ p. Some (p, v.1))
-    else if bytes_eq w (codes "UCB") then (value_at ts >>= λ v. unit_of v.0 >>= λ x. with_unit o x >>= λ p. Some (p, v.1))
+    else if bytes_eq w (codes "UCB")
+    then (value_at ts >>= λ v. unit_of v.0 >>= λ x. with_unit o x >>= λ p. Some (p, v.1))
     else None
 
 unfoldable pub option_at : Opts → List Token → Option (Opts × List Token)

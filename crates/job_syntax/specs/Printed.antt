@@ -38,7 +38,8 @@ maybe_unit None = []
 maybe_unit (Some n) = codes ",UCB=" ++ unit_digits n
 
 abbrev pub printed_item : Item → List ℕ
-printed_item i = codes "(" ++ printed_names i.q i.r ++ codes "," ++ ctl_word i.ctl ++ codes "," ++ scope_word i.scope ++ codes ")"
+printed_item i =
+    codes "(" ++ printed_names i.q i.r ++ codes "," ++ ctl_word i.ctl ++ codes "," ++ scope_word i.scope ++ codes ")"
 
 abbrev pub printed_q : Option (List ℕ) → List ℕ
 printed_q None = []
@@ -72,8 +73,10 @@ printed_resource q r = codes "DISPLAY GRS,RES=(" ++ printed_names q r ++ codes "
 
 abbrev pub printed_line : Line → List ℕ
 printed_line (lines.Enq items ret rnl) = printed_enq items ret rnl
-printed_line (lines.Reserve q r ctl unit ret rnl) = printed_reserve q r ctl ++ unit_digits unit ++ printed_ret ret ++ printed_rnl rnl
-printed_line (lines.Deq q r scope have unit rnl) = printed_place (codes "DEQ") q r scope ++ maybe_unit unit ++ printed_have have ++ printed_rnl rnl
+printed_line (lines.Reserve q r ctl unit ret rnl) =
+    printed_reserve q r ctl ++ unit_digits unit ++ printed_ret ret ++ printed_rnl rnl
+printed_line (lines.Deq q r scope have unit rnl) =
+    printed_place (codes "DEQ") q r scope ++ maybe_unit unit ++ printed_have have ++ printed_rnl rnl
 printed_line (lines.Wait q r scope rnl) = printed_place (codes "WAIT") q r scope ++ printed_rnl rnl
 printed_line (lines.Gqscan global filter) = printed_gqscan global filter
 printed_line lines.DisplayC = codes "DISPLAY GRS,C"

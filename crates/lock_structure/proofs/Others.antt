@@ -1,5 +1,6 @@
 -- Kept comes exactly where the manager has interest and another system has too.
-use Rattle.std.proofs.Common.{◌≡◌, ◌≢◌, ◌<◌, ℕ, zero, suc, Bool, true, false, cond, not, ◌&&◌, ◌||◌, refl, ap, sym, ◌∙◌, arith}
+use Rattle.std.proofs.Common.{◌≡◌, ◌≢◌, ◌<◌, ℕ, zero, suc, Bool, true, false, cond, not, ◌&&◌, ◌||◌, refl, ap, sym, ◌∙◌}
+use Rattle.std.proofs.Common.{arith}
 use Rattle.std.specs.Prelude.{◌==◌, eqb}
 use Rattle.std.specs.Int.{bit_at}
 use Rattle.std.proofs.lemmas.Bool.{eqb-true, eqb-false, and_parts, true≢false}
@@ -23,7 +24,9 @@ same-bit a (suc (suc b)) h k e = absurd (omega arith)
 
 same-members : (m n : ℕ) → m < 256 → n < 256 → ((s : ℕ) → s < 8 → has m s ≡ has n s) → m ≡ n
 unfolding has
-same-members m n h k e = same_from_bits_below 8 m n h k (λ i low. same-bit (bit_at m i) (bit_at n i) (bit_at-lt m i) (bit_at-lt n i) (e i low))
+same-members m n h k e =
+    same_from_bits_below 8 m n h k
+    (λ i low. same-bit (bit_at m i) (bit_at n i) (bit_at-lt m i) (bit_at-lt n i) (e i low))
 
 member-lt : (m s : ℕ) → m < 256 → has m s ≡ true → s < 8
 unfolding has
@@ -38,17 +41,21 @@ member-lt m s h is = go (dec_lt s 8)
 -- ---- each system that isn't in a set passes a test, or one doesn't
 passes : (n m : ℕ) (test : ℕ → Bool) → all_others n m test ≡ true → (s : ℕ) → s < n → (has m s || test s) ≡ true
 passes zero m test all s h = absurd (omega arith)
-passes (suc n) m test all s h = go (ℕ_discrete s n) (λ (less : s < n). passes n m test (and_parts (all_others n m test) (has m n || test n) all).0 s less)
+passes (suc n) m test all s h =
+    go (ℕ_discrete s n)
+    (λ (less : s < n). passes n m test (and_parts (all_others n m test) (has m n || test n) all).0 s less)
   where
     go : Dec (s ≡ n) → (s < n → (has m s || test s) ≡ true) → (has m s || test s) ≡ true
-    go (yes last) before = ap (λ (i : ℕ). has m i || test i) last ∙ (and_parts (all_others n m test) (has m n || test n) all).1
+    go (yes last) before =
+        ap (λ (i : ℕ). has m i || test i) last ∙ (and_parts (all_others n m test) (has m n || test n) all).1
     go (no ne) before = before (omega arith)
 
 fails : (n m : ℕ) (test : ℕ → Bool) → all_others n m test ≡ false → (s : ℕ) × ((has m s || test s) ≡ false)
 fails zero m test some = absurd cc
 fails (suc n) m test some = go (all_others n m test) (fails n m test) some
   where
-    go : (b : Bool) → (b ≡ false → (s : ℕ) × ((has m s || test s) ≡ false)) → (b && (has m n || test n)) ≡ false → (s : ℕ) × ((has m s || test s) ≡ false)
+    go : (b : Bool) → (b ≡ false → (s : ℕ) × ((has m s || test s) ≡ false)) → (b && (has m n || test n)) ≡ false
+        → (s : ℕ) × ((has m s || test s) ≡ false)
     go false before one = before refl
     go true before one = (n, one)
 
@@ -64,7 +71,8 @@ neither-test false false is = absurd cc
 
 other-member : (mask : ℕ) (c : SysId) → has_others mask c ≡ true → (s : ℕ) × ((s ≢ c.0) × (has mask s ≡ true))
 other-member mask c is =
-    let found = fails 8 (only c.0) (λ s. not (has mask s)) (turned (all_others 8 (only c.0) (λ s. not (has mask s))) is) in
+    let found =
+    fails 8 (only c.0) (λ s. not (has mask s)) (turned (all_others 8 (only c.0) (λ s. not (has mask s))) is) in
     let parts = neither-test (has (only c.0) found.0) (has mask found.0) found.1 in
     (found.0, ((λ same. true≢false (sym (ap (has (only c.0)) same ∙ has-with_same 0 c.0) ∙ parts.0)), parts.1))
   where
@@ -82,9 +90,12 @@ alone-or-not mask c small here = go (mask == only c.0) (all_others 8 (only c.0) 
     go true false is all =
         let found = fails 8 (only c.0) (λ s. not (has mask s)) all in
         let parts = neither-test (has (only c.0) found.0) (has mask found.0) found.1 in
-        let same : has mask found.0 ≡ has (only c.0) found.0 = ap (λ (m : ℕ). has m found.0) (eqb-true mask (only c.0) is) in
+        let same : has mask found.0 ≡ has (only c.0) found.0 =
+        ap (λ (m : ℕ). has m found.0) (eqb-true mask (only c.0) is) in
         absurd (true≢false (sym parts.1 ∙ same ∙ parts.0))
-    go false true is all = absurd (eqb-false mask (only c.0) is (same-members mask (only c.0) small (with_also-lt 0 c.0 (omega arith) (member-lt mask c.0 small here)) (λ s low. each s low (ℕ_discrete s c.0))))
+    go false true is all =
+        absurd (eqb-false mask (only c.0) is (same-members mask (only c.0) small
+        (with_also-lt 0 c.0 (omega arith) (member-lt mask c.0 small here)) (λ s low. each s low (ℕ_discrete s c.0))))
       where
         kept-out : (a b : Bool) → a ≡ false → (a || not b) ≡ true → b ≡ false
         kept-out a true none e = absurd (true≢false (sym e ∙ ap (λ (x : Bool). x || false) none))
@@ -92,13 +103,18 @@ alone-or-not mask c small here = go (mask == only c.0) (all_others 8 (only c.0) 
 
         each : (s : ℕ) → s < 8 → Dec (s ≡ c.0) → has mask s ≡ has (only c.0) s
         each s low (yes same) = ap (has mask) same ∙ here ∙ sym (ap (has (only c.0)) same ∙ has-with_same 0 c.0)
-        each s low (no ne) = kept-out (has (only c.0) s) (has mask s) (only-other c.0 s ne) (passes 8 (only c.0) (λ i. not (has mask i)) all s low) ∙ sym (only-other c.0 s ne)
+        each s low (no ne) =
+            kept-out (has (only c.0) s) (has mask s) (only-other c.0 s ne)
+            (passes 8 (only c.0) (λ i. not (has mask i)) all s low)
+            ∙ sym (only-other c.0 s ne)
 
 -- ---- the test of Kept by the systems
-pub kept-where : (w : ℕ) (c : SysId) → is_kept w c ≡ (is_manager (manager w) c && (has (interest w) c.0 && has_others (interest w) c))
+pub kept-where : (w : ℕ) (c : SysId)
+    → is_kept w c ≡ (is_manager (manager w) c && (has (interest w) c.0 && has_others (interest w) c))
 kept-where w c = go (has (interest w) c.0) (is_manager (manager w) c) refl
   where
-    go : (h m : Bool) → has (interest w) c.0 ≡ h → (h && m && not (interest w == only c.0)) ≡ (m && (h && has_others (interest w) c))
+    go : (h m : Bool) → has (interest w) c.0 ≡ h
+        → (h && m && not (interest w == only c.0)) ≡ (m && (h && has_others (interest w) c))
     go false false here = refl
     go false true here = refl
     go true false here = refl
@@ -106,7 +122,9 @@ kept-where w c = go (has (interest w) c.0) (is_manager (manager w) c) refl
 
 kept-other : (w : ℕ) (c : SysId) → is_kept w c ≡ true → (s : ℕ) × ((s ≢ c.0) × (has (interest w) s ≡ true))
 kept-other w c is =
-    let parts = and_parts (is_manager (manager w) c) (has (interest w) c.0 && has_others (interest w) c) (sym (kept-where w c) ∙ is) in
+    let parts =
+    and_parts (is_manager (manager w) c) (has (interest w) c.0 && has_others (interest w) c)
+    (sym (kept-where w c) ∙ is) in
     other-member (interest w) c (and_parts (has (interest w) c.0) (has_others (interest w) c) parts.1).1
 
 pub kept_has_other : KeptHasOther

@@ -3,7 +3,8 @@
 use Rattle.std.proofs.Common.{◌≡◌, ℕ, true, false, List, [], ◌∷◌, Some, None, refl, arith}
 use Rattle.grs_base.specs.declared.resource.SysId.{SysId}
 use Rattle.grs_wire.specs.declared.medium.Reply.TheVariants.{Left, Kept}
-use Rattle.grs_wire.specs.LockWords.{interest, manager, epoch, lock_word, is_manager, submitted, leave_reply, leave_changes, left_word}
+use Rattle.grs_wire.specs.LockWords.{interest, manager, epoch, lock_word, is_manager, submitted, leave_reply}
+use Rattle.grs_wire.specs.LockWords.{leave_changes, left_word}
 use Rattle.grs_wire.specs.Masks.{has, without, with_also}
 use Rattle.lock_structure.specs.declared.word.Route.TheVariants.{Sole, To}
 use Rattle.lock_structure.specs.Words.{route, submitted_words, left_words}

@@ -1,5 +1,6 @@
 -- The lock words of all entries: where a request goes, and the words after a call.
-use Rattle.std.specs.Prelude.{◌≤◌, ℕ, Bool, false, not, cond, ◌==◌, ◌&&◌, ◌||◌, nat_lt, List, slice_index, slice_set, Option, Some, None}
+use Rattle.std.specs.Prelude.{◌≤◌, ℕ, Bool, false, not, cond, ◌==◌, ◌&&◌, ◌||◌, nat_lt, List, slice_index, slice_set}
+use Rattle.std.specs.Prelude.{Option, Some, None}
 use Rattle.grs_base.specs.Limits.{most_systems}
 use Rattle.grs_base.specs.declared.resource.SysId.{SysId}
 use Rattle.grs_wire.specs.LockWords.{interest, manager, manager_number, submitted, left_word}
@@ -37,4 +38,7 @@ manager_fits systems w None = false
 manager_fits systems w (Some s) = nat_lt s.0 systems && has (interest w) s.0
 
 abbrev pub word_fits : ℕ → ℕ → Bool
-word_fits systems w = (w == 0) || (manager_fits systems w (manager w) && all_others most_systems 0 (λ s. not (has (interest w) s) || nat_lt s systems))
+word_fits systems w =
+    (w == 0)
+    || (manager_fits systems w (manager w)
+    && all_others most_systems 0 (λ s. not (has (interest w) s) || nat_lt s systems))

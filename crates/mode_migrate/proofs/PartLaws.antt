@@ -1,5 +1,6 @@
 -- The rows of a table, and each lock entry's part of them with ranks: a manager may load it as it is.
-use Rattle.std.proofs.Common.{◌≡◌, ◌≤◌, ◌<◌, ◌+◌, ◌≢◌, ℕ, zero, suc, Bool, true, false, cond, not, T, ◌&&◌, List, [], ◌∷◌, ◌++◌, length, map, refl, ap, sym, ◌∙◌, subst, arith}
+use Rattle.std.proofs.Common.{◌≡◌, ◌≤◌, ◌<◌, ◌+◌, ◌≢◌, ℕ, zero, suc, Bool, true, false, cond, not, T, ◌&&◌, List, []}
+use Rattle.std.proofs.Common.{◌∷◌, ◌++◌, length, map, refl, ap, sym, ◌∙◌, subst, arith}
 use Rattle.std.specs.Prelude.{filter, nat_le, nat_lt, ◌==◌, Option, Some, None}
 use Rattle.std.specs.List.{list_all, list_any, range_with_len, flat_map}
 use Rattle.std.specs.declared.cmp.Ordering.{Ordering}
@@ -23,7 +24,8 @@ use Rattle.grs_base.specs.declared.resource.Row.{Row}
 use Rattle.grs_base.proofs.OrderLaws.{res_total, same_res-tie}
 use Rattle.lock_structure.specs.Entries.{entry_of_res, is_entry}
 use Rattle.lock_structure.specs.RankedRows.{RankedRow, ranks_of, rises, differ, rows_apart, IsLoadable}
-use Rattle.mode_migrate.specs.Migrate.{row_is_of, rows_in, numbered_from, numbered_in, ranked_by, part_of, part_by, AreApart}
+use Rattle.mode_migrate.specs.Migrate.{row_is_of, rows_in, numbered_from, numbered_in, ranked_by, part_of, part_by}
+use Rattle.mode_migrate.specs.Migrate.{AreApart}
 
 abbrev Lists : Type 0
 Lists = List (Res × List Elem)
@@ -36,11 +38,13 @@ both false b e f = absurd cc
 -- ---- what passes
 
 -- what is left passes where all did, and what was chosen passes the choice
-pub all-filter : {X : Type 0} (p test : X → Bool) (xs : List X) → list_all p xs ≡ true → list_all p (filter test xs) ≡ true
+pub all-filter : {X : Type 0} (p test : X → Bool) (xs : List X) → list_all p xs ≡ true
+    → list_all p (filter test xs) ≡ true
 all-filter p test [] h = refl
 all-filter p test (x ∷ xs) h = go (test x) (all-filter p test xs (and_parts (p x) _ h).1)
   where
-    go : (b : Bool) → list_all p (filter test xs) ≡ true → list_all p (cond b (x ∷ filter test xs) (filter test xs)) ≡ true
+    go : (b : Bool) → list_all p (filter test xs) ≡ true
+        → list_all p (cond b (x ∷ filter test xs) (filter test xs)) ≡ true
     go true rest = both (p x) _ (and_parts (p x) _ h).0 rest
     go false rest = rest
 
@@ -48,55 +52,70 @@ chosen-pass : {X : Type 0} (test : X → Bool) (xs : List X) → list_all test (
 chosen-pass test [] = refl
 chosen-pass test (x ∷ xs) = go (test x) refl (chosen-pass test xs)
   where
-    go : (b : Bool) → test x ≡ b → list_all test (filter test xs) ≡ true → list_all test (cond b (x ∷ filter test xs) (filter test xs)) ≡ true
+    go : (b : Bool) → test x ≡ b → list_all test (filter test xs) ≡ true
+        → list_all test (cond b (x ∷ filter test xs) (filter test xs)) ≡ true
     go true is rest = both (test x) _ is rest
     go false is rest = rest
 
 filter-all : {X : Type 0} (test : X → Bool) (xs : List X) → list_all test xs ≡ true → filter test xs ≡ xs
 filter-all test [] h = refl
 filter-all test (x ∷ xs) h =
-    ap (λ (b : Bool). cond b (x ∷ filter test xs) (filter test xs)) (and_parts (test x) _ h).0 ∙ ap (λ (l : List _). x ∷ l) (filter-all test xs (and_parts (test x) _ h).1)
+    ap (λ (b : Bool). cond b (x ∷ filter test xs) (filter test xs)) (and_parts (test x) _ h).0
+    ∙ ap (λ (l : List _). x ∷ l) (filter-all test xs (and_parts (test x) _ h).1)
 
-filter-none : {X : Type 0} (test other : X → Bool) (xs : List X) → ((x : X) → test x ≡ true → other x ≡ false) → list_all test xs ≡ true → filter other xs ≡ []
+filter-none : {X : Type 0} (test other : X → Bool) (xs : List X) → ((x : X) → test x ≡ true → other x ≡ false)
+    → list_all test xs ≡ true → filter other xs ≡ []
 filter-none test other [] apart h = refl
 filter-none test other (x ∷ xs) apart h =
-    ap (λ (b : Bool). cond b (x ∷ filter other xs) (filter other xs)) (apart x (and_parts (test x) _ h).0) ∙ filter-none test other xs apart (and_parts (test x) _ h).1
+    ap (λ (b : Bool). cond b (x ∷ filter other xs) (filter other xs)) (apart x (and_parts (test x) _ h).0)
+    ∙ filter-none test other xs apart (and_parts (test x) _ h).1
 
 -- numbering changes no row
-all-numbered : (p : Row → Bool) (n : ℕ) (rows : List Row) → list_all p rows ≡ true → list_all (λ x. p x.0) (numbered_from n rows) ≡ true
+all-numbered : (p : Row → Bool) (n : ℕ) (rows : List Row) → list_all p rows ≡ true
+    → list_all (λ x. p x.0) (numbered_from n rows) ≡ true
 all-numbered p n [] h = refl
-all-numbered p n (x ∷ rows) h = both (p x) _ (and_parts (p x) _ h).0 (all-numbered p (n + length x.elems) rows (and_parts (p x) _ h).1)
+all-numbered p n (x ∷ rows) h =
+    both (p x) _ (and_parts (p x) _ h).0 (all-numbered p (n + length x.elems) rows (and_parts (p x) _ h).1)
 
 -- ---- the rows of a table
 
 module _ (R : Res → Res → Ordering) (q : List Elem → Bool) where
-  put-values : (k : Res) (v : List Elem) (es : Lists) → q v ≡ true → list_all (λ e. q e.1) es ≡ true → list_all (λ e. q e.1) (put R k v es) ≡ true
+  put-values : (k : Res) (v : List Elem) (es : Lists) → q v ≡ true → list_all (λ e. q e.1) es ≡ true
+      → list_all (λ e. q e.1) (put R k v es) ≡ true
   put-values k v [] new old = both (q v) true new refl
   put-values k v (e ∷ es) new old = go (R k e.0) (put-values k v es new (and_parts (q e.1) _ old).1)
     where
-      go : (o : Ordering) → list_all (λ x. q x.1) (put R k v es) ≡ true → list_all (λ x. q x.1) (by_order o ((k, v) ∷ e ∷ es) ((e.0, v) ∷ es) (e ∷ put R k v es)) ≡ true
+      go : (o : Ordering) → list_all (λ x. q x.1) (put R k v es) ≡ true
+          → list_all (λ x. q x.1) (by_order o ((k, v) ∷ e ∷ es) ((e.0, v) ∷ es) (e ∷ put R k v es)) ≡ true
       go Less rest = both (q v) _ new old
       go Equal rest = both (q v) _ new (and_parts (q e.1) _ old).1
       go Greater rest = both (q e.1) _ (and_parts (q e.1) _ old).0 rest
 
-all-lists : (q : List Elem → Bool) (s hs : State) → ((r : Res) → q (list_of s r) ≡ true) → list_all (λ e. q e.1) (lists_from s hs) ≡ true
+all-lists : (q : List Elem → Bool) (s hs : State) → ((r : Res) → q (list_of s r) ≡ true)
+    → list_all (λ e. q e.1) (lists_from s hs) ≡ true
 all-lists q s [] h = refl
 all-lists q s (x ∷ hs) h = put-values res_order q x.0 (list_of s x.0) (lists_from s hs) (h x.0) (all-lists q s hs h)
 
-all-mapped : (q : List Elem → Bool) (es : Lists) → list_all (λ e. q e.1) es ≡ true → list_all (λ x. q x.elems) (map row_of es) ≡ true
+all-mapped : (q : List Elem → Bool) (es : Lists) → list_all (λ e. q e.1) es ≡ true
+    → list_all (λ x. q x.elems) (map row_of es) ≡ true
 all-mapped q [] h = refl
 all-mapped q (e ∷ es) h = both (q e.1) _ (and_parts (q e.1) _ h).0 (all-mapped q es (and_parts (q e.1) _ h).1)
 
 -- what is so of each list is so of each row
-pub all-rows : (q : List Elem → Bool) (t : State) → ((r : Res) → q (list_of t r) ≡ true) → list_all (λ x. q x.elems) (rows_of t) ≡ true
+pub all-rows : (q : List Elem → Bool) (t : State) → ((r : Res) → q (list_of t r) ≡ true)
+    → list_all (λ x. q x.elems) (rows_of t) ≡ true
 all-rows q t h = all-mapped q (lists_of t) (all-lists q t t h)
 
 -- the same of the rows of an entry, with their ranks
-pub all-part : (q : List Elem → Bool) (entries : ℕ) (t : State) (e : ℕ) → ((r : Res) → q (list_of t r) ≡ true) → list_all (λ x. q x.0.elems) (part_by entries t e) ≡ true
-all-part q entries t e h = all-numbered (λ x. q x.elems) 1 (rows_in entries e (rows_of t)) (all-filter (λ x. q x.elems) (row_is_of entries e) (rows_of t) (all-rows q t h))
+pub all-part : (q : List Elem → Bool) (entries : ℕ) (t : State) (e : ℕ) → ((r : Res) → q (list_of t r) ≡ true)
+    → list_all (λ x. q x.0.elems) (part_by entries t e) ≡ true
+all-part q entries t e h =
+    all-numbered (λ x. q x.elems) 1 (rows_in entries e (rows_of t))
+    (all-filter (λ x. q x.elems) (row_is_of entries e) (rows_of t) (all-rows q t h))
 
 -- what is so of all elements of a table is so of those of a list
-pub all-list : (q : Elem → Bool) (t : State) (r : Res) → list_all (λ h. q h.1) t ≡ true → list_all q (list_of t r) ≡ true
+pub all-list : (q : Elem → Bool) (t : State) (r : Res) → list_all (λ h. q h.1) t ≡ true
+    → list_all q (list_of t r) ≡ true
 all-list q [] r h = refl
 all-list q (x ∷ t) r h = go (same_res r x.0) (all-list q t r (and_parts (q x.1) _ h).1)
   where
@@ -127,19 +146,27 @@ module _ (R : Res → Res → Ordering) (tie : (a b : Res) → same_res a b ≡ 
       go Equal is k = absurd k
       go Greater is k = absurd k
 
-  none-behind : (r : Res) (n : ℕ) (es : Lists) → T (below_all R r es) → list_any (λ y. same_res r y.0.res) (numbered_from n (filter test (map row_of es))) ≡ false
+  none-behind : (r : Res) (n : ℕ) (es : Lists) → T (below_all R r es)
+      → list_any (λ y. same_res r y.0.res) (numbered_from n (filter test (map row_of es))) ≡ false
   none-behind r n [] h = refl
   none-behind r n (e ∷ es) h = go (test (row_of e)) (λ k. none-behind r k es (second _ _ h))
     where
-      go : (b : Bool) → ((k : ℕ) → list_any (λ y. same_res r y.0.res) (numbered_from k (filter test (map row_of es))) ≡ false) → list_any (λ y. same_res r y.0.res) (numbered_from n (cond b (row_of e ∷ filter test (map row_of es)) (filter test (map row_of es)))) ≡ false
+      go : (b : Bool)
+          → ((k : ℕ) → list_any (λ y. same_res r y.0.res) (numbered_from k (filter test (map row_of es))) ≡ false)
+          → list_any (λ y. same_res r y.0.res)
+          (numbered_from n (cond b (row_of e ∷ filter test (map row_of es)) (filter test (map row_of es))))
+          ≡ false
       go true rest = rw (below-other r e.0 (first _ _ h)) (rest (n + length e.1))
       go false rest = rest n
 
-  apart-numbered : (n : ℕ) (es : Lists) → T (is_sorted R es) → rows_apart (numbered_from n (filter test (map row_of es))) ≡ true
+  apart-numbered : (n : ℕ) (es : Lists) → T (is_sorted R es)
+      → rows_apart (numbered_from n (filter test (map row_of es))) ≡ true
   apart-numbered n [] h = refl
   apart-numbered n (e ∷ es) h = go (test (row_of e)) (λ k. apart-numbered k es (second _ _ h))
     where
-      go : (b : Bool) → ((k : ℕ) → rows_apart (numbered_from k (filter test (map row_of es))) ≡ true) → rows_apart (numbered_from n (cond b (row_of e ∷ filter test (map row_of es)) (filter test (map row_of es)))) ≡ true
+      go : (b : Bool) → ((k : ℕ) → rows_apart (numbered_from k (filter test (map row_of es))) ≡ true)
+          → rows_apart (numbered_from n (cond b (row_of e ∷ filter test (map row_of es)) (filter test (map row_of es))))
+          ≡ true
       go true rest = both _ _ (ap not (none-behind e.0 (n + length e.1) es (first _ _ h))) (rest (n + length e.1))
       go false rest = rest n
 
@@ -147,7 +174,8 @@ module _ (R : Res → Res → Ordering) (tie : (a b : Res) → same_res a b ≡ 
 
 rises-above : (m n k : ℕ) → m < n → list_all (λ j. nat_lt m j) (range_with_len n k) ≡ true
 rises-above m n zero h = refl
-rises-above m n (suc k) h = both (nat_lt m n) _ (grind (arith, nat_tests, h)) (rises-above m (n + 1) k (omega (arith, h)))
+rises-above m n (suc k) h =
+    both (nat_lt m n) _ (grind (arith, nat_tests, h)) (rises-above m (n + 1) k (omega (arith, h)))
 
 range-rises : (n k : ℕ) → rises (range_with_len n k) ≡ true
 range-rises n zero = refl
@@ -164,11 +192,16 @@ range-differ n zero = refl
 range-differ n (suc k) = both _ _ (ap not (not-above n (n + 1) k (omega arith))) (range-differ (n + 1) k)
 
 range-append : (n a b : ℕ) → range_with_len n a ++ range_with_len (n + a) b ≡ range_with_len n (a + b)
-range-append n zero b = let same : n + 0 ≡ n = omega arith in let none : b ≡ 0 + b = omega arith in ap (λ (k : ℕ). range_with_len k b) same ∙ ap (range_with_len n) none
+range-append n zero b =
+    let same : n + 0 ≡ n = omega arith in
+    let none : b ≡ 0 + b = omega arith in
+    ap (λ (k : ℕ). range_with_len k b) same ∙ ap (range_with_len n) none
 range-append n (suc a) b =
     let same : n + suc a ≡ n + 1 + a = omega arith in
     let more : suc (a + b) ≡ suc a + b = omega arith in
-    ap (λ (k : ℕ). n ∷ range_with_len (n + 1) a ++ range_with_len k b) same ∙ ap (λ (l : List ℕ). n ∷ l) (range-append (n + 1) a b) ∙ ap (range_with_len n) more
+    ap (λ (k : ℕ). n ∷ range_with_len (n + 1) a ++ range_with_len k b) same
+    ∙ ap (λ (l : List ℕ). n ∷ l) (range-append (n + 1) a b)
+    ∙ ap (range_with_len n) more
 
 abbrev elem_count : List Row → ℕ
 elem_count [] = 0
@@ -176,11 +209,16 @@ elem_count (x ∷ rows) = length x.elems + elem_count rows
 
 ranks-numbered : (n : ℕ) (rows : List Row) → ranks_of (numbered_from n rows) ≡ range_with_len n (elem_count rows)
 ranks-numbered n [] = refl
-ranks-numbered n (x ∷ rows) = ap (λ (l : List ℕ). range_with_len n (length x.elems) ++ l) (ranks-numbered (n + length x.elems) rows) ∙ range-append n (length x.elems) (elem_count rows)
+ranks-numbered n (x ∷ rows) =
+    ap (λ (l : List ℕ). range_with_len n (length x.elems) ++ l) (ranks-numbered (n + length x.elems) rows)
+    ∙ range-append n (length x.elems) (elem_count rows)
 
-ranked-numbered : (n : ℕ) (rows : List Row) → list_all (λ x. length x.1 == length x.0.elems) (numbered_from n rows) ≡ true
+ranked-numbered : (n : ℕ) (rows : List Row)
+    → list_all (λ x. length x.1 == length x.0.elems) (numbered_from n rows) ≡ true
 ranked-numbered n [] = refl
-ranked-numbered n (x ∷ rows) = both _ _ (grind (arith, nat_tests, length-range_with_len n (length x.elems))) (ranked-numbered (n + length x.elems) rows)
+ranked-numbered n (x ∷ rows) =
+    both _ _ (grind (arith, nat_tests, length-range_with_len n (length x.elems)))
+    (ranked-numbered (n + length x.elems) rows)
 
 rising-numbered : (n : ℕ) (rows : List Row) → list_all (λ x. rises x.1) (numbered_from n rows) ≡ true
 rising-numbered n [] = refl
@@ -205,11 +243,17 @@ is-one e f (Some n) other h =
     go true is same = absurd (other (sym same ∙ eqb-true n e is))
     go false is same = refl
 
-part-same : (entries e : ℕ) (rows : List Row) → part_of entries e (numbered_in entries e rows) ≡ numbered_in entries e rows
-part-same entries e rows = filter-all (λ x. row_is_of entries e x.0) (numbered_in entries e rows) (all-numbered (row_is_of entries e) 1 (rows_in entries e rows) (chosen-pass (row_is_of entries e) rows))
+part-same : (entries e : ℕ) (rows : List Row)
+    → part_of entries e (numbered_in entries e rows) ≡ numbered_in entries e rows
+part-same entries e rows =
+    filter-all (λ x. row_is_of entries e x.0) (numbered_in entries e rows)
+    (all-numbered (row_is_of entries e) 1 (rows_in entries e rows) (chosen-pass (row_is_of entries e) rows))
 
 part-other : (entries e f : ℕ) (rows : List Row) → f ≢ e → part_of entries e (numbered_in entries f rows) ≡ []
-part-other entries e f rows other = filter-none (λ x. row_is_of entries f x.0) (λ x. row_is_of entries e x.0) (numbered_in entries f rows) (λ x h. is-one e f (entry_of_res entries x.0.res) other h) (all-numbered (row_is_of entries f) 1 (rows_in entries f rows) (chosen-pass (row_is_of entries f) rows))
+part-other entries e f rows other =
+    filter-none (λ x. row_is_of entries f x.0) (λ x. row_is_of entries e x.0) (numbered_in entries f rows)
+    (λ x h. is-one e f (entry_of_res entries x.0.res) other h)
+    (all-numbered (row_is_of entries f) 1 (rows_in entries f rows) (chosen-pass (row_is_of entries f) rows))
 
 module _ (entries e : ℕ) (rows : List Row) where
   abbrev all_from : ℕ → ℕ → List RankedRow
@@ -219,14 +263,16 @@ module _ (entries e : ℕ) (rows : List Row) where
   part-above a zero h = refl
   part-above a (suc n) h =
       filter-append (λ (x : RankedRow). row_is_of entries e x.0) (numbered_in entries a rows) (all_from (a + 1) n)
-      ∙ ap (λ (l : List RankedRow). l ++ part_of entries e (all_from (a + 1) n)) (part-other entries e a rows (λ is. absurd (omega (arith, h, is))))
+      ∙ ap (λ (l : List RankedRow). l ++ part_of entries e (all_from (a + 1) n))
+      (part-other entries e a rows (λ is. absurd (omega (arith, h, is))))
       ∙ part-above (a + 1) n (omega (arith, h))
 
   part-below : (a n : ℕ) → a + n ≤ e → part_of entries e (all_from a n) ≡ []
   part-below a zero h = refl
   part-below a (suc n) h =
       filter-append (λ (x : RankedRow). row_is_of entries e x.0) (numbered_in entries a rows) (all_from (a + 1) n)
-      ∙ ap (λ (l : List RankedRow). l ++ part_of entries e (all_from (a + 1) n)) (part-other entries e a rows (λ is. absurd (omega (arith, h, is))))
+      ∙ ap (λ (l : List RankedRow). l ++ part_of entries e (all_from (a + 1) n))
+      (part-other entries e a rows (λ is. absurd (omega (arith, h, is))))
       ∙ part-below (a + 1) n (omega (arith, h))
 
   append-none : (xs : List RankedRow) → xs ++ [] ≡ xs
@@ -235,12 +281,18 @@ module _ (entries e : ℕ) (rows : List Row) where
 
   part-within : (a n : ℕ) → a ≤ e → e < a + n → part_of entries e (all_from a n) ≡ numbered_in entries e rows
   part-within a zero low high = absurd (omega (arith, low, high))
-  part-within a (suc n) low high = filter-append (λ (x : RankedRow). row_is_of entries e x.0) (numbered_in entries a rows) (all_from (a + 1) n) ∙ go (a == e) refl (part-within (a + 1) n)
+  part-within a (suc n) low high =
+      filter-append (λ (x : RankedRow). row_is_of entries e x.0) (numbered_in entries a rows) (all_from (a + 1) n)
+      ∙ go (a == e) refl (part-within (a + 1) n)
     where
-      go : (b : Bool) → (a == e) ≡ b → (a + 1 ≤ e → e < a + 1 + n → part_of entries e (all_from (a + 1) n) ≡ numbered_in entries e rows) → part_of entries e (numbered_in entries a rows) ++ part_of entries e (all_from (a + 1) n) ≡ numbered_in entries e rows
+      go : (b : Bool) → (a == e) ≡ b
+          → (a + 1 ≤ e → e < a + 1 + n → part_of entries e (all_from (a + 1) n) ≡ numbered_in entries e rows)
+          → part_of entries e (numbered_in entries a rows) ++ part_of entries e (all_from (a + 1) n)
+          ≡ numbered_in entries e rows
       go true is rest =
           let same : a ≡ e = eqb-true a e is in
-          ap (λ (l : List RankedRow). part_of entries e (numbered_in entries a rows) ++ l) (part-above (a + 1) n (omega (arith, same)))
+          ap (λ (l : List RankedRow). part_of entries e (numbered_in entries a rows) ++ l)
+          (part-above (a + 1) n (omega (arith, same)))
           ∙ append-none (part_of entries e (numbered_in entries a rows))
           ∙ ap (λ (k : ℕ). part_of entries e (numbered_in entries k rows)) same
           ∙ part-same entries e rows
@@ -250,7 +302,8 @@ module _ (entries e : ℕ) (rows : List Row) where
           ∙ rest (grind (arith, nat_tests, low, is)) (omega (arith, high))
 
 -- the part of an entry is its rows, numbered from 1
-pub parts_are_numbered : (entries e : ℕ) (t : State) → e < entries → part_of entries e (ranked_by entries t) ≡ part_by entries t e
+pub parts_are_numbered : (entries e : ℕ) (t : State) → e < entries
+    → part_of entries e (ranked_by entries t) ≡ part_by entries t e
 parts_are_numbered entries e t h = part-within entries e (rows_of t) 0 entries (omega arith) (omega (arith, h))
 
 parts-past : (entries e : ℕ) (t : State) → entries ≤ e → part_of entries e (ranked_by entries t) ≡ []
@@ -258,42 +311,67 @@ parts-past entries e t h = part-below entries e (rows_of t) 0 entries (omega (ar
 
 -- ---- it may be loaded
 
-ranks-filter : (test : RankedRow → Bool) (p : ℕ → Bool) (xs : List RankedRow) → list_all p (ranks_of xs) ≡ true → list_all p (ranks_of (filter test xs)) ≡ true
+ranks-filter : (test : RankedRow → Bool) (p : ℕ → Bool) (xs : List RankedRow) → list_all p (ranks_of xs) ≡ true
+    → list_all p (ranks_of (filter test xs)) ≡ true
 ranks-filter test p [] h = refl
 ranks-filter test p (x ∷ xs) h = go (test x) (ranks-filter test p xs (parts x.1 h).1)
   where
-    parts : (ns : List ℕ) → list_all p (ns ++ ranks_of xs) ≡ true → (list_all p ns ≡ true) × (list_all p (ranks_of xs) ≡ true)
+    parts : (ns : List ℕ) → list_all p (ns ++ ranks_of xs) ≡ true
+        → (list_all p ns ≡ true) × (list_all p (ranks_of xs) ≡ true)
     parts [] k = (refl, k)
-    parts (n ∷ ns) k = let rest = parts ns (and_parts (p n) _ k).1 in (both (p n) _ (and_parts (p n) _ k).0 rest.0, rest.1)
+    parts (n ∷ ns) k =
+        let rest = parts ns (and_parts (p n) _ k).1 in (both (p n) _ (and_parts (p n) _ k).0 rest.0, rest.1)
 
     joined : (ns ms : List ℕ) → list_all p ns ≡ true → list_all p ms ≡ true → list_all p (ns ++ ms) ≡ true
     joined [] ms k l = l
     joined (n ∷ ns) ms k l = both (p n) _ (and_parts (p n) _ k).0 (joined ns ms (and_parts (p n) _ k).1 l)
 
-    go : (b : Bool) → list_all p (ranks_of (filter test xs)) ≡ true → list_all p (ranks_of (cond b (x ∷ filter test xs) (filter test xs))) ≡ true
+    go : (b : Bool) → list_all p (ranks_of (filter test xs)) ≡ true
+        → list_all p (ranks_of (cond b (x ∷ filter test xs) (filter test xs))) ≡ true
     go true rest = joined x.1 (ranks_of (filter test xs)) (parts x.1 h).0 rest
     go false rest = rest
 
-loadable-numbered : (entries e : ℕ) (t : State) → AreApart t → list_all (λ n. nat_le n last_number) (ranks_of (part_by entries t e)) ≡ true → IsLoadable entries e (part_by entries t e)
+loadable-numbered : (entries e : ℕ) (t : State) → AreApart t
+    → list_all (λ n. nat_le n last_number) (ranks_of (part_by entries t e)) ≡ true
+    → IsLoadable entries e (part_by entries t e)
 loadable-numbered entries e t apart small = record {
-  of_entry = all-numbered (row_is_of entries e) 1 (rows_in entries e (rows_of t)) (chosen-pass (row_is_of entries e) (rows_of t));
+  of_entry =
+      all-numbered (row_is_of entries e) 1 (rows_in entries e (rows_of t))
+      (chosen-pass (row_is_of entries e) (rows_of t));
   once = apart-numbered res_order same_res-tie (row_is_of entries e) 1 (lists_of t) (lists-sorted t t);
   apart = all-part is_apart entries t e apart;
   ranked = ranked-numbered 1 (rows_in entries e (rows_of t));
   rising = rising-numbered 1 (rows_in entries e (rows_of t));
-  distinct = ap differ (ranks-numbered 1 (rows_in entries e (rows_of t))) ∙ range-differ 1 (elem_count (rows_in entries e (rows_of t)));
+  distinct =
+      ap differ (ranks-numbered 1 (rows_in entries e (rows_of t)))
+      ∙ range-differ 1 (elem_count (rows_in entries e (rows_of t)));
   small = small;
 }
 
 loadable-none : (entries e : ℕ) → IsLoadable entries e []
-loadable-none entries e = record { of_entry = refl; once = refl; apart = refl; ranked = refl; rising = refl; distinct = refl; small = refl }
+loadable-none entries e = record {
+  of_entry = refl;
+  once = refl;
+  apart = refl;
+  ranked = refl;
+  rising = refl;
+  distinct = refl;
+  small = refl;
+}
 
-pub parts_are_loadable : (entries : ℕ) (t : State) → AreApart t → list_all (λ n. nat_le n last_number) (ranks_of (ranked_by entries t)) ≡ true → (e : ℕ) → IsLoadable entries e (part_of entries e (ranked_by entries t))
+pub parts_are_loadable : (entries : ℕ) (t : State) → AreApart t
+    → list_all (λ n. nat_le n last_number) (ranks_of (ranked_by entries t)) ≡ true → (e : ℕ)
+    → IsLoadable entries e (part_of entries e (ranked_by entries t))
 parts_are_loadable entries t apart small e = go (nat_lt e entries) refl
   where
     go : (b : Bool) → nat_lt e entries ≡ b → IsLoadable entries e (part_of entries e (ranked_by entries t))
     go true is =
-        let numbered : part_of entries e (ranked_by entries t) ≡ part_by entries t e = parts_are_numbered entries e t (grind (arith, nat_tests, is)) in
+        let numbered : part_of entries e (ranked_by entries t) ≡ part_by entries t e =
+        parts_are_numbered entries e t (grind (arith, nat_tests, is)) in
         subst (IsLoadable entries e) (sym numbered)
-        (loadable-numbered entries e t apart (subst (λ (xs : List RankedRow). list_all (λ n. nat_le n last_number) (ranks_of xs) ≡ true) numbered (ranks-filter (λ x. row_is_of entries e x.0) (λ n. nat_le n last_number) (ranked_by entries t) small)))
-    go false is = subst (IsLoadable entries e) (sym (parts-past entries e t (grind (arith, nat_tests, is)))) (loadable-none entries e)
+        (loadable-numbered entries e t apart (subst
+        (λ (xs : List RankedRow). list_all (λ n. nat_le n last_number) (ranks_of xs) ≡ true) numbered
+        (ranks-filter (λ x. row_is_of entries e x.0) (λ n. nat_le n last_number) (ranked_by entries t) small)))
+    go false is =
+        subst (IsLoadable entries e) (sym (parts-past entries e t (grind (arith, nat_tests, is))))
+        (loadable-none entries e)

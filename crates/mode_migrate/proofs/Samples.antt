@@ -1,5 +1,5 @@
--- Worked tables, by which the definitions of the change to star mode are checked: the words and the parts of the systems
--- are what the rules give by hand.
+-- Worked tables, by which the definitions of the change to star mode are checked: the words and the parts of the
+-- systems are what the rules give by hand.
 use Rattle.std.proofs.Common.{◌≡◌, ℕ, true, false, [], ◌∷◌, Some, refl, codes}
 use Rattle.grs_base.specs.State.{State}
 use Rattle.grs_base.specs.declared.resource.Ctl.{Ctl}
@@ -39,7 +39,8 @@ entries_of_two = (refl, refl, refl)
 -- with system 3, and system 0 waits there. A resource of one system has no entry.
 table : State
 table =
-    (ad, by 2 0 E) ∷ (ab, by 1 0 S) ∷ (ad, by 1 1 E) ∷ (ab, by 3 0 S) ∷ (System (sys 7) (codes "A") (codes "B"), by 7 0 E) ∷ (ab, by 0 0 E) ∷ []
+    (ad, by 2 0 E) ∷ (ab, by 1 0 S) ∷ (ad, by 1 1 E) ∷ (ab, by 3 0 S)
+    ∷ (System (sys 7) (codes "A") (codes "B"), by 7 0 E) ∷ (ab, by 0 0 E) ∷ []
 
 -- The least system with an element in the entry manages it, though it waits. Nobody has an element in the other entry.
 words :
@@ -64,8 +65,8 @@ roles :
 unfolding table
 roles = (refl, refl, refl, refl, refl, refl)
 
--- The elements of the entry are ranked on from 1: first those of the resource that is shown first, though they came later,
--- each list in its own order. Waiters of a higher system keep their place.
+-- The elements of the entry are ranked on from 1: first those of the resource that is shown first, though they came
+-- later, each list in its own order. Waiters of a higher system keep their place.
 ranks :
     (ranked_by 2 table
     ≡ (record { res = ab; elems = by 1 0 S ∷ by 3 0 S ∷ by 0 0 E ∷ []; owners = 2 }, 1 ∷ 2 ∷ 3 ∷ [])
@@ -73,9 +74,16 @@ ranks :
     × (part_of 2 1 (ranked_by 2 table) ≡ [])
     -- each entry begins with 1 again
     × (ranked_by 2 ((ac, by 3 0 E) ∷ (ab, by 1 0 E) ∷ [])
-    ≡ (record { res = ab; elems = by 1 0 E ∷ []; owners = 1 }, 1 ∷ []) ∷ (record { res = ac; elems = by 3 0 E ∷ []; owners = 1 }, 1 ∷ []) ∷ [])
+    ≡ (record { res = ab; elems = by 1 0 E ∷ []; owners = 1 }, 1 ∷ [])
+    ∷ (record { res = ac; elems = by 3 0 E ∷ []; owners = 1 }, 1 ∷ []) ∷ [])
     -- a manager may load them as they are
     × (IsLoadable 2 0 (part_of 2 0 (ranked_by 2 table)))
     × (part_of 2 0 (ranked_by 2 table) ≡ part_by 2 table 0)
 unfolding table
-ranks = (refl, refl, refl, record { of_entry = refl; once = refl; apart = refl; ranked = refl; rising = refl; distinct = refl; small = refl }, refl)
+ranks = (
+  refl,
+  refl,
+  refl,
+  record { of_entry = refl; once = refl; apart = refl; ranked = refl; rising = refl; distinct = refl; small = refl },
+  refl,
+)

@@ -9,7 +9,8 @@ use Rattle.grs_wire.specs.LockWords.{interest, manager}
 use Rattle.lock_structure.specs.Laws.{is_interested}
 use Rattle.lock_structure.specs.RankedRows.{ranks_of}
 use Rattle.lock_structure.specs.Words.{word_fits}
-use Rattle.mode_migrate.specs.Migrate.{has_elements, interest_by, manager_by, word_by, table_words, ranked_by, part_of, part_by, AreApart, AreLoadable}
+use Rattle.mode_migrate.specs.Migrate.{has_elements, interest_by, manager_by, word_by, table_words, ranked_by, part_of}
+use Rattle.mode_migrate.specs.Migrate.{part_by, AreApart, AreLoadable}
 
 -- whether all elements of a table are of systems below n
 abbrev pub are_within : ℕ → State → Bool
@@ -17,22 +18,33 @@ are_within n t = list_all (λ h. nat_lt h.1.task.system.0 n) t
 
 -- A word says who has interest in its entry by the table, and who manages it.
 abbrev pub WordsSay : Type 0
-WordsSay = (entries e : ℕ) (rows : List Row) → (interest (word_by entries e rows) ≡ interest_by entries e rows) × (manager (word_by entries e rows) ≡ manager_by entries e rows)
+WordsSay =
+    (entries e : ℕ) (rows : List Row)
+    → (interest (word_by entries e rows) ≡ interest_by entries e rows)
+    × (manager (word_by entries e rows) ≡ manager_by entries e rows)
 
 -- By the words of a table a system has interest in an entry exactly where the rows of the table have an element of the
 -- system there, owner or waiter.
 abbrev pub InterestIsByElements : Type 0
-InterestIsByElements = (entries : ℕ) (t : State) → 0 < entries → are_within most_systems t ≡ true → (e s : ℕ) → is_interested (table_words entries t) e s ≡ has_elements entries e (rows_of t) s
+InterestIsByElements =
+    (entries : ℕ) (t : State) → 0 < entries → are_within most_systems t ≡ true → (e s : ℕ)
+    → is_interested (table_words entries t) e s ≡ has_elements entries e (rows_of t) s
 
--- The words of a table with elements of so many systems are such as the complex may change by: one for each entry, each 0
--- or with a manager that has interest, and they name these systems alone.
+-- The words of a table with elements of so many systems are such as the complex may change by: one for each entry, each
+-- 0 or with a manager that has interest, and they name these systems alone.
 abbrev pub OwnWordsFit : Type 0
-OwnWordsFit = (n entries : ℕ) (t : State) → are_within n t ≡ true → (length (table_words entries t) ≡ entries) × (list_all (word_fits n) (table_words entries t) ≡ true)
+OwnWordsFit =
+    (n entries : ℕ) (t : State) → are_within n t ≡ true
+    → (length (table_words entries t) ≡ entries) × (list_all (word_fits n) (table_words entries t) ≡ true)
 
 -- An entry's part of all ranked rows is the rows of the entry, their elements numbered from 1.
 abbrev pub PartsAreNumbered : Type 0
-PartsAreNumbered = (entries e : ℕ) (t : State) → e < entries → part_of entries e (ranked_by entries t) ≡ part_by entries t e
+PartsAreNumbered =
+    (entries e : ℕ) (t : State) → e < entries → part_of entries e (ranked_by entries t) ≡ part_by entries t e
 
 -- Its manager may keep it, where no task stands twice in a list and ranks are small.
 abbrev pub PartsAreLoadable : Type 0
-PartsAreLoadable = (entries : ℕ) (t : State) → AreApart t → list_all (λ n. nat_le n last_number) (ranks_of (ranked_by entries t)) ≡ true → AreLoadable entries (ranked_by entries t)
+PartsAreLoadable =
+    (entries : ℕ) (t : State) → AreApart t
+    → list_all (λ n. nat_le n last_number) (ranks_of (ranked_by entries t)) ≡ true
+    → AreLoadable entries (ranked_by entries t)

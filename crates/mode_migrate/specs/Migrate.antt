@@ -1,6 +1,7 @@
 -- What a table of resources leads to where the complex changes to star mode: the lock words, and for each system the
 -- entries that it manages and has interest in. It is read off the lists that aren't empty, resources in name order.
-use Rattle.std.specs.Prelude.{◌≡◌, ℕ, zero, suc, ◌+◌, Bool, true, ◌&&◌, ◌==◌, cond, List, [], ◌∷◌, length, map, filter, Option, Some, None}
+use Rattle.std.specs.Prelude.{◌≡◌, ℕ, zero, suc, ◌+◌, Bool, true, ◌&&◌, ◌==◌, cond, List, [], ◌∷◌, length, map, filter}
+use Rattle.std.specs.Prelude.{Option, Some, None}
 use Rattle.std.specs.List.{range_with_len, list_any, flat_map}
 use Rattle.grs_base.specs.Limits.{most_systems}
 use Rattle.grs_base.specs.Rows.{rows_of}

@@ -1,5 +1,6 @@
 -- Who gets control behind an element that leaves, by its place.
-use Rattle.std.proofs.Common.{◌≡◌, ◌≤◌, ◌+◌, ℕ, zero, suc, Bool, true, false, cond, List, [], ◌∷◌, take, drop, length, map, refl, ap, sym, ◌∙◌, arith, eqb, leb, Some}
+use Rattle.std.proofs.Common.{◌≡◌, ◌≤◌, ◌+◌, ℕ, zero, suc, Bool, true, false, cond, List, [], ◌∷◌, take, drop, length}
+use Rattle.std.proofs.Common.{map, refl, ap, sym, ◌∙◌, arith, eqb, leb, Some}
 use Rattle.std.specs.Prelude.{slice_get}
 use Rattle.std.proofs.Math.ListN.{drop_of_length-le}
 use Rattle.std.proofs.lemmas.Bool.Decides.{nat_tests}
@@ -34,38 +35,52 @@ list_without-absent : (es : List Elem) (t : TaskId) → has_task es t ≡ false 
 list_without-absent [] t h = refl
 list_without-absent (e ∷ es) t h = grind (arith, h, list_without-absent es t)
 
-list_without-take_absent : (n : ℕ) (es : List Elem) (t : TaskId) → has_task es t ≡ false → list_without (take n es) t ≡ take n es
+list_without-take_absent : (n : ℕ) (es : List Elem) (t : TaskId) → has_task es t ≡ false
+    → list_without (take n es) t ≡ take n es
 list_without-take_absent zero es t h = refl
 list_without-take_absent (suc n) [] t h = refl
 list_without-take_absent (suc n) (e ∷ es) t h = grind (arith, h, list_without-take_absent n es t)
 
 -- how many of those in front stay
-stay : (es : List Elem) (t : TaskId) → has_task es t ≡ false → length (list_without (take (shared_front es) es) t) ≡ shared_front es
-stay es t h = ap (λ (l : List Elem). length l) (list_without-take_absent (shared_front es) es t h) ∙ length-take-le (shared_front es) es (shared_front-le es)
+stay : (es : List Elem) (t : TaskId) → has_task es t ≡ false
+    → length (list_without (take (shared_front es) es) t) ≡ shared_front es
+stay es t h =
+    ap (λ (l : List Elem). length l) (list_without-take_absent (shared_front es) es t h)
+    ∙ length-take-le (shared_front es) es (shared_front-le es)
 
 none_more : (es : List Elem) → map (λ (e : Elem). e.task) (drop (shared_front es) (take (shared_front es) es)) ≡ []
-none_more es = ap (map (λ (e : Elem). e.task)) (drop_of_length-le (take (shared_front es) es) (omega (arith, length-take-le (shared_front es) es (shared_front-le es))))
+none_more es =
+    ap (map (λ (e : Elem). e.task)) (drop_of_length-le (take (shared_front es) es)
+    (omega (arith, length-take-le (shared_front es) es (shared_front-le es))))
 
-absent_behind : (e : Elem) (es : List Elem) (t : TaskId) → is_apart (e ∷ es) ≡ true → same_task t e.task ≡ true → has_task es t ≡ false
+absent_behind : (e : Elem) (es : List Elem) (t : TaskId) → is_apart (e ∷ es) ≡ true → same_task t e.task ≡ true
+    → has_task es t ≡ false
 absent_behind e es t a s = grind (arith, a, s, same_task-exact t e.task)
 
 -- one of shared elements leaves, or what stands behind them
 abbrev shared_left : List Elem → TaskId → List TaskId
-shared_left es t = map (λ e. e.task) (drop (length (list_without (take (shared_front es) es) t)) (take (shared_front (list_without es t)) (list_without es t)))
+shared_left es t =
+    map (λ e. e.task) (drop (length (list_without (take (shared_front es) es) t))
+    (take (shared_front (list_without es t)) (list_without es t)))
 
 abbrev shared_told : List Elem → TaskId → List TaskId
 shared_told es t = cond (eqb (place_of es t) (shared_front es)) (shared_tasks (drop (suc (place_of es t)) es)) []
 
-shared_left-shared : (e : Elem) (es : List Elem) (t : TaskId) → has_task es t ≡ false → same_task t e.task ≡ true → is_shared e.ctl ≡ true → shared_left (e ∷ es) t ≡ []
-shared_left-shared e es t absent s k = grind (arith, s, k, list_without-absent es t absent, stay es t absent, none_more es)
+shared_left-shared : (e : Elem) (es : List Elem) (t : TaskId) → has_task es t ≡ false → same_task t e.task ≡ true
+    → is_shared e.ctl ≡ true → shared_left (e ∷ es) t ≡ []
+shared_left-shared e es t absent s k =
+    grind (arith, s, k, list_without-absent es t absent, stay es t absent, none_more es)
 
-shared_left-exclusive : (e : Elem) (es : List Elem) (t : TaskId) → has_task es t ≡ false → same_task t e.task ≡ true → is_shared e.ctl ≡ false → shared_left (e ∷ es) t ≡ shared_tasks es
+shared_left-exclusive : (e : Elem) (es : List Elem) (t : TaskId) → has_task es t ≡ false → same_task t e.task ≡ true
+    → is_shared e.ctl ≡ false → shared_left (e ∷ es) t ≡ shared_tasks es
 shared_left-exclusive e es t absent s k = grind (arith, s, k, list_without-absent es t absent, shared_tasks-take es)
 
-shared_left-other : (e : Elem) (es : List Elem) (t : TaskId) → shared_left es t ≡ shared_told es t → same_task t e.task ≡ false → is_shared e.ctl ≡ true → shared_left (e ∷ es) t ≡ shared_told (e ∷ es) t
+shared_left-other : (e : Elem) (es : List Elem) (t : TaskId) → shared_left es t ≡ shared_told es t
+    → same_task t e.task ≡ false → is_shared e.ctl ≡ true → shared_left (e ∷ es) t ≡ shared_told (e ∷ es) t
 shared_left-other e es t rest s k = grind (arith, nat_tests, s, k, rest)
 
-shared_left-blocked : (e : Elem) (es : List Elem) (t : TaskId) → same_task t e.task ≡ false → is_shared e.ctl ≡ false → shared_left (e ∷ es) t ≡ shared_told (e ∷ es) t
+shared_left-blocked : (e : Elem) (es : List Elem) (t : TaskId) → same_task t e.task ≡ false → is_shared e.ctl ≡ false
+    → shared_left (e ∷ es) t ≡ shared_told (e ∷ es) t
 shared_left-blocked e es t s k = grind (arith, nat_tests, s, k)
 
 shared_left-told : (es : List Elem) (t : TaskId) → is_apart es ≡ true → shared_left es t ≡ shared_told es t
@@ -81,30 +96,40 @@ shared_left-told (e ∷ es) t a =
 
 -- the same of a whole list
 abbrev left : List Elem → TaskId → List TaskId
-left es t = map (λ e. e.task) (drop (length (list_without (take (owners es) es) t)) (take (owners (list_without es t)) (list_without es t)))
+left es t =
+    map (λ e. e.task)
+    (drop (length (list_without (take (owners es) es) t)) (take (owners (list_without es t)) (list_without es t)))
 
-next_owners : (es : List Elem) → map (λ (e : Elem). e.task) (drop (shared_front es) (take (owners es) es)) ≡ cond (leb (suc (shared_front es)) 1) (owner_tasks es) []
+next_owners : (es : List Elem)
+    → map (λ (e : Elem). e.task) (drop (shared_front es) (take (owners es) es))
+    ≡ cond (leb (suc (shared_front es)) 1) (owner_tasks es) []
 next_owners [] = refl
 next_owners (e ∷ es) = by_cases (is_shared e.ctl)
     (λ k. grind (arith, nat_tests, k, none_more es))
     (λ k. grind (arith, nat_tests, k))
 
-left-shared : (e : Elem) (es : List Elem) (t : TaskId) → has_task es t ≡ false → same_task t e.task ≡ true → is_shared e.ctl ≡ true → left (e ∷ es) t ≡ map (λ (e : Elem). e.task) (drop (shared_front es) (take (owners es) es))
+left-shared : (e : Elem) (es : List Elem) (t : TaskId) → has_task es t ≡ false → same_task t e.task ≡ true
+    → is_shared e.ctl ≡ true
+    → left (e ∷ es) t ≡ map (λ (e : Elem). e.task) (drop (shared_front es) (take (owners es) es))
 left-shared e es t absent s k = grind (arith, s, k, list_without-absent es t absent, stay es t absent)
 
-left-exclusive : (e : Elem) (es : List Elem) (t : TaskId) → has_task es t ≡ false → same_task t e.task ≡ true → is_shared e.ctl ≡ false → left (e ∷ es) t ≡ owner_tasks es
+left-exclusive : (e : Elem) (es : List Elem) (t : TaskId) → has_task es t ≡ false → same_task t e.task ≡ true
+    → is_shared e.ctl ≡ false → left (e ∷ es) t ≡ owner_tasks es
 left-exclusive e es t absent s k = grind (arith, s, k, list_without-absent es t absent, owner_tasks-take es)
 
-left-other : (e : Elem) (es : List Elem) (t : TaskId) → same_task t e.task ≡ false → is_shared e.ctl ≡ true → left (e ∷ es) t ≡ shared_left es t
+left-other : (e : Elem) (es : List Elem) (t : TaskId) → same_task t e.task ≡ false → is_shared e.ctl ≡ true
+    → left (e ∷ es) t ≡ shared_left es t
 left-other e es t s k = grind (arith, s, k)
 
-left-blocked : (e : Elem) (es : List Elem) (t : TaskId) → same_task t e.task ≡ false → is_shared e.ctl ≡ false → left (e ∷ es) t ≡ []
+left-blocked : (e : Elem) (es : List Elem) (t : TaskId) → same_task t e.task ≡ false → is_shared e.ctl ≡ false
+    → left (e ∷ es) t ≡ []
 left-blocked e es t s k = grind (arith, s, k)
 
 drop_next : (e : Elem) (es : List Elem) (p : ℕ) → drop (suc p) es ≡ drop (suc p + 1) (e ∷ es)
 drop_next e es p = let two : suc (suc p) ≡ suc p + 1 = omega arith in ap (λ (n : ℕ). drop n (e ∷ es)) two
 
-other_told : (e : Elem) (es : List Elem) (t : TaskId) → same_task t e.task ≡ false → is_shared e.ctl ≡ true → shared_told es t ≡ tasks_behind (e ∷ es) (place_of (e ∷ es) t)
+other_told : (e : Elem) (es : List Elem) (t : TaskId) → same_task t e.task ≡ false → is_shared e.ctl ≡ true
+    → shared_told es t ≡ tasks_behind (e ∷ es) (place_of (e ∷ es) t)
 other_told e es t s k = by_cases (eqb (place_of es t) (shared_front es))
     (λ b. grind (arith, nat_tests, s, k, b, drop_next e es (place_of es t)))
     (λ b. grind (arith, nat_tests, s, k, b))
@@ -121,45 +146,55 @@ left-behind (e ∷ es) t a =
     (λ k. left-blocked e es t s k ∙ grind (arith, nat_tests, s, k)))
 
 -- who becomes an owner where a task's element leaves
-pub became_owners-behind : (es : List Elem) (t : TaskId) → is_apart es ≡ true → became_owners es (list_without es t) t ≡ tasks_behind es (place_of es t)
+pub became_owners-behind : (es : List Elem) (t : TaskId) → is_apart es ≡ true
+    → became_owners es (list_without es t) t ≡ tasks_behind es (place_of es t)
 became_owners-behind es t a = became_owners-without es t a ∙ left-behind es t a
 
 -- the elements behind a place, one by one
-pub shared_tasks-stop : (es : List Elem) (p : ℕ) (e : Elem) → slice_get es p ≡ Some e → is_shared e.ctl ≡ false → shared_tasks (drop p es) ≡ []
+pub shared_tasks-stop : (es : List Elem) (p : ℕ) (e : Elem) → slice_get es p ≡ Some e → is_shared e.ctl ≡ false
+    → shared_tasks (drop p es) ≡ []
 shared_tasks-stop [] p e h s = cc
 shared_tasks-stop (x ∷ es) zero e h s = grind (arith, h, s)
 shared_tasks-stop (x ∷ es) (suc p) e h s = shared_tasks-stop es p e h s
 
-pub shared_tasks-next : (es : List Elem) (p : ℕ) (e : Elem) → slice_get es p ≡ Some e → is_shared e.ctl ≡ true → shared_tasks (drop p es) ≡ e.task ∷ shared_tasks (drop (p + 1) es)
+pub shared_tasks-next : (es : List Elem) (p : ℕ) (e : Elem) → slice_get es p ≡ Some e → is_shared e.ctl ≡ true
+    → shared_tasks (drop p es) ≡ e.task ∷ shared_tasks (drop (p + 1) es)
 shared_tasks-next [] p e h s = cc
 shared_tasks-next (x ∷ es) zero e h s = grind (arith, h, s)
-shared_tasks-next (x ∷ es) (suc p) e h s = shared_tasks-next es p e h s ∙ ap (λ (l : List Elem). e.task ∷ shared_tasks l) (drop_more x es p)
+shared_tasks-next (x ∷ es) (suc p) e h s =
+    shared_tasks-next es p e h s ∙ ap (λ (l : List Elem). e.task ∷ shared_tasks l) (drop_more x es p)
   where
     drop_more : (x : Elem) (es : List Elem) (p : ℕ) → drop (p + 1) es ≡ drop (suc p + 1) (x ∷ es)
     drop_more x es p = let one : suc (p + 1) ≡ suc p + 1 = omega arith in ap (λ (n : ℕ). drop n (x ∷ es)) one
 
-pub owner_tasks-one : (es : List Elem) (p : ℕ) (e : Elem) → slice_get es p ≡ Some e → is_shared e.ctl ≡ false → owner_tasks (drop p es) ≡ e.task ∷ []
+pub owner_tasks-one : (es : List Elem) (p : ℕ) (e : Elem) → slice_get es p ≡ Some e → is_shared e.ctl ≡ false
+    → owner_tasks (drop p es) ≡ e.task ∷ []
 owner_tasks-one [] p e h s = cc
 owner_tasks-one (x ∷ es) zero e h s = grind (arith, h, s)
 owner_tasks-one (x ∷ es) (suc p) e h s = owner_tasks-one es p e h s
 
 -- the owners are the shared ones in front, where the first is shared
-owner_tasks-shared : (es : List Elem) (p : ℕ) (e : Elem) → slice_get es p ≡ Some e → is_shared e.ctl ≡ true → owner_tasks (drop p es) ≡ shared_tasks (drop p es)
+owner_tasks-shared : (es : List Elem) (p : ℕ) (e : Elem) → slice_get es p ≡ Some e → is_shared e.ctl ≡ true
+    → owner_tasks (drop p es) ≡ shared_tasks (drop p es)
 owner_tasks-shared [] p e h s = cc
 owner_tasks-shared (x ∷ es) zero e h s = grind (arith, h, s)
 owner_tasks-shared (x ∷ es) (suc p) e h s = owner_tasks-shared es p e h s
 
-pub owner_tasks-next : (es : List Elem) (p : ℕ) (e : Elem) → slice_get es p ≡ Some e → is_shared e.ctl ≡ true → owner_tasks (drop p es) ≡ e.task ∷ shared_tasks (drop (p + 1) es)
+pub owner_tasks-next : (es : List Elem) (p : ℕ) (e : Elem) → slice_get es p ≡ Some e → is_shared e.ctl ≡ true
+    → owner_tasks (drop p es) ≡ e.task ∷ shared_tasks (drop (p + 1) es)
 owner_tasks-next es p e h s = owner_tasks-shared es p e h s ∙ shared_tasks-next es p e h s
 
-pub told_by : (s : State) (r : Res) (t : TaskId) (es : List Elem) (p : ℕ) (told : List TaskId) → es ≡ list_of s r → is_apart es ≡ true → p ≡ place_of es t → told ≡ tasks_behind es p → told ≡ became_owners (list_of s r) (list_of (release_state s r t) r) t
+pub told_by : (s : State) (r : Res) (t : TaskId) (es : List Elem) (p : ℕ) (told : List TaskId) → es ≡ list_of s r
+    → is_apart es ≡ true → p ≡ place_of es t → told ≡ tasks_behind es p
+    → told ≡ became_owners (list_of s r) (list_of (release_state s r t) r) t
 told_by s r t es p told is apart at behind =
     behind ∙ ap (tasks_behind es) at ∙ sym (became_owners-behind es t apart)
     ∙ ap (λ (l : List Elem). became_owners l (list_without l t) t) is
     ∙ ap (λ (l : List Elem). became_owners (list_of s r) l t) (sym (list_of-release s r t))
 
 -- nobody gets control where the task has no element
-pub told_none : (s : State) (r : Res) (es : List Elem) (t : TaskId) → es ≡ list_of s r → length es ≤ place_of es t → [] ≡ became_owners (list_of s r) (list_of (release_state s r t) r) t
+pub told_none : (s : State) (r : Res) (es : List Elem) (t : TaskId) → es ≡ list_of s r → length es ≤ place_of es t
+    → [] ≡ became_owners (list_of s r) (list_of (release_state s r t) r) t
 told_none s r es t is past =
     sym (became_owners-same (list_of s r) t)
     ∙ ap (λ (u : State). became_owners (list_of s r) (list_of u r) t) (release-none s r es t is past).1

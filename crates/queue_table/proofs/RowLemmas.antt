@@ -1,12 +1,14 @@
 -- Lists in the order in which they are shown.
-use Rattle.std.proofs.Common.{◌≡◌, ◌≢◌, ◌≤◌, ◌+◌, ℕ, zero, suc, Bool, true, false, cond, T, List, [], ◌∷◌, ◌&&◌, map, length, drop, Option, Some, None, refl, ap, sym, ◌∙◌, arith, nat_eq}
+use Rattle.std.proofs.Common.{◌≡◌, ◌≢◌, ◌≤◌, ◌+◌, ℕ, zero, suc, Bool, true, false, cond, T, List, [], ◌∷◌, ◌&&◌, map}
+use Rattle.std.proofs.Common.{length, drop, Option, Some, None, refl, ap, sym, ◌∙◌, arith, nat_eq}
 use Rattle.std.proofs.Math.ListN.{drop_of_length-le}
 use Rattle.std.specs.Prelude.{slice_get, filter}
 use Rattle.std.specs.declared.cmp.Ordering.{Ordering}
 use Rattle.std.specs.Ordering.{on, eq_by_cmp}
 use Rattle.std.specs.Cmp.{IsTotalOrder}
 use Rattle.std.specs.FinMap.{put, find, is_sorted, IsAntisymmetric}
-use Rattle.std.specs.FinMap.Entries.{is_sorted-put, find-put, same_entries, where_key, is_sorted-where_key, find-where_key}
+use Rattle.std.specs.FinMap.Entries.{is_sorted-put, find-put, same_entries, where_key, is_sorted-where_key}
+use Rattle.std.specs.FinMap.Entries.{find-where_key}
 use Rattle.std.specs.BTreeMap.{insert_entry}
 use Rattle.grs_base.specs.Same.{same_res}
 use Rattle.grs_base.specs.State.{Held, State, list_at, list_at_some, list_of}
@@ -37,11 +39,13 @@ Lists = List (Res × List Elem)
 
 module _ (R : Res → Res → Ordering) where
   -- an entry that is put in by its key is put in by the key's resource
-  plain-insert_by : (es : List (Placed × List Elem)) (k : Placed) (v : List Elem) → plain (insert_entry (on (λ p. p.res) R) es k v) ≡ put R k.res v (plain es)
+  plain-insert_by : (es : List (Placed × List Elem)) (k : Placed) (v : List Elem)
+      → plain (insert_entry (on (λ p. p.res) R) es k v) ≡ put R k.res v (plain es)
   plain-insert_by [] k v = refl
   plain-insert_by (e ∷ es) k v = grind (arith, plain-insert_by es k v)
 
-pub plain-insert : (es : List (Placed × List Elem)) (r : Res) (v : List Elem) → plain (insert_entry (on (λ p. p.res) res_order) es (record { res = r }) v) ≡ put res_order r v (plain es)
+pub plain-insert : (es : List (Placed × List Elem)) (r : Res) (v : List Elem)
+    → plain (insert_entry (on (λ p. p.res) res_order) es (record { res = r }) v) ≡ put res_order r v (plain es)
 plain-insert es r v = plain-insert_by res_order es (record { res = r }) v
 
 -- what is found of a list that is put in unless it is empty
@@ -69,7 +73,8 @@ none_behind e es q p is = ap (queue_number es) is ∙ step (queue_number es e.0)
     step None h = refl
     step (Some n) h = grind (arith, p, h)
 
-module _ (R : Res → Res → Ordering) (total : IsTotalOrder R) (exact : IsAntisymmetric R) (tie : (a b : Res) → same_res a b ≡ eq_by_cmp R a b) where
+module _ (R : Res → Res → Ordering) (total : IsTotalOrder R) (exact : IsAntisymmetric R)
+    (tie : (a b : Res) → same_res a b ≡ eq_by_cmp R a b) where
   -- the definitions over any order
   abbrev from : State → State → Lists
   from s [] = []
@@ -91,17 +96,22 @@ module _ (R : Res → Res → Ordering) (total : IsTotalOrder R) (exact : IsAnti
   with-sorted r [] m h = h
   with-sorted r (x ∷ xs) m h = is_sorted-put R total r (x ∷ xs) m h
 
-  with_some-sorted : (b : Bool) (r : Res) (xs : List Elem) (m : Lists) → T (is_sorted R m) → T (is_sorted R (cond b (with r xs m) m))
+  with_some-sorted : (b : Bool) (r : Res) (xs : List Elem) (m : Lists) → T (is_sorted R m)
+      → T (is_sorted R (cond b (with r xs m) m))
   with_some-sorted true r xs m h = with-sorted r xs m h
   with_some-sorted false r xs m h = h
 
-  with_all-sorted : (t : Res → Bool) (es : Numbers) (hs : Held ℕ) (m : Lists) → T (is_sorted R m) → T (is_sorted R (with_all t es hs m))
+  with_all-sorted : (t : Res → Bool) (es : Numbers) (hs : Held ℕ) (m : Lists) → T (is_sorted R m)
+      → T (is_sorted R (with_all t es hs m))
   with_all-sorted t [] hs m h = h
-  with_all-sorted t (e ∷ es) hs m h = with_all-sorted t es hs _ (with_some-sorted (t e.0) e.0 (list_at nat_eq hs e.1) m h)
+  with_all-sorted t (e ∷ es) hs m h =
+      with_all-sorted t es hs _ (with_some-sorted (t e.0) e.0 (list_at nat_eq hs e.1) m h)
 
-  find-with : (q r : Res) (xs : List Elem) (m : Lists) → find R q (with r xs m) ≡ cond (same_res q r) (found xs (find R q m)) (find R q m)
+  find-with : (q r : Res) (xs : List Elem) (m : Lists)
+      → find R q (with r xs m) ≡ cond (same_res q r) (found xs (find R q m)) (find R q m)
   find-with q r [] m = either (same_res q r) (find R q m)
-  find-with q r (x ∷ xs) m = find-put R total q r (x ∷ xs) m ∙ ap (λ (b : Bool). cond b (Some (x ∷ xs)) (find R q m)) (sym (tie q r))
+  find-with q r (x ∷ xs) m =
+      find-put R total q r (x ∷ xs) m ∙ ap (λ (b : Bool). cond b (Some (x ∷ xs)) (find R q m)) (sym (tie q r))
 
   find-from : (s hs : State) (q : Res) → find R q (from s hs) ≡ shown (list_of hs q) (list_of s q)
   find-from s [] q = refl
@@ -110,24 +120,32 @@ module _ (R : Res → Res → Ordering) (total : IsTotalOrder R) (exact : IsAnti
       ∙ ap (λ (b : Bool). cond b (Some (list_of s h.0)) (find R q (from s hs))) (sym (tie q h.0))
       ∙ step (same_res q h.0) refl (find-from s hs q)
     where
-      step : (b : Bool) → same_res q h.0 ≡ b → find R q (from s hs) ≡ shown (list_of hs q) (list_of s q) → cond b (Some (list_of s h.0)) (find R q (from s hs)) ≡ shown (cond b (h.1 ∷ list_of hs q) (list_of hs q)) (list_of s q)
+      step : (b : Bool) → same_res q h.0 ≡ b → find R q (from s hs) ≡ shown (list_of hs q) (list_of s q)
+          → cond b (Some (list_of s h.0)) (find R q (from s hs))
+          ≡ shown (cond b (h.1 ∷ list_of hs q) (list_of hs q)) (list_of s q)
       step true e rest = ap (λ (r : Res). Some (list_of s r)) (sym (same_res-exact q h.0 e))
       step false e rest = rest
 
   -- one list more, where its resource passes
-  find-with_some : (b : Bool) (q r : Res) (xs : List Elem) (m : Lists) → find R q (cond b (with r xs m) m) ≡ cond (b && same_res q r) (found xs (find R q m)) (find R q m)
+  find-with_some : (b : Bool) (q r : Res) (xs : List Elem) (m : Lists)
+      → find R q (cond b (with r xs m) m) ≡ cond (b && same_res q r) (found xs (find R q m)) (find R q m)
   find-with_some true q r xs m = find-with q r xs m
   find-with_some false q r xs m = refl
 
-  find-with_all : (t : Res → Bool) (es : Numbers) (hs : Held ℕ) (m : Lists) (q : Res) → is_paired es ≡ true → find R q (with_all t es hs m) ≡ cond (t q) (found (list_at_some hs (queue_number es q)) (find R q m)) (find R q m)
+  find-with_all : (t : Res → Bool) (es : Numbers) (hs : Held ℕ) (m : Lists) (q : Res) → is_paired es ≡ true
+      → find R q (with_all t es hs m)
+      ≡ cond (t q) (found (list_at_some hs (queue_number es q)) (find R q m)) (find R q m)
   find-with_all t [] hs m q p = either (t q) (find R q m)
   find-with_all t (e ∷ es) hs m q p =
       find-with_all t es hs (cond (t e.0) (with e.0 (list_at nat_eq hs e.1) m) m) q (grind (arith, p))
-      ∙ ap (λ (o : Option (List Elem)). cond (t q) (found (list_at_some hs (queue_number es q)) o) o) (find-with_some (t e.0) q e.0 (list_at nat_eq hs e.1) m)
+      ∙ ap (λ (o : Option (List Elem)). cond (t q) (found (list_at_some hs (queue_number es q)) o) o)
+      (find-with_some (t e.0) q e.0 (list_at nat_eq hs e.1) m)
       ∙ step (same_res q e.0) refl
     where
       passed : (b : Bool) → t e.0 ≡ b → t q ≡ b → queue_number es q ≡ None →
-          cond (t q) (found (list_at_some hs (queue_number es q)) (cond (t e.0 && true) (found (list_at nat_eq hs e.1) (find R q m)) (find R q m))) (cond (t e.0 && true) (found (list_at nat_eq hs e.1) (find R q m)) (find R q m))
+          cond (t q) (found (list_at_some hs (queue_number es q))
+          (cond (t e.0 && true) (found (list_at nat_eq hs e.1) (find R q m)) (find R q m)))
+          (cond (t e.0 && true) (found (list_at nat_eq hs e.1) (find R q m)) (find R q m))
           ≡ cond (t q) (found (list_at nat_eq hs e.1) (find R q m)) (find R q m)
       passed true a b none = rw (a, b, none) refl
       passed false a b none = rw (a, b) refl
@@ -137,52 +155,81 @@ module _ (R : Res → Res → Ordering) (total : IsTotalOrder R) (exact : IsAnti
       other false = refl
 
       step : (b : Bool) → same_res q e.0 ≡ b →
-          cond (t q) (found (list_at_some hs (queue_number es q)) (cond (t e.0 && b) (found (list_at nat_eq hs e.1) (find R q m)) (find R q m))) (cond (t e.0 && b) (found (list_at nat_eq hs e.1) (find R q m)) (find R q m))
+          cond (t q) (found (list_at_some hs (queue_number es q))
+          (cond (t e.0 && b) (found (list_at nat_eq hs e.1) (find R q m)) (find R q m)))
+          (cond (t e.0 && b) (found (list_at nat_eq hs e.1) (find R q m)) (find R q m))
           ≡ cond (t q) (found (list_at_some hs (cond b (Some e.1) (queue_number es q))) (find R q m)) (find R q m)
       step true s =
           let same : q ≡ e.0 = same_res-exact q e.0 s in
           passed (t e.0) refl (ap t same) (none_behind e es q p same)
       step false s = rw (other (t e.0)) refl
 
-  all-from : (t : Res → Bool) (es : Numbers) (hs : Held ℕ) → is_paired es ≡ true → with_all t es hs [] ≡ where_key R t (from (named es hs) (named es hs))
-  all-from t es hs p = same_entries R total exact (with_all t es hs []) (where_key R t (from (named es hs) (named es hs))) (with_all-sorted t es hs [] tt) (is_sorted-where_key R t _ (from-sorted (named es hs) (named es hs)))
-      (λ q. find-with_all t es hs [] q p ∙ ap (λ (l : List Elem). cond (t q) (found l None) None) (list_of-some es hs q (queue_number es q) p refl)
-      ∙ ap (λ (o : Option (List Elem)). cond (t q) o None) (found-shown (list_of (named es hs) q) ∙ sym (find-from (named es hs) (named es hs) q))
+  all-from : (t : Res → Bool) (es : Numbers) (hs : Held ℕ) → is_paired es ≡ true
+      → with_all t es hs [] ≡ where_key R t (from (named es hs) (named es hs))
+  all-from t es hs p =
+      same_entries R total exact (with_all t es hs []) (where_key R t (from (named es hs) (named es hs)))
+      (with_all-sorted t es hs [] tt) (is_sorted-where_key R t _ (from-sorted (named es hs) (named es hs)))
+      (λ q.
+      find-with_all t es hs [] q p
+      ∙ ap (λ (l : List Elem). cond (t q) (found l None) None) (list_of-some es hs q (queue_number es q) p refl)
+      ∙ ap (λ (o : Option (List Elem)). cond (t q) o None)
+      (found-shown (list_of (named es hs) q) ∙ sym (find-from (named es hs) (named es hs) q))
       ∙ sym (find-where_key R t q (λ x tied. ap t (sym (exact q x tied))) (from (named es hs) (named es hs))))
 
-with_list-with : (r : Res) (xs : List Elem) (m : Lists) → with_list r xs m ≡ with res_order res_total res_order-IsAntisymmetric same_res-tie r xs m
+with_list-with : (r : Res) (xs : List Elem) (m : Lists)
+    → with_list r xs m ≡ with res_order res_total res_order-IsAntisymmetric same_res-tie r xs m
 with_list-with r [] m = refl
 with_list-with r (x ∷ xs) m = refl
 
-with_some-with : (b : Bool) (r : Res) (xs : List Elem) (m : Lists) → cond b (with_list r xs m) m ≡ cond b (with res_order res_total res_order-IsAntisymmetric same_res-tie r xs m) m
+with_some-with : (b : Bool) (r : Res) (xs : List Elem) (m : Lists)
+    → cond b (with_list r xs m) m ≡ cond b (with res_order res_total res_order-IsAntisymmetric same_res-tie r xs m) m
 with_some-with true r xs m = with_list-with r xs m
 with_some-with false r xs m = refl
 
-with_lists-all : (t : Res → Bool) (es : Numbers) (hs : Held ℕ) (m : Lists) → with_lists t es hs m ≡ with_all res_order res_total res_order-IsAntisymmetric same_res-tie t es hs m
+with_lists-all : (t : Res → Bool) (es : Numbers) (hs : Held ℕ) (m : Lists)
+    → with_lists t es hs m ≡ with_all res_order res_total res_order-IsAntisymmetric same_res-tie t es hs m
 with_lists-all t [] hs m = refl
-with_lists-all t (e ∷ es) hs m = with_lists-all t es hs _ ∙ ap (with_all res_order res_total res_order-IsAntisymmetric same_res-tie t es hs) (with_some-with (t e.0) e.0 (list_at nat_eq hs e.1) m)
+with_lists-all t (e ∷ es) hs m =
+    with_lists-all t es hs _
+    ∙ ap (with_all res_order res_total res_order-IsAntisymmetric same_res-tie t es hs)
+    (with_some-with (t e.0) e.0 (list_at nat_eq hs e.1) m)
 
-lists_from-from : (s hs : State) → lists_from s hs ≡ from res_order res_total res_order-IsAntisymmetric same_res-tie s hs
+lists_from-from : (s hs : State)
+    → lists_from s hs ≡ from res_order res_total res_order-IsAntisymmetric same_res-tie s hs
 lists_from-from s [] = refl
 lists_from-from s (h ∷ hs) = ap (put res_order h.0 (list_of s h.0)) (lists_from-from s hs)
 
 -- the lists of all numbers that pass are those of the resources that they name
-pub with_lists-named : (t : Res → Bool) (es : Numbers) (hs : Held ℕ) → is_paired es ≡ true → with_lists t es hs [] ≡ filter (λ e. t e.0) (lists_of (named es hs))
-with_lists-named t es hs p = with_lists-all t es hs [] ∙ all-from res_order res_total res_order-IsAntisymmetric same_res-tie t es hs p ∙ ap (filter (λ (e : Res × List Elem). t e.0)) (sym (lists_from-from (named es hs) (named es hs)))
+pub with_lists-named : (t : Res → Bool) (es : Numbers) (hs : Held ℕ) → is_paired es ≡ true
+    → with_lists t es hs [] ≡ filter (λ e. t e.0) (lists_of (named es hs))
+with_lists-named t es hs p =
+    with_lists-all t es hs []
+    ∙ all-from res_order res_total res_order-IsAntisymmetric same_res-tie t es hs p
+    ∙ ap (filter (λ (e : Res × List Elem). t e.0)) (sym (lists_from-from (named es hs) (named es hs)))
 
 -- the list of one number more
-pub with_lists-more : (t : Res → Bool) (es : Numbers) (i : ℕ) (e : Res × ℕ) (hs : Held ℕ) (m more all : Lists) → slice_get es i ≡ Some e → with_lists t (drop i es) hs m ≡ all → more ≡ cond (t e.0) (with_list e.0 (list_at nat_eq hs e.1) m) m → with_lists t (drop (i + 1) es) hs more ≡ all
+pub with_lists-more : (t : Res → Bool) (es : Numbers) (i : ℕ) (e : Res × ℕ) (hs : Held ℕ) (m more all : Lists)
+    → slice_get es i ≡ Some e → with_lists t (drop i es) hs m ≡ all
+    → more ≡ cond (t e.0) (with_list e.0 (list_at nat_eq hs e.1) m) m → with_lists t (drop (i + 1) es) hs more ≡ all
 with_lists-more t es i e hs m more all at so_far is =
-    ap (with_lists t (drop (i + 1) es) hs) is ∙ ap (λ (l : Numbers). with_lists t l hs m) (sym (drop_at_get es i e at)) ∙ so_far
+    ap (with_lists t (drop (i + 1) es) hs) is
+    ∙ ap (λ (l : Numbers). with_lists t l hs m) (sym (drop_at_get es i e at))
+    ∙ so_far
 
 -- what is put in of a list that isn't empty
-pub with_list-some : (r x : Res) (xs ys : List Elem) (old new : List (Placed × List Elem)) → x ≡ r → ys ≡ xs → length ys ≢ 0 → new ≡ insert_entry (on (λ p. p.res) res_order) old (record { res = x }) ys → plain new ≡ with_list r xs (plain old)
+pub with_list-some : (r x : Res) (xs ys : List Elem) (old new : List (Placed × List Elem)) → x ≡ r → ys ≡ xs
+    → length ys ≢ 0 → new ≡ insert_entry (on (λ p. p.res) res_order) old (record { res = x }) ys
+    → plain new ≡ with_list r xs (plain old)
 with_list-some r x xs [] old new same list some is = absurd (some refl)
 with_list-some r x xs (y ∷ ys) old new same list some is =
-    ap plain is ∙ plain-insert old x (y ∷ ys) ∙ ap (λ (a : Res). put res_order a (y ∷ ys) (plain old)) same ∙ ap (λ (l : List Elem). with_list r l (plain old)) list
+    ap plain is
+    ∙ plain-insert old x (y ∷ ys)
+    ∙ ap (λ (a : Res). put res_order a (y ∷ ys) (plain old)) same
+    ∙ ap (λ (l : List Elem). with_list r l (plain old)) list
 
 -- when all numbers are passed
-pub with_lists-end : (t : Res → Bool) (es : Numbers) (i : ℕ) (hs : Held ℕ) (m all : Lists) → length es ≤ i → with_lists t (drop i es) hs m ≡ all → m ≡ all
+pub with_lists-end : (t : Res → Bool) (es : Numbers) (i : ℕ) (hs : Held ℕ) (m all : Lists) → length es ≤ i
+    → with_lists t (drop i es) hs m ≡ all → m ≡ all
 with_lists-end t es i hs m all past h = ap (λ (l : Numbers). with_lists t l hs m) (sym (drop_of_length-le es past)) ∙ h
 
 -- rows that pass of lists that may be shown
@@ -191,18 +238,24 @@ matches_true All r w h = refl
 matches_true Contended r w h = refl
 matches_true (Named q s) r w h = h
 
-shows_may : (o : Option Place) (f : Filter) (r : Res) (w : Bool) → may_show o f r ≡ false → (is_of o r && matches f r w) ≡ false
+shows_may : (o : Option Place) (f : Filter) (r : Res) (w : Bool) → may_show o f r ≡ false
+    → (is_of o r && matches f r w) ≡ false
 shows_may o f r w h = grind (arith, h, matches_true f r w)
 
 may_of : (o : Option Place) (f : Filter) (r : Res) → may_show o f r ≡ true → is_of o r ≡ true
 may_of o f r h = grind (arith, h)
 
-pub rows-shown : (o : Option Place) (f : Filter) (ls : Lists) → filter (passes f) (map row_of (filter (λ e. may_show o f e.0) ls)) ≡ filter (shows o f) (map row_of ls)
+pub rows-shown : (o : Option Place) (f : Filter) (ls : Lists)
+    → filter (passes f) (map row_of (filter (λ e. may_show o f e.0) ls)) ≡ filter (shows o f) (map row_of ls)
 rows-shown o f [] = refl
 rows-shown o f (e ∷ ls) = step (may_show o f e.0) refl (rows-shown o f ls)
   where
-    step : (b : Bool) → may_show o f e.0 ≡ b → filter (passes f) (map row_of (filter (λ x. may_show o f x.0) ls)) ≡ filter (shows o f) (map row_of ls) →
-        filter (passes f) (map row_of (cond b (e ∷ filter (λ x. may_show o f x.0) ls) (filter (λ x. may_show o f x.0) ls))) ≡ cond (is_of o e.0 && passes f (row_of e)) (row_of e ∷ filter (shows o f) (map row_of ls)) (filter (shows o f) (map row_of ls))
+    step : (b : Bool) → may_show o f e.0 ≡ b
+        → filter (passes f) (map row_of (filter (λ x. may_show o f x.0) ls)) ≡ filter (shows o f) (map row_of ls) →
+        filter (passes f)
+        (map row_of (cond b (e ∷ filter (λ x. may_show o f x.0) ls) (filter (λ x. may_show o f x.0) ls)))
+        ≡ cond (is_of o e.0 && passes f (row_of e)) (row_of e ∷ filter (shows o f) (map row_of ls))
+        (filter (shows o f) (map row_of ls))
     step true m rest = rw (may_of o f e.0 m) (ap (λ (l : List Row). cond (passes f (row_of e)) (row_of e ∷ l) l) rest)
     step false m rest = rw (shows_may o f e.0 (is_contended (row_of e)) m) rest
 

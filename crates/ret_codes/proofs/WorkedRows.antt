@@ -40,13 +40,15 @@ exclusive_owner_changes full = refl
 only_owner_changes : (full : Bool) → decide_enq (by t S ∷ []) t S RetChng full ≡ decided C00 MakeExclusive
 only_owner_changes full = refl
 
-waiters_hinder_no_change : (full : Bool) → decide_enq (by t S ∷ by u E ∷ []) t E RetChng full ≡ decided C00 MakeExclusive
+waiters_hinder_no_change : (full : Bool)
+    → decide_enq (by t S ∷ by u E ∷ []) t E RetChng full ≡ decided C00 MakeExclusive
 waiters_hinder_no_change full = refl
 
 owners_hinder_a_change : (full : Bool) → decide_enq (by t S ∷ by u S ∷ []) t E RetChng full ≡ decided C04 Nothing
 owners_hinder_a_change full = refl
 
-owners_in_front_hinder_a_change : (full : Bool) → decide_enq (by u S ∷ by t S ∷ by v E ∷ []) t E RetChng full ≡ decided C04 Nothing
+owners_in_front_hinder_a_change : (full : Bool)
+    → decide_enq (by u S ∷ by t S ∷ by v E ∷ []) t E RetChng full ≡ decided C04 Nothing
 owners_in_front_hinder_a_change full = refl
 
 -- a task that waits

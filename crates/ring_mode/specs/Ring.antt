@@ -41,7 +41,9 @@ answer_own v q answer =
 -- first; then control is told to the tasks that became owners.
 unfoldable pub process : Side → Req → Side
 process n q = record {
-  tasks = tell_new (answer_own n.tasks q (answer_to n.shared q.task q.want)) (res_wanted q.want) (new_owners n.shared q.task q.want);
+  tasks =
+      tell_new (answer_own n.tasks q (answer_to n.shared q.task q.want)) (res_wanted q.want)
+      (new_owners n.shared q.task q.want);
   shared = after_want n.shared q.task q.want;
 }
 

@@ -42,17 +42,24 @@ all : matches_pattern (codes "*") [] ≡ true
 all = refl
 
 -- a generic entry wants the rname to begin with its own
-longer : matches (record { which = Incl; form = Generic; q = codes "A"; r = Some (codes "AB") }) (codes "A") (codes "ABC") ≡ true
+longer :
+    matches (record { which = Incl; form = Generic; q = codes "A"; r = Some (codes "AB") }) (codes "A") (codes "ABC")
+    ≡ true
 longer = refl
 
-shorter : matches (record { which = Incl; form = Generic; q = codes "A"; r = Some (codes "AB") }) (codes "A") (codes "A") ≡ false
+shorter :
+    matches (record { which = Incl; form = Generic; q = codes "A"; r = Some (codes "AB") }) (codes "A") (codes "A")
+    ≡ false
 shorter = refl
 
-other_qname : matches (record { which = Incl; form = Generic; q = codes "A"; r = None }) (codes "AB") (codes "X") ≡ false
+other_qname : matches (record { which = Incl; form = Generic; q = codes "A"; r = None }) (codes "AB") (codes "X")
+    ≡ false
 other_qname = refl
 
 -- a specific one wants it equal, and has to have one
-equal : matches (record { which = Incl; form = Specific; q = codes "A"; r = Some (codes "AB") }) (codes "A") (codes "ABC") ≡ false
+equal :
+    matches (record { which = Incl; form = Specific; q = codes "A"; r = Some (codes "AB") }) (codes "A") (codes "ABC")
+    ≡ false
 equal = refl
 
 without : matches (record { which = Incl; form = Specific; q = codes "A"; r = None }) (codes "A") (codes "A") ≡ false

@@ -13,7 +13,8 @@ use Rattle.rnl_syntax.specs.declared.operands.Rnldef.{Rnldef}
 use Rattle.rnl_syntax.specs.Operands.{no_operands, which_of, form_of, value_of, operand_at, whole, rnldef_at}
 use Rattle.rnl_syntax.specs.Spelled.{Operand, WithRnl, WithType, WithQname, WithRname, operand, IsFree, set, IsRnldef}
 
-operand_again : (x : Operand) (o : Operands) (rest : List Token) → IsFree x o → operand_at o (operand x ++ rest) ≡ Some (set x o, rest)
+operand_again : (x : Operand) (o : Operands) (rest : List Token) → IsFree x o
+    → operand_at o (operand x ++ rest) ≡ Some (set x o, rest)
 unfolding operand_at value_of which_of form_of
 operand_again (WithRnl Incl) o rest h = rw h refl
 operand_again (WithRnl Excl) o rest h = rw h refl
@@ -41,10 +42,18 @@ fewer (WithType form) o h = rw h (omega arith)
 fewer (WithQname t q) o h = rw h.0 (omega arith)
 fewer (WithRname t r) o h = rw h.0 (omega arith)
 
-operands_again : (given : List Operand) (o : Operands) → Sets IsFree set no_operands given o → up_to 4 operand_at no_operands (flat_map operand given) ≡ Some o
+operands_again : (given : List Operand) (o : Operands) → Sets IsFree set no_operands given o
+    → up_to 4 operand_at no_operands (flat_map operand given) ≡ Some o
 unfolding free_kinds
-operands_again given o h = all_again IsFree set operand operand_at free_kinds long operand_again fewer 4 given no_operands o (lit≤ tt) h
+operands_again given o h =
+    all_again IsFree set operand operand_at free_kinds long operand_again fewer 4 given no_operands o (lit≤ tt) h
 
 pub rnldef_again : (ts : List Token) (d : Rnldef) → IsRnldef ts d → rnldef_at ts ≡ Some d
 unfolding rnldef_at whole
-rnldef_again ts d h = rw (h.spelled, operands_again h.given (record { which = Some d.which; form = Some d.form; q = Some d.q; r = d.r }) h.operands, h.needed) refl
+rnldef_again ts d h =
+    rw (
+      h.spelled,
+      operands_again h.given (record { which = Some d.which; form = Some d.form; q = Some d.q; r = d.r }) h.operands,
+      h.needed,
+    )
+    refl

@@ -9,7 +9,8 @@ use Rattle.rnl_syntax.specs.Spelled.{Answers}
 use Rattle.rnl_syntax.proofs.Taken.{rnldef_taken}
 use Rattle.rnl_syntax.proofs.Again.{rnldef_again}
 
-pub rnldef_answers : (r : Result Rnldef Miss) (ts : List Token) → Reads (λ (x : Rnldef). x) r (rnldef_at ts) → Answers r ts
+pub rnldef_answers : (r : Result Rnldef Miss) (ts : List Token) → Reads (λ (x : Rnldef). x) r (rnldef_at ts)
+    → Answers r ts
 rnldef_answers (Ok d) ts h = rnldef_taken ts d h
 rnldef_answers (Err e) ts h = λ d spelled. none d (rnldef_again ts d spelled)
   where

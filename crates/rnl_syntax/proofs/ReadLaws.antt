@@ -1,5 +1,6 @@
 -- The reader of an RNLDEF answers what its text spells, and uses the bytes of the statement.
-use Rattle.std.proofs.Common.{◌≡◌, ℕ, Bool, true, false, cond, ltb, List, [], ◌∷◌, ◌++◌, Option, Some, None, Result, Ok, Err, refl, sym, ap, subst, ◌∙◌, arith, append_assoc}
+use Rattle.std.proofs.Common.{◌≡◌, ℕ, Bool, true, false, cond, ltb, List, [], ◌∷◌, ◌++◌, Option, Some, None, Result, Ok}
+use Rattle.std.proofs.Common.{Err, refl, sym, ap, subst, ◌∙◌, arith, append_assoc}
 use Rattle.std.specs.Prelude.{codes}
 use Rattle.std.specs.List.{flat_map}
 use Rattle.std.proofs.lemmas.Bool.{ltb-false, ltb-true}
@@ -26,7 +27,8 @@ use Rattle.rnl_syntax.specs.declared.operands.Rnldef.{Rnldef}
 use Rattle.rnl_syntax.specs.Lines.{goes_on, with_line, is_rnldef_word, first_from}
 use Rattle.rnl_syntax.specs.Operands.{no_operands, rnldef_at, has_bad_name, entry_of}
 use Rattle.rnl_syntax.specs.Spelled.{Operand, WithRnl, WithType, WithQname, WithRname, operand, IsFree, set, IsRnldef}
-use Rattle.rnl_syntax.specs.Reading.{first_statement, by_word, by_first, rnldef_on, sized, entry_on, reading, MakesEntry, SpellsEntry, IsStatement, Found}
+use Rattle.rnl_syntax.specs.Reading.{first_statement, by_word, by_first, rnldef_on, sized, entry_on, reading}
+use Rattle.rnl_syntax.specs.Reading.{MakesEntry, SpellsEntry, IsStatement, Found}
 use Rattle.rnl_syntax.proofs.Taken.{rnldef_taken}
 use Rattle.rnl_syntax.proofs.Again.{rnldef_again}
 use Rattle.rnl_syntax.proofs.Closed.{is_close, last_closes, line_closes, last_closes-append}
@@ -53,8 +55,13 @@ record Worded (ts : List Token) (d : Rnldef) : Type 0 where
 word_there : (at : ℕ) (w : List ℕ) (ts : List Token) (d : Rnldef) → by_word at w ts ≡ Ok d → Worded (Word w ∷ ts) d
 word_there at w ts d e = go (is_rnldef_word w) refl e
   where
-    go : (b : Bool) → is_rnldef_word w ≡ b → cond b (or_bad at (rnldef_at ts)) (refused at UnknownStatement) ≡ Ok d → Worded (Word w ∷ ts) d
-    go true is k = record { behind = ts; parts = ap (λ (x : List ℕ). Word x ∷ ts) (same_bytes w (codes "RNLDEF") is); says = rnldef_taken ts d (some_bad at (rnldef_at ts) d k) }
+    go : (b : Bool) → is_rnldef_word w ≡ b → cond b (or_bad at (rnldef_at ts)) (refused at UnknownStatement) ≡ Ok d
+        → Worded (Word w ∷ ts) d
+    go true is k = record {
+      behind = ts;
+      parts = ap (λ (x : List ℕ). Word x ∷ ts) (same_bytes w (codes "RNLDEF") is);
+      says = rnldef_taken ts d (some_bad at (rnldef_at ts) d k);
+    }
     go false is k = absurd cc
 
 first_there : (at : ℕ) (ts : List Token) (d : Rnldef) → by_first at ts ≡ Ok d → Worded ts d
@@ -67,11 +74,13 @@ statement_there : (s : TokenLine) (d : Rnldef) → rnldef_on s ≡ Ok d → (s.j
 unfolding rnldef_on
 statement_there s d e = go s.joined refl e
   where
-    go : (b : Bool) → s.joined ≡ b → cond b (refused s.at UnknownStatement) (by_first s.at s.tokens) ≡ Ok d → (s.joined ≡ false) × Worded s.tokens d
+    go : (b : Bool) → s.joined ≡ b → cond b (refused s.at UnknownStatement) (by_first s.at s.tokens) ≡ Ok d
+        → (s.joined ≡ false) × Worded s.tokens d
     go true is k = absurd cc
     go false is k = (is, first_there s.at s.tokens d k)
 
-pub there_statement : (s : TokenLine) (ts : List Token) (d : Rnldef) → s.joined ≡ false → s.tokens ≡ Word (codes "RNLDEF") ∷ ts → IsRnldef ts d → rnldef_on s ≡ Ok d
+pub there_statement : (s : TokenLine) (ts : List Token) (d : Rnldef) → s.joined ≡ false
+    → s.tokens ≡ Word (codes "RNLDEF") ∷ ts → IsRnldef ts d → rnldef_on s ≡ Ok d
 unfolding rnldef_on
 there_statement s ts d apart parts says = rw (apart, parts, rnldef_again ts d says) refl
 
@@ -81,7 +90,8 @@ statement_of s d h = let t = statement_there s d h in (t.0, (t.1.behind, t.1.par
 sized_ok : (at : ℕ) (d : Rnldef) (e : RnlEntry) → sized at d ≡ Ok e → (has_bad_name d ≡ false) × (entry_of d ≡ e)
 sized_ok at d e h = go (has_bad_name d) refl h
   where
-    go : (b : Bool) → has_bad_name d ≡ b → cond b (refused at NameLength) (Ok (entry_of d)) ≡ Ok e → (has_bad_name d ≡ false) × (entry_of d ≡ e)
+    go : (b : Bool) → has_bad_name d ≡ b → cond b (refused at NameLength) (Ok (entry_of d)) ≡ Ok e
+        → (has_bad_name d ≡ false) × (entry_of d ≡ e)
     go true is k = absurd cc
     go false is k = (is, entry_is (entry_of d) e k)
 
@@ -129,9 +139,17 @@ reading_makes text e h =
 -- What is made is read.
 pub makes_reading : (text : List ℕ) (e : RnlEntry) → MakesEntry text e → reading text ≡ Ok e
 unfolding reading
-makes_reading text e h = rw (lines_are text h.lines h.spelled, h.first, there_statement h.statement h.behind h.rnldef h.apart h.parts h.says, h.names) (ap read_as h.makes)
+makes_reading text e h =
+    rw (
+      lines_are text h.lines h.spelled,
+      h.first,
+      there_statement h.statement h.behind h.rnldef h.apart h.parts h.says,
+      h.names,
+    )
+    (ap read_as h.makes)
 
-pub entry_read : (text : List ℕ) (ls : List TokenLine) (o : Option TokenLine) (r : Result RnlEntry ReadError) → SpellsLines (readable text) ls → o ≡ first_statement ls → Gives r (entry_on o) → Gives r (reading text)
+pub entry_read : (text : List ℕ) (ls : List TokenLine) (o : Option TokenLine) (r : Result RnlEntry ReadError)
+    → SpellsLines (readable text) ls → o ≡ first_statement ls → Gives r (entry_on o) → Gives r (reading text)
 unfolding reading
 entry_read text ls o r spelled is h = rw (lines_are text ls spelled, ← is) h
 
@@ -150,7 +168,9 @@ nothing_more : (s l : TokenLine) → l.tokens ≡ [] → with_line s l ≡ s
 nothing_more s l e = rw (e, append-nil s.tokens) refl
 
 -- the next line has tokens or has none
-head_next : (s l : TokenLine) (ls more : List TokenLine) (ts : List Token) → l.tokens ≡ ts → goes_on s l ≡ true → ls ≡ more → first_from (with_line s l) [] ≡ first_from (with_line s l) ls → last_closes (s.tokens ++ ts) ≡ true → Head s (l ∷ ls)
+head_next : (s l : TokenLine) (ls more : List TokenLine) (ts : List Token) → l.tokens ≡ ts → goes_on s l ≡ true
+    → ls ≡ more → first_from (with_line s l) [] ≡ first_from (with_line s l) ls → last_closes (s.tokens ++ ts) ≡ true
+    → Head s (l ∷ ls)
 unfolding first_from
 head_next s l ls more [] none e parts is closes = record {
   own = [];
@@ -169,7 +189,10 @@ head_next s l ls more (t ∷ ts) some e parts is closes = record {
   all = rw e (ap (λ (x : List Token). s.tokens ++ x) (sym (append-nil l.tokens)));
 }
 
-head_more : (s l : TokenLine) (ls own more : List TokenLine) → goes_on s l ≡ true → ls ≡ own ++ more → first_from (with_line s l) own ≡ first_from (with_line s l) ls → line_closes (with_line s l ∷ own) ≡ true → (first_from (with_line s l) own).tokens ≡ (s.tokens ++ l.tokens) ++ flat_map (λ (m : TokenLine). m.tokens) own → Head s (l ∷ ls)
+head_more : (s l : TokenLine) (ls own more : List TokenLine) → goes_on s l ≡ true → ls ≡ own ++ more
+    → first_from (with_line s l) own ≡ first_from (with_line s l) ls → line_closes (with_line s l ∷ own) ≡ true
+    → (first_from (with_line s l) own).tokens ≡ (s.tokens ++ l.tokens) ++ flat_map (λ (m : TokenLine). m.tokens) own
+    → Head s (l ∷ ls)
 unfolding first_from
 head_more s l ls [] more e parts is closes all = head_next s l ls more l.tokens refl e parts is closes
 head_more s l ls (m ∷ ms) more e parts is closes all = record {
@@ -186,9 +209,17 @@ unfolding first_from
 head_of [] s h = record { own = []; more = []; parts = refl; is = refl; closes = h; all = sym (append-nil s.tokens) }
 head_of (l ∷ ls) s h = go (goes_on s l) refl h (λ k. head_of ls (with_line s l) k)
   where
-    go : (b : Bool) → goes_on s l ≡ b → last_closes (cond b (first_from (with_line s l) ls) s).tokens ≡ true → (last_closes (first_from (with_line s l) ls).tokens ≡ true → Head (with_line s l) ls) → Head s (l ∷ ls)
+    go : (b : Bool) → goes_on s l ≡ b → last_closes (cond b (first_from (with_line s l) ls) s).tokens ≡ true
+        → (last_closes (first_from (with_line s l) ls).tokens ≡ true → Head (with_line s l) ls) → Head s (l ∷ ls)
     go true e k next = let n = next k in head_more s l ls n.own n.more e n.parts n.is n.closes n.all
-    go false e k next = record { own = []; more = l ∷ ls; parts = refl; is = rw e refl; closes = k; all = sym (append-nil s.tokens) }
+    go false e k next = record {
+      own = [];
+      more = l ∷ ls;
+      parts = refl;
+      is = rw e refl;
+      closes = k;
+      all = sym (append-nil s.tokens);
+    }
 
 -- ---- the last operand
 
@@ -199,14 +230,17 @@ close_all (WithType form ∷ xs) t h = close_all xs Close refl
 close_all (WithQname u q ∷ xs) t h = close_all xs Close refl
 close_all (WithRname u r ∷ xs) t h = close_all xs Close refl
 
-given_close : (xs : List Operand) (t : Token) (d : Rnldef) → Sets IsFree set no_operands xs (record { which = Some d.which; form = Some d.form; q = Some d.q; r = d.r }) → last_closes (t ∷ flat_map operand xs) ≡ true
+given_close : (xs : List Operand) (t : Token) (d : Rnldef)
+    → Sets IsFree set no_operands xs (record { which = Some d.which; form = Some d.form; q = Some d.q; r = d.r })
+    → last_closes (t ∷ flat_map operand xs) ≡ true
 given_close [] t d h = absurd (let z : Some d.which ≡ None = ap (λ (o : Operands). o.which) h in cc)
 given_close (WithRnl which ∷ xs) t d h = close_all xs Close refl
 given_close (WithType form ∷ xs) t d h = close_all xs Close refl
 given_close (WithQname u q ∷ xs) t d h = close_all xs Close refl
 given_close (WithRname u r ∷ xs) t d h = close_all xs Close refl
 
-statement_closes : (ts behind : List Token) (t : Token) (d : Rnldef) → ts ≡ t ∷ behind → IsRnldef behind d → last_closes ts ≡ true
+statement_closes : (ts behind : List Token) (t : Token) (d : Rnldef) → ts ≡ t ∷ behind → IsRnldef behind d
+    → last_closes ts ≡ true
 statement_closes ts behind t d parts h = rw (parts, h.spelled) (given_close h.given t d h.operands)
 
 -- ---- the front
@@ -221,15 +255,20 @@ pub record MadeFront (text : List ℕ) (e : RnlEntry) (s : TokenLine) : Type 0 w
   pub same : makes.statement ≡ s
   pub tokens : flat_map (λ (l : TokenLine). l.tokens) makes.lines ≡ s.tokens
 
-pub makes_front : (text : List ℕ) (e : RnlEntry) (lines : List TokenLine) (h : MakesEntry text e) → h.lines ≡ lines → MadeFront text e h.statement
+pub makes_front : (text : List ℕ) (e : RnlEntry) (lines : List TokenLine) (h : MakesEntry text e) → h.lines ≡ lines
+    → MadeFront text e h.statement
 makes_front text e [] h none = absurd (let z : None ≡ Some h.statement = sym (ap first_statement none) ∙ h.first in cc)
 makes_front text e (l ∷ ls) h is =
     let first : Some (first_from l ls) ≡ Some h.statement = sym (ap first_statement is) ∙ h.first in
     let same : first_from l ls ≡ h.statement = cc in
-    let closes : last_closes (first_from l ls).tokens ≡ true = ap (λ (s : TokenLine). last_closes s.tokens) same ∙ statement_closes h.statement.tokens h.behind (Word (codes "RNLDEF")) h.rnldef h.parts h.says in
+    let closes : last_closes (first_from l ls).tokens ≡ true =
+    ap (λ (s : TokenLine). last_closes s.tokens) same
+    ∙ statement_closes h.statement.tokens h.behind (Word (codes "RNLDEF")) h.rnldef h.parts h.says in
     let head = head_of ls l closes in
     let all : h.lines ≡ (l ∷ head.own) ++ head.more = is ∙ ap (λ (x : List TokenLine). l ∷ x) head.parts in
-    let f = front_spells (readable text) (l ∷ head.own) head.more (subst (λ (x : List TokenLine). SpellsLines (readable text) x) all h.spelled) head.closes in
+    let f =
+    front_spells (readable text) (l ∷ head.own) head.more
+    (subst (λ (x : List TokenLine). SpellsLines (readable text) x) all h.spelled) head.closes in
     let cut = cut_readable text f.front f.back f.parts in
     record {
       front = f.front;
@@ -265,9 +304,11 @@ same_used text e n m a b = go (ltb n m) (ltb m n) refl refl
     go false true is k = absurd (a.fewest m (ltb-true m n k) b.front)
     go false false is k = let low = ltb-false n m is in let high = ltb-false m n k in omega (arith, low, high)
 
-pub only : (text : List ℕ) (r : Result (RnlEntry × ℕ) ReadError) → Found r text → (e : RnlEntry) (used : ℕ) → SpellsEntry text e used → IsOkUnlessMemory r (e, used)
+pub only : (text : List ℕ) (r : Result (RnlEntry × ℕ) ReadError) → Found r text → (e : RnlEntry) (used : ℕ)
+    → SpellsEntry text e used → IsOkUnlessMemory r (e, used)
 only text (Ok x) h e used s =
     let same : x.0 ≡ e = entry_is x.0 e (sym h.0 ∙ makes_reading text e s.makes) in
     rw (same, same_used text e x.1 used (subst (λ (y : RnlEntry). SpellsEntry text y x.1) same h.1) s) refl
 only text (Err read_errors.NoMemory) h e used s = tt
-only text (Err (read_errors.Fault f)) h e used s = absurd (let k : read_as e ≡ Err f = sym (makes_reading text e s.makes) ∙ h in cc)
+only text (Err (read_errors.Fault f)) h e used s =
+    absurd (let k : read_as e ≡ Err f = sym (makes_reading text e s.makes) ∙ h in cc)

@@ -1,5 +1,7 @@
 -- The bytes that an RNLDEF uses are its own: a shorter front has fewer closing parentheses.
-use Rattle.std.proofs.Common.{◌≡◌, ℕ, ◌+◌, ◌<◌, ◌≤◌, Bool, true, false, cond, ltb, List, [], ◌∷◌, ◌++◌, length, take, drop, Option, Some, None, Ok, refl, sym, ap, subst, ◌∙◌, arith, append_assoc, length-append}
+use Rattle.std.proofs.Common.{◌≡◌, ℕ, ◌+◌, ◌<◌, ◌≤◌, Bool, true, false, cond, ltb, List, [], ◌∷◌, ◌++◌, length, take}
+use Rattle.std.proofs.Common.{drop, Option, Some, None, Ok, refl, sym, ap, subst, ◌∙◌, arith, append_assoc}
+use Rattle.std.proofs.Common.{length-append}
 use Rattle.std.specs.Prelude.{is_none}
 use Rattle.std.specs.List.{flat_map}
 use Rattle.std.proofs.Math.Seq.{take-append_seam}
@@ -40,29 +42,42 @@ statement_closes text e h =
     omega (arith, parts, own, r)
 
 -- and the lines of the text have no fewer
-made_closes : (text : List ℕ) (e : RnlEntry) (h : MakesEntry text e) (lines : List TokenLine) → h.lines ≡ lines → 3 + some e.r ≤ all_closes lines
+made_closes : (text : List ℕ) (e : RnlEntry) (h : MakesEntry text e) (lines : List TokenLine) → h.lines ≡ lines
+    → 3 + some e.r ≤ all_closes lines
 made_closes text e h [] none = absurd (let z : None ≡ Some h.statement = sym (ap first_statement none) ∙ h.first in cc)
 made_closes text e h (l ∷ ls) is =
     let first : Some (first_from l ls) ≡ Some h.statement = sym (ap first_statement is) ∙ h.first in
     let same : first_from l ls ≡ h.statement = cc in
     let few = first_closes ls l in
-    let tokens : closes (first_from l ls).tokens ≡ closes h.statement.tokens = ap (λ (s : TokenLine). closes s.tokens) same in
+    let tokens : closes (first_from l ls).tokens ≡ closes h.statement.tokens =
+    ap (λ (s : TokenLine). closes s.tokens) same in
     let own = statement_closes text e h in
     omega (arith, few, tokens, own)
 
 -- A text that is a statement alone, and ends with its last parenthesis, has no shorter front that makes the entry.
-pub no_shorter : (text init behind : List ℕ) (e : RnlEntry) (lines : List TokenLine) → text ≡ init ++ 41 ∷ [] → SpellsLines text lines → line_closes lines ≡ true → all_closes lines ≡ 3 + some e.r → (n : ℕ) → n < length text → ends_closed (take n (text ++ behind)) ≡ true → MakesEntry (take n (text ++ behind)) e → ⊥
+pub no_shorter : (text init behind : List ℕ) (e : RnlEntry) (lines : List TokenLine) → text ≡ init ++ 41 ∷ []
+    → SpellsLines text lines → line_closes lines ≡ true → all_closes lines ≡ 3 + some e.r → (n : ℕ) → n < length text
+    → ends_closed (take n (text ++ behind)) ≡ true → MakesEntry (take n (text ++ behind)) e → ⊥
 no_shorter text init behind e lines parts spelled last few n lt closed made =
     let long : length text ≡ length (init ++ 41 ∷ []) = ap length parts in
     let within : n ≤ length init = omega (arith, lt, long, length-append init (41 ∷ [])) in
-    let cut : take n (text ++ behind) ≡ take n init = take-append-le n text behind (omega (arith, lt)) ∙ ap (take n) parts ∙ take-append-le n init (41 ∷ []) within in
+    let cut : take n (text ++ behind) ≡ take n init =
+    take-append-le n text behind (omega (arith, lt)) ∙ ap (take n) parts ∙ take-append-le n init (41 ∷ []) within in
     let low = made_closes (take n (text ++ behind)) e made made.lines refl in
-    let inside : take n (text ++ behind) ++ drop n text ≡ text = ap (λ (t : List ℕ). t ++ drop n text) (take-append-le n text behind (omega (arith, lt))) ∙ take-append-drop n text in
-    let good : bad_line 1 (take n (text ++ behind)) ≡ None = closed_allowed (take n (text ++ behind)) (drop n text) 1 (subst (λ (t : List ℕ). bad_line 1 t ≡ None) (sym inside) spelled.allowed) closed in
-    let plain : SpellsLines (take n (text ++ behind)) made.lines = subst (λ (t : List ℕ). SpellsLines t made.lines) (readable_all (take n (text ++ behind)) 1 good) made.spelled in
-    let own : all_closes made.lines ≡ all_closes (lines_of (take n init)) = ap all_closes (sym (spelled_is (take n (text ++ behind)) made.lines plain)) ∙ ap (λ (t : List ℕ). all_closes (lines_of t)) cut in
+    let inside : take n (text ++ behind) ++ drop n text ≡ text =
+    ap (λ (t : List ℕ). t ++ drop n text) (take-append-le n text behind (omega (arith, lt)))
+    ∙ take-append-drop n text in
+    let good : bad_line 1 (take n (text ++ behind)) ≡ None =
+    closed_allowed (take n (text ++ behind)) (drop n text) 1
+    (subst (λ (t : List ℕ). bad_line 1 t ≡ None) (sym inside) spelled.allowed) closed in
+    let plain : SpellsLines (take n (text ++ behind)) made.lines =
+    subst (λ (t : List ℕ). SpellsLines t made.lines) (readable_all (take n (text ++ behind)) 1 good) made.spelled in
+    let own : all_closes made.lines ≡ all_closes (lines_of (take n init)) =
+    ap all_closes (sym (spelled_is (take n (text ++ behind)) made.lines plain))
+    ∙ ap (λ (t : List ℕ). all_closes (lines_of t)) cut in
     let more = front_closes (take n init) (drop n init) in
-    let whole : all_closes (lines_of (take n init ++ drop n init)) ≡ all_closes (lines_of init) = ap (λ (t : List ℕ). all_closes (lines_of t)) (take-append-drop n init) in
+    let whole : all_closes (lines_of (take n init ++ drop n init)) ≡ all_closes (lines_of init) =
+    ap (λ (t : List ℕ). all_closes (lines_of t)) (take-append-drop n init) in
     let said : lines_of (init ++ 41 ∷ []) ≡ lines = ap lines_of (sym parts) ∙ spelled_is text lines spelled in
     let end = last_close init (ap line_closes said ∙ last) in
     let count : all_closes (lines_of (init ++ 41 ∷ [])) ≡ all_closes lines = ap all_closes said in
@@ -85,7 +100,8 @@ own text e h =
     let parts : text ≡ whole ++ m.back = m.parts ∙ sym (append_assoc m.front (41 ∷ []) m.back) in
     let long : length text ≡ length (whole ++ m.back) = ap length parts in
     let cut : take (length whole) text ≡ whole = ap (take (length whole)) parts ∙ take-append_seam whole m.back in
-    let few : all_closes m.makes.lines ≡ 3 + some e.r = sym (row_closes m.makes.lines) ∙ ap closes m.tokens ∙ statement_closes text e h in
+    let few : all_closes m.makes.lines ≡ 3 + some e.r =
+    sym (row_closes m.makes.lines) ∙ ap closes m.tokens ∙ statement_closes text e h in
     record {
       made = m;
       parts = parts;
@@ -93,8 +109,15 @@ own text e h =
       count = ap all_closes (spelled_is whole m.makes.lines m.plain) ∙ few;
       spells = record {
         makes = h;
-        front = (omega (arith, long, length-append whole m.back), ap ends_closed cut ∙ ends_closed-snoc m.front 41, subst (λ (x : List ℕ). MakesEntry x e) (sym cut) m.makes);
-        fewest = λ n lt f. no_shorter whole m.front m.back e m.makes.lines refl m.plain m.closes few n lt (subst (λ (x : List ℕ). ends_closed (take n x) ≡ true) parts f.1) (subst (λ (x : List ℕ). MakesEntry (take n x) e) parts f.2);
+        front = (
+          omega (arith, long, length-append whole m.back),
+          ap ends_closed cut ∙ ends_closed-snoc m.front 41,
+          subst (λ (x : List ℕ). MakesEntry x e) (sym cut) m.makes,
+        );
+        fewest = λ n lt f.
+            no_shorter whole m.front m.back e m.makes.lines refl m.plain m.closes few n lt
+            (subst (λ (x : List ℕ). ends_closed (take n x) ≡ true) parts f.1)
+            (subst (λ (x : List ℕ). MakesEntry (take n x) e) parts f.2);
       };
     }
 
@@ -129,17 +152,21 @@ pub enough : (text : List ℕ) (e : RnlEntry) → reading text ≡ Ok e → oper
 enough text e read =
     let o = own text e (reading_makes text e read) in
     let more = front_closes (o.made.front ++ 41 ∷ []) o.made.back in
-    let all : all_closes (lines_of text) ≡ all_closes (lines_of ((o.made.front ++ 41 ∷ []) ++ o.made.back)) = ap (λ (t : List ℕ). all_closes (lines_of t)) o.parts in
+    let all : all_closes (lines_of text) ≡ all_closes (lines_of ((o.made.front ++ 41 ∷ []) ++ o.made.back)) =
+    ap (λ (t : List ℕ). all_closes (lines_of t)) o.parts in
     let count = o.count in
     let operands = operands_some e in
     omega (arith, more, all, count, operands)
 
 -- a shorter front has fewer
-less_closes : (init : List ℕ) → line_closes (lines_of (init ++ 41 ∷ [])) ≡ true → (n : ℕ) → n ≤ length init → all_closes (lines_of (take n init)) < all_closes (lines_of (init ++ 41 ∷ []))
-less_closes init last n within = let few = few_closes init n in let end = last_close init last in omega (arith, few, end)
+less_closes : (init : List ℕ) → line_closes (lines_of (init ++ 41 ∷ [])) ≡ true → (n : ℕ) → n ≤ length init
+    → all_closes (lines_of (take n init)) < all_closes (lines_of (init ++ 41 ∷ []))
+less_closes init last n within =
+    let few = few_closes init n in let end = last_close init last in omega (arith, few, end)
 
 -- The fewest bytes that have so many are the statement.
-pub used_by : (text : List ℕ) (e : RnlEntry) (used : ℕ) → reading text ≡ Ok e → HaveCloses text (operand_count e) used → SpellsEntry text e used
+pub used_by : (text : List ℕ) (e : RnlEntry) (used : ℕ) → reading text ≡ Ok e → HaveCloses text (operand_count e) used
+    → SpellsEntry text e used
 used_by text e used read h = go (ltb used (length whole)) (ltb (length whole) used) refl refl
   where
     o : Own text e (reading_makes text e read)
@@ -154,8 +181,10 @@ used_by text e used read h = go (ltb used (length whole)) (ltb (length whole) us
     low : used < length whole → ⊥
     low lt =
         let within : used ≤ length o.made.front = omega (arith, lt, length-append o.made.front (41 ∷ [])) in
-        let cut : take used text ≡ take used o.made.front = ap (take used) o.made.parts ∙ take-append-le used o.made.front (41 ∷ o.made.back) within in
-        let same : all_closes (lines_of (take used text)) ≡ all_closes (lines_of (take used o.made.front)) = ap (λ (t : List ℕ). all_closes (lines_of t)) cut in
+        let cut : take used text ≡ take used o.made.front =
+        ap (take used) o.made.parts ∙ take-append-le used o.made.front (41 ∷ o.made.back) within in
+        let same : all_closes (lines_of (take used text)) ≡ all_closes (lines_of (take used o.made.front)) =
+        ap (λ (t : List ℕ). all_closes (lines_of t)) cut in
         let less = less_closes o.made.front last used within in
         let count = o.count in
         let operands = operands_some e in
@@ -165,7 +194,8 @@ used_by text e used read h = go (ltb used (length whole)) (ltb (length whole) us
     high : length whole < used → ⊥
     high lt =
         let less = h.fewest (length whole) lt in
-        let same : all_closes (lines_of (take (length whole) text)) ≡ all_closes (lines_of whole) = ap (λ (t : List ℕ). all_closes (lines_of t)) o.cut in
+        let same : all_closes (lines_of (take (length whole) text)) ≡ all_closes (lines_of whole) =
+        ap (λ (t : List ℕ). all_closes (lines_of t)) o.cut in
         let count = o.count in
         let operands = operands_some e in
         omega (arith, less, same, count, operands)

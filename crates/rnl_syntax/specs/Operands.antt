@@ -50,8 +50,10 @@ with_r o r = once o.r (record o { r = Some r })
 -- The value of the operand of this word.
 unfoldable pub value_of : Operands → List ℕ → List Token → Option (Operands × List Token)
 value_of o w ts =
-    if bytes_eq w (codes "RNL") then (any_word_at ts >>= λ v. which_of v.0 >>= λ x. with_which o x >>= λ p. Some (p, v.1))
-    else if bytes_eq w (codes "TYPE") then (any_word_at ts >>= λ v. form_of v.0 >>= λ x. with_form o x >>= λ p. Some (p, v.1))
+    if bytes_eq w (codes "RNL")
+    then (any_word_at ts >>= λ v. which_of v.0 >>= λ x. with_which o x >>= λ p. Some (p, v.1))
+    else if bytes_eq w (codes "TYPE")
+    then (any_word_at ts >>= λ v. form_of v.0 >>= λ x. with_form o x >>= λ p. Some (p, v.1))
     else if bytes_eq w (codes "QNAME") then (name_at ts >>= λ v. with_q o v.0 >>= λ p. Some (p, v.1))
     else if bytes_eq w (codes "RNAME") then (name_at ts >>= λ v. with_r o v.0 >>= λ p. Some (p, v.1))
     else None

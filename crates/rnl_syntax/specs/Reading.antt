@@ -1,7 +1,8 @@
 -- The entry that a text makes whose first statement is an RNLDEF, and how many bytes that statement uses; or
 -- the fault of the statement. The text may have any length and any bytes: a byte that a deck may not have is
 -- part of no statement.
-use Rattle.std.specs.Prelude.{◌≡◌, ◌⊎◌, ℕ, Bool, true, false, ◌==◌, ◌<◌, ◌≤◌, List, [], ◌∷◌, length, take, codes, Option, Some, None, is_none, Result, Ok, Err, if◌then◌else◌}
+use Rattle.std.specs.Prelude.{◌≡◌, ◌⊎◌, ℕ, Bool, true, false, ◌==◌, ◌<◌, ◌≤◌, List, [], ◌∷◌, length, take, codes}
+use Rattle.std.specs.Prelude.{Option, Some, None, is_none, Result, Ok, Err, if◌then◌else◌}
 use Rattle.grs_base.specs.declared.fault.DeckFault.{DeckFault}
 use Rattle.grs_base.specs.declared.fault.Kind.{Kind}
 use Rattle.grs_base.specs.declared.fault.Kind.TheVariants.{UnknownStatement, BadOperand, NameLength}
@@ -109,7 +110,8 @@ abbrev pub IsWrong : Kind → ℕ → Option TokenLine → Type 0
 IsWrong UnknownStatement at None = at ≡ 1
 IsWrong UnknownStatement at (Some s) = (at ≡ s.at) × NoWord s
 IsWrong BadOperand at (Some s) = (at ≡ s.at) × (NoWord s → ⊥) × ((d : Rnldef) → IsStatement s.tokens d → ⊥)
-IsWrong NameLength at (Some s) = (at ≡ s.at) × (s.joined ≡ false) × ((d : Rnldef) × IsStatement s.tokens d × (has_bad_name d ≡ true))
+IsWrong NameLength at (Some s) =
+    (at ≡ s.at) × (s.joined ≡ false) × ((d : Rnldef) × IsStatement s.tokens d × (has_bad_name d ≡ true))
 IsWrong _ at s = ⊥
 
 -- A text has this fault in its first statement.

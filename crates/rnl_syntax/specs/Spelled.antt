@@ -58,7 +58,8 @@ set (WithRname t r) o = record o { r = Some r }
 pub record IsRnldef (ts : List Token) (d : Rnldef) : Type 0 where
   pub given : List Operand
   pub spelled : ts ≡ flat_map operand given
-  pub operands : Sets IsFree set no_operands given (record { which = Some d.which; form = Some d.form; q = Some d.q; r = d.r })
+  pub operands :
+      Sets IsFree set no_operands given (record { which = Some d.which; form = Some d.form; q = Some d.q; r = d.r })
   pub needed : (is_specific d.form && is_none d.r) ≡ false
 
 -- What is answered of the tokens behind the word RNLDEF: what they spell, or that they spell nothing.

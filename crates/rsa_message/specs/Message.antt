@@ -1,5 +1,6 @@
 -- The authority message: what it holds, what each call of it answers, and what it is afterwards.
-use Rattle.std.specs.Prelude.{ℕ, suc, ◌+◌, ◌%◌, Bool, true, false, cond, not, ◌==◌, ◌&&◌, ◌||◌, List, [], ◌∷◌, ◌++◌, length, map, filter, find, Option, Some, None}
+use Rattle.std.specs.Prelude.{ℕ, suc, ◌+◌, ◌%◌, Bool, true, false, cond, not, ◌==◌, ◌&&◌, ◌||◌, List, [], ◌∷◌, ◌++◌}
+use Rattle.std.specs.Prelude.{length, map, filter, find, Option, Some, None}
 use Rattle.std.specs.List.{range_with_len, list_any}
 use Rattle.grs_base.specs.declared.resource.SysId.{SysId}
 use Rattle.grs_wire.specs.declared.request.Req.{Req}
@@ -22,7 +23,14 @@ pub record Message : Type 0 where
 
 -- at the start in ring mode, and in star mode, where there is no message
 abbrev pub opened : ℕ → Message
-opened systems = record { systems = systems; holder = Some (record { 0 = 0 }); closed = false; still = 0; entries = []; next = 1 }
+opened systems = record {
+  systems = systems;
+  holder = Some (record { 0 = 0 });
+  closed = false;
+  still = 0;
+  entries = [];
+  next = 1;
+}
 
 abbrev pub never_opened : ℕ → Message
 never_opened systems = record { systems = systems; holder = None; closed = true; still = 0; entries = []; next = 1 }
@@ -32,8 +40,8 @@ abbrev pub stands_at : Option SysId → SysId → Bool
 stands_at None s = false
 stands_at (Some h) s = h.0 == s.0
 
--- the systems in the order in which a message that leaves s comes to them: from the next number to the last, from 0 on, and
--- to s again
+-- the systems in the order in which a message that leaves s comes to them: from the next number to the last, from 0 on,
+-- and to s again
 abbrev pub after : ℕ → SysId → List SysId
 after systems s = map (λ k. record { 0 = (s.0 + k) % systems }) (range_with_len 1 systems)
 
@@ -71,7 +79,8 @@ cleared s es = map (left_by s) (filter (λ e. not (e.mask == only s.0)) es)
 -- these requests as entries of s, with the numbers from this one on and this mask
 unfoldable pub stamped : ℕ → SysId → ℕ → List Req → List RingEntry
 stamped number s mask [] = []
-stamped number s mask (r ∷ rs) = record { number = number; from = s; body = Request r; mask = mask } ∷ stamped (suc number) s mask rs
+stamped number s mask (r ∷ rs) =
+    record { number = number; from = s; body = Request r; mask = mask } ∷ stamped (suc number) s mask rs
 
 -- whether the message has to come to s: s is live, and has an unseen entry or hasn't come to rest
 abbrev pub is_due : List RingEntry → ℕ → ℕ → SysId → Bool
@@ -103,7 +112,9 @@ turned_open m c out live rest =
     let entries = cleared c m.entries ++ stamped m.next c live out in
     record {
       systems = m.systems;
-      holder = Some (or_else (first_after m.systems c (is_due entries live (cond (moves m c (length out)) (without rest c.0) rest))) c);
+      holder =
+          Some (or_else
+          (first_after m.systems c (is_due entries live (cond (moves m c (length out)) (without rest c.0) rest))) c);
       closed = m.closed;
       still = m.still;
       entries = entries;
@@ -125,12 +136,15 @@ turned_closed m c =
 
 -- the message after a Turn of c
 unfoldable pub turned : Message → SysId → List Req → ℕ → ℕ → Message
-turned m c out live rest = cond (stands_at m.holder c) (cond m.closed (turned_closed m c) (turned_open m c out live rest)) m
+turned m c out live rest =
+    cond (stands_at m.holder c) (cond m.closed (turned_closed m c) (turned_open m c out live rest)) m
 
 -- whether a Turn of c with this many requests changes the message
 unfoldable pub turn_changes : Message → SysId → ℕ → ℕ → ℕ → Bool
 turn_changes m c count live rest =
-    stands_at m.holder c && (m.closed || moves m c count || not (stands_at (Some (or_else (first_after m.systems c (is_due m.entries live rest)) c)) c))
+    stands_at m.holder c
+    && (m.closed || moves m c count
+    || not (stands_at (Some (or_else (first_after m.systems c (is_due m.entries live rest)) c)) c))
 
 -- the message after c has removed t, with the systems that are live then
 unfoldable pub dropped : Message → SysId → SysId → ℕ → Message

@@ -43,7 +43,8 @@ reserve_kind lists rnl q r = if rnl then reserve_looked_up lists q r else (Syste
 
 -- what a request comes to: its scope, and whether it reserves its device
 abbrev pub kind_of : Lists → Bool → Scope → Bool → List ℕ → List ℕ → Scope × Bool
-kind_of lists reserve scope rnl q r = if reserve then reserve_kind lists rnl q r else (scope_of lists scope rnl q r, false)
+kind_of lists reserve scope rnl q r =
+    if reserve then reserve_kind lists rnl q r else (scope_of lists scope rnl q r, false)
 
 -- the resource of these names and this scope, asked for by a job of a system
 abbrev pub res_in : Scope → SysId → ℕ → List ℕ → List ℕ → Res

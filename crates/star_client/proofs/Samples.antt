@@ -15,8 +15,10 @@ use Rattle.grs_wire.specs.declared.request.Want.TheVariants.{Enq, Deq, Release, 
 use Rattle.grs_wire.specs.declared.told.ToldLine.TheVariants as told
 use Rattle.grs_wire.specs.declared.told.Verb.TheVariants as verbs
 use Rattle.star_client.specs.Client.{can_get, tell_answer_ranked, after_mail}
-use Rattle.task_state.specs.Replies.{tell_code, record_enq, after_code, replied, tell_line, tell_untold, tell_control, recalled, tell_answer}
-use Rattle.task_state.specs.View.{TasksView, state_of, with_state, with_phase, with_outstanding, with_record, without_record, with_told, with_exclusive, with_rank, telling}
+use Rattle.task_state.specs.Replies.{tell_code, record_enq, after_code, replied, tell_line, tell_untold, tell_control}
+use Rattle.task_state.specs.Replies.{recalled, tell_answer}
+use Rattle.task_state.specs.View.{TasksView, state_of, with_state, with_phase, with_outstanding, with_record}
+use Rattle.task_state.specs.View.{without_record, with_told, with_exclusive, with_rank, telling}
 use Rattle.task_state.specs.declared.state.Asked.{Asked}
 use Rattle.task_state.specs.declared.state.Phase.{Phase}
 use Rattle.task_state.specs.declared.state.Phase.TheVariants as phases
@@ -41,37 +43,48 @@ none_full = refl
 full : can_get (Enq res E RetEcb true) (Coded C18) ≡ true
 full = refl
 
-too_many : (can_get (Enq res E RetNone true) (Coded (End 538)) ≡ true) × (can_get (Enq res E RetNone false) (Coded (End 538)) ≡ false)
+too_many : (can_get (Enq res E RetNone true) (Coded (End 538)) ≡ true)
+    × (can_get (Enq res E RetNone false) (Coded (End 538)) ≡ false)
 too_many = (refl, refl)
 
 no_such_end : can_get (Enq res E RetNone false) (Coded (End 530)) ≡ false
 no_such_end = refl
 
-changed : (can_get (Enq res E RetChng false) (Coded C04) ≡ true) × (can_get (Enq res E RetChng false) (Coded C18) ≡ false)
+changed : (can_get (Enq res E RetChng false) (Coded C04) ≡ true)
+    × (can_get (Enq res E RetChng false) (Coded C18) ≡ false)
 changed = (refl, refl)
 
-given_up : (can_get (Deq res false) (Coded (End 130)) ≡ true) × (can_get (Deq res false) (Coded C08) ≡ false) × (can_get (Deq res true) (Coded C08) ≡ true)
+given_up : (can_get (Deq res false) (Coded (End 130)) ≡ true) × (can_get (Deq res false) (Coded C08) ≡ false)
+    × (can_get (Deq res true) (Coded C08) ≡ true)
 given_up = (refl, refl, refl)
 
 released : (can_get (Release res) (Coded C00) ≡ true) × (can_get (Release res) (Coded C04) ≡ false)
 released = (refl, refl)
 
 -- looks are answered with rows alone, and nothing else is
-shown : (can_get (Look 0 4 All) (Rows []) ≡ true) × (can_get (Look 0 4 All) (Coded C00) ≡ false) × (can_get (Release res) (Rows []) ≡ false)
+shown : (can_get (Look 0 4 All) (Rows []) ≡ true) × (can_get (Look 0 4 All) (Coded C00) ≡ false)
+    × (can_get (Release res) (Rows []) ≡ false)
 shown = (refl, refl, refl)
 
 -- (A,B) is of slice 52; a row of it can be shown by looks at that slice, in a list that one owns and another waits in
 abbrev row_of : Res → ℕ → Row
-row_of r n = record { res = r; elems = record { task = asker 0; ctl = E } ∷ record { task = asker 1; ctl = E } ∷ []; owners = n }
+row_of r n = record {
+  res = r;
+  elems = record { task = asker 0; ctl = E } ∷ record { task = asker 1; ctl = E } ∷ [];
+  owners = n;
+}
 
-a_row : (can_get (Look 52 1 All) (Rows (row_of res 1 ∷ [])) ≡ true) × (can_get (Look 50 3 Contended) (Rows (row_of res 1 ∷ [])) ≡ true)
+a_row : (can_get (Look 52 1 All) (Rows (row_of res 1 ∷ [])) ≡ true)
+    × (can_get (Look 50 3 Contended) (Rows (row_of res 1 ∷ [])) ≡ true)
 a_row = (refl, refl)
 
 -- not by looks at other slices, nor by those that ask for another name
-other_slice : (can_get (Look 53 11 All) (Rows (row_of res 1 ∷ [])) ≡ false) × (can_get (Look 0 52 All) (Rows (row_of res 1 ∷ [])) ≡ false)
+other_slice : (can_get (Look 53 11 All) (Rows (row_of res 1 ∷ [])) ≡ false)
+    × (can_get (Look 0 52 All) (Rows (row_of res 1 ∷ [])) ≡ false)
 other_slice = (refl, refl)
 
-other_name : (can_get (Look 52 1 (Named (Some (codes "A")) None)) (Rows (row_of res 1 ∷ [])) ≡ true) × (can_get (Look 52 1 (Named (Some (codes "C")) None)) (Rows (row_of res 1 ∷ [])) ≡ false)
+other_name : (can_get (Look 52 1 (Named (Some (codes "A")) None)) (Rows (row_of res 1 ∷ [])) ≡ true)
+    × (can_get (Look 52 1 (Named (Some (codes "C")) None)) (Rows (row_of res 1 ∷ [])) ≡ false)
 other_name = (refl, refl)
 
 -- not a row of one system's resource, one that counts the owners wrong, one without elements, and one that stands twice
@@ -96,7 +109,11 @@ asks None = None
 asks (Some w) = Some (record { req = record { task = task; want = w }; unit = None })
 
 abbrev having : List Rec → Phase → Option Want → TasksView
-having recs phase want = record { system = 0; tasks = record { line = 1; phase = phase; code = 0; records = recs; outstanding = asks want; rows = [] } ∷ []; told = [] }
+having recs phase want = record {
+  system = 0;
+  tasks = record { line = 1; phase = phase; code = 0; records = recs; outstanding = asks want; rows = [] } ∷ [];
+  told = [];
+}
 
 abbrev asking : Phase → TasksView
 asking phase = having [] phase (Some (Enq res E RetNone false))
@@ -104,20 +121,26 @@ asking phase = having [] phase (Some (Enq res E RetNone false))
 -- ---- answers
 -- the record gets the rank, and the task is told
 answer : after_mail (asking phases.Sent) (Answered task (Coded C00) 7)
-    ≡ record (having (record { res = res; ctl = E; rank = 7; told = true; unit = None; line = 1 } ∷ []) phases.Ready None) { told = told.Coded task 1 0 verbs.Enq C00 ∷ [] }
-unfolding state_of with_state with_phase with_outstanding with_record with_rank telling tell_code record_enq after_code replied recalled tell_answer tell_answer_ranked after_mail
+    ≡ record (having (record { res = res; ctl = E; rank = 7; told = true; unit = None; line = 1 } ∷ []) phases.Ready
+    None)
+    { told = told.Coded task 1 0 verbs.Enq C00 ∷ [] }
+unfolding state_of with_state with_phase with_outstanding with_record with_rank telling tell_code record_enq after_code
+    replied recalled tell_answer tell_answer_ranked after_mail
 answer = refl
 
 -- one that waits is told nothing yet
 waiting : after_mail (asking phases.Sent) (Answered task (Coded Wait) 7)
     ≡ having (record { res = res; ctl = E; rank = 7; told = false; unit = None; line = 1 } ∷ []) phases.HeldAnswer None
-unfolding state_of with_state with_phase with_outstanding with_record with_rank telling tell_code record_enq after_code replied recalled tell_answer tell_answer_ranked after_mail
+unfolding state_of with_state with_phase with_outstanding with_record with_rank telling tell_code record_enq after_code
+    replied recalled tell_answer tell_answer_ranked after_mail
 waiting = refl
 
 -- the last rank is one, and there is none behind it
 last_rank : after_mail (asking phases.Sent) (Answered task (Coded Wait) (2 ^ 57))
-    ≡ having (record { res = res; ctl = E; rank = 2 ^ 57; told = false; unit = None; line = 1 } ∷ []) phases.HeldAnswer None
-unfolding state_of with_state with_phase with_outstanding with_record with_rank telling tell_code record_enq after_code replied recalled tell_answer tell_answer_ranked after_mail
+    ≡ having (record { res = res; ctl = E; rank = 2 ^ 57; told = false; unit = None; line = 1 } ∷ []) phases.HeldAnswer
+    None
+unfolding state_of with_state with_phase with_outstanding with_record with_rank telling tell_code record_enq after_code
+    replied recalled tell_answer tell_answer_ranked after_mail
 last_rank = refl
 
 past_the_last : after_mail (asking phases.Sent) (Answered task (Coded C00) (2 ^ 57 + 1)) ≡ asking phases.Sent
@@ -140,16 +163,21 @@ unfolding state_of after_mail
 nothing_asked = refl
 
 -- a task of another system, and one that isn't there
-other_system : after_mail (asking phases.Sent) (Answered (record { system = record { 0 = 1 }; job = 0; task = 0 }) (Coded C00) 7) ≡ asking phases.Sent
+other_system :
+    after_mail (asking phases.Sent) (Answered (record { system = record { 0 = 1 }; job = 0; task = 0 }) (Coded C00) 7)
+    ≡ asking phases.Sent
 unfolding state_of after_mail
 other_system = refl
 
-no_task : after_mail (asking phases.Sent) (Answered (record { system = record { 0 = 0 }; job = 0; task = 1 }) (Coded C00) 7) ≡ asking phases.Sent
+no_task :
+    after_mail (asking phases.Sent) (Answered (record { system = record { 0 = 0 }; job = 0; task = 1 }) (Coded C00) 7)
+    ≡ asking phases.Sent
 unfolding state_of after_mail
 no_task = refl
 
 -- a request is nothing to the tasks
-request : after_mail (asking phases.Sent) (Request 4 (record { 0 = 1 }) (record { task = task; want = Release res })) ≡ asking phases.Sent
+request : after_mail (asking phases.Sent) (Request 4 (record { 0 = 1 }) (record { task = task; want = Release res }))
+    ≡ asking phases.Sent
 unfolding after_mail
 request = refl
 
@@ -161,12 +189,14 @@ abbrev told_rec : Rec
 told_rec = record { res = res; ctl = E; rank = 7; told = true; unit = None; line = 1 }
 
 -- a task that waits by its answer goes on
-granted : after_mail (having (untold ∷ []) phases.HeldAnswer None) (Granted task res) ≡ record (having (told_rec ∷ []) phases.Ready None) { told = told.Coded task 1 0 verbs.Enq C00 ∷ [] }
+granted : after_mail (having (untold ∷ []) phases.HeldAnswer None) (Granted task res)
+    ≡ record (having (told_rec ∷ []) phases.Ready None) { told = told.Coded task 1 0 verbs.Enq C00 ∷ [] }
 unfolding state_of with_state with_phase with_told telling tell_line tell_untold tell_control after_mail
 granted = refl
 
 -- one that was told already, or has no record, is told nothing
-told_before : after_mail (having (told_rec ∷ []) phases.Ready None) (Granted task res) ≡ having (told_rec ∷ []) phases.Ready None
+told_before : after_mail (having (told_rec ∷ []) phases.Ready None) (Granted task res)
+    ≡ having (told_rec ∷ []) phases.Ready None
 unfolding state_of tell_untold tell_control after_mail
 told_before = refl
 
@@ -175,12 +205,16 @@ unfolding state_of tell_untold tell_control after_mail
 no_record = refl
 
 -- nor is a task of another system
-granted_elsewhere : after_mail (having (untold ∷ []) phases.HeldAnswer None) (Granted (record { system = record { 0 = 1 }; job = 0; task = 0 }) res) ≡ having (untold ∷ []) phases.HeldAnswer None
+granted_elsewhere :
+    after_mail (having (untold ∷ []) phases.HeldAnswer None)
+    (Granted (record { system = record { 0 = 1 }; job = 0; task = 0 }) res)
+    ≡ having (untold ∷ []) phases.HeldAnswer None
 unfolding tell_control after_mail
 granted_elsewhere = refl
 
 -- a task that is about to give the resource up isn't told either: its record counts as told
-leaving : after_mail (having (untold ∷ []) phases.Sent (Some (Deq res false))) (Granted task res) ≡ having (told_rec ∷ []) phases.Sent (Some (Deq res false))
+leaving : after_mail (having (untold ∷ []) phases.Sent (Some (Deq res false))) (Granted task res)
+    ≡ having (told_rec ∷ []) phases.Sent (Some (Deq res false))
 unfolding state_of with_state with_told tell_untold tell_control after_mail
 leaving = refl
 
@@ -192,60 +226,82 @@ abbrev other : Rec
 other = record { res = Systems (codes "C") (codes "D"); ctl = S; rank = 3; told = true; unit = None; line = 0 }
 
 -- 00 of CHNG makes the record's control exclusive, and its rank stays
-made_exclusive : after_mail (having (other ∷ shared ∷ []) phases.Sent (Some (Enq res E RetChng false))) (Answered task (Coded C00) 0)
+made_exclusive :
+    after_mail (having (other ∷ shared ∷ []) phases.Sent (Some (Enq res E RetChng false))) (Answered task (Coded C00) 0)
     ≡ record (having (other ∷ told_rec ∷ []) phases.Ready None) { told = told.Coded task 1 0 verbs.Enq C00 ∷ [] }
-unfolding state_of with_state with_phase with_outstanding with_exclusive with_rank telling tell_code record_enq after_code replied recalled tell_answer tell_answer_ranked after_mail
+unfolding state_of with_state with_phase with_outstanding with_exclusive with_rank telling tell_code record_enq
+    after_code replied recalled tell_answer tell_answer_ranked after_mail
 made_exclusive = refl
 
 -- 00 of DEQ, and a RELEASE, take the record out, and none else
 taken_out : after_mail (having (other ∷ told_rec ∷ []) phases.Sent (Some (Deq res false))) (Answered task (Coded C00) 0)
     ≡ record (having (other ∷ []) phases.Ready None) { told = told.Coded task 1 0 verbs.Deq C00 ∷ [] }
-unfolding state_of with_state with_phase with_outstanding without_record with_rank telling tell_code after_code replied recalled tell_answer tell_answer_ranked after_mail
+unfolding state_of with_state with_phase with_outstanding without_record with_rank telling tell_code after_code replied
+    recalled tell_answer tell_answer_ranked after_mail
 taken_out = refl
 
-released_record : after_mail (having (told_rec ∷ other ∷ []) phases.Sent (Some (Release res))) (Answered task (Coded C00) 0) ≡ having (other ∷ []) (phases.Ending 0) None
-unfolding state_of with_state with_phase with_outstanding without_record with_rank after_code replied recalled tell_answer tell_answer_ranked after_mail
+released_record :
+    after_mail (having (told_rec ∷ other ∷ []) phases.Sent (Some (Release res))) (Answered task (Coded C00) 0)
+    ≡ having (other ∷ []) (phases.Ending 0) None
+unfolding state_of with_state with_phase with_outstanding without_record with_rank after_code replied recalled
+    tell_answer tell_answer_ranked after_mail
 released_record = refl
 
 -- a new record comes last, and a record of another resource keeps its rank
-behind_another : after_mail (having (other ∷ []) phases.Sent (Some (Enq res E RetNone false))) (Answered task (Coded C00) 7)
+behind_another :
+    after_mail (having (other ∷ []) phases.Sent (Some (Enq res E RetNone false))) (Answered task (Coded C00) 7)
     ≡ record (having (other ∷ told_rec ∷ []) phases.Ready None) { told = told.Coded task 1 0 verbs.Enq C00 ∷ [] }
-unfolding state_of with_state with_phase with_outstanding with_record with_rank telling tell_code record_enq after_code replied recalled tell_answer tell_answer_ranked after_mail
+unfolding state_of with_state with_phase with_outstanding with_record with_rank telling tell_code record_enq after_code
+    replied recalled tell_answer tell_answer_ranked after_mail
 behind_another = refl
 
--- An answer that would make a record where the task has one of that resource leaves this one, its rank and its mark too.
+-- An answer that would make a record where the task has one of that resource leaves this one, its rank and its mark
+-- too.
 -- All else that the answer does is done.
-makes_none : after_mail (having (told_rec ∷ []) phases.Sent (Some (Enq res S RetNone false))) (Answered task (Coded C00) 9)
+makes_none :
+    after_mail (having (told_rec ∷ []) phases.Sent (Some (Enq res S RetNone false))) (Answered task (Coded C00) 9)
     ≡ record (having (told_rec ∷ []) phases.Ready None) { told = told.Coded task 1 0 verbs.Enq C00 ∷ [] }
-unfolding state_of with_state with_phase with_outstanding with_record with_rank telling tell_code record_enq after_code replied recalled tell_answer tell_answer_ranked after_mail
+unfolding state_of with_state with_phase with_outstanding with_record with_rank telling tell_code record_enq after_code
+    replied recalled tell_answer tell_answer_ranked after_mail
 makes_none = refl
 
-marks_none : after_mail (having (untold ∷ []) phases.Sent (Some (Enq res E RetNone false))) (Answered task (Coded C00) 9)
+marks_none :
+    after_mail (having (untold ∷ []) phases.Sent (Some (Enq res E RetNone false))) (Answered task (Coded C00) 9)
     ≡ record (having (untold ∷ []) phases.Ready None) { told = told.Coded task 1 0 verbs.Enq C00 ∷ [] }
-unfolding state_of with_state with_phase with_outstanding with_record with_rank telling tell_code record_enq after_code replied recalled tell_answer tell_answer_ranked after_mail
+unfolding state_of with_state with_phase with_outstanding with_record with_rank telling tell_code record_enq after_code
+    replied recalled tell_answer tell_answer_ranked after_mail
 marks_none = refl
 
-waits_with_one : after_mail (having (told_rec ∷ []) phases.Sent (Some (Enq res E RetNone false))) (Answered task (Coded Wait) 9) ≡ having (told_rec ∷ []) phases.HeldAnswer None
-unfolding state_of with_state with_phase with_outstanding with_record with_rank tell_code record_enq after_code replied recalled tell_answer tell_answer_ranked after_mail
+waits_with_one :
+    after_mail (having (told_rec ∷ []) phases.Sent (Some (Enq res E RetNone false))) (Answered task (Coded Wait) 9)
+    ≡ having (told_rec ∷ []) phases.HeldAnswer None
+unfolding state_of with_state with_phase with_outstanding with_record with_rank tell_code record_enq after_code replied
+    recalled tell_answer tell_answer_ranked after_mail
 waits_with_one = refl
 
 -- so does one that would change a record, or take one out, where the task has none of that resource
-changes_none : after_mail (having (other ∷ []) phases.Sent (Some (Enq res E RetChng false))) (Answered task (Coded C00) 9)
+changes_none :
+    after_mail (having (other ∷ []) phases.Sent (Some (Enq res E RetChng false))) (Answered task (Coded C00) 9)
     ≡ record (having (other ∷ []) phases.Ready None) { told = told.Coded task 1 0 verbs.Enq C00 ∷ [] }
-unfolding state_of with_state with_phase with_outstanding with_exclusive with_rank telling tell_code record_enq after_code replied recalled tell_answer tell_answer_ranked after_mail
+unfolding state_of with_state with_phase with_outstanding with_exclusive with_rank telling tell_code record_enq
+    after_code replied recalled tell_answer tell_answer_ranked after_mail
 changes_none = refl
 
 takes_none : after_mail (having (other ∷ []) phases.Sent (Some (Deq res false))) (Answered task (Coded C00) 9)
     ≡ record (having (other ∷ []) phases.Ready None) { told = told.Coded task 1 0 verbs.Deq C00 ∷ [] }
-unfolding state_of with_state with_phase with_outstanding without_record with_rank telling tell_code after_code replied recalled tell_answer tell_answer_ranked after_mail
+unfolding state_of with_state with_phase with_outstanding without_record with_rank telling tell_code after_code replied
+    recalled tell_answer tell_answer_ranked after_mail
 takes_none = refl
 
-releases_none : after_mail (having (other ∷ []) phases.Sent (Some (Release res))) (Answered task (Coded C00) 9) ≡ having (other ∷ []) (phases.Ending 0) None
-unfolding state_of with_state with_phase with_outstanding without_record with_rank after_code replied recalled tell_answer tell_answer_ranked after_mail
+releases_none : after_mail (having (other ∷ []) phases.Sent (Some (Release res))) (Answered task (Coded C00) 9)
+    ≡ having (other ∷ []) (phases.Ending 0) None
+unfolding state_of with_state with_phase with_outstanding without_record with_rank after_code replied recalled
+    tell_answer tell_answer_ranked after_mail
 releases_none = refl
 
 -- an answer without effect on a record leaves its rank
 keeps_rank : after_mail (having (untold ∷ []) phases.Sent (Some (Deq res true))) (Answered task (Coded C04) 0)
     ≡ record (having (untold ∷ []) phases.Ready None) { told = told.Coded task 1 0 verbs.Deq C04 ∷ [] }
-unfolding state_of with_state with_phase with_outstanding with_rank telling tell_code after_code replied recalled tell_answer tell_answer_ranked after_mail
+unfolding state_of with_state with_phase with_outstanding with_rank telling tell_code after_code replied recalled
+    tell_answer tell_answer_ranked after_mail
 keeps_rank = refl

@@ -1,5 +1,7 @@
--- What the mail of star mode does to the tasks of a system: the answer to a task's request, and control that a task got.
-use Rattle.std.specs.Prelude.{ℕ, ◌+◌, Bool, true, false, not, ◌&&◌, ◌||◌, ◌==◌, nat_le, nat_lt, cond, map, List, [], ◌∷◌, length, Option, Some, None, is_none}
+-- What the mail of star mode does to the tasks of a system: the answer to a task's request, and control that a task
+-- got.
+use Rattle.std.specs.Prelude.{ℕ, ◌+◌, Bool, true, false, not, ◌&&◌, ◌||◌, ◌==◌, nat_le, nat_lt, cond, map, List, []}
+use Rattle.std.specs.Prelude.{◌∷◌, length, Option, Some, None, is_none}
 use Rattle.std.specs.List.{list_all, list_any, flat_map}
 use Rattle.std.specs.Option.{option_map_or}
 use Rattle.std.specs.Ordering.{is_lt}
@@ -36,7 +38,8 @@ standings = Exclusive ∷ OnlyShared ∷ AmongShared ∷ Waits ∷ Absent ∷ []
 
 -- the codes that the tables of ENQ and DEQ have for a request, whatever stands in the list
 abbrev pub enq_codes : Ret → Bool → List Code
-enq_codes ret full = flat_map (λ s. (enq_decision s ret full true).code ∷ (enq_decision s ret full false).code ∷ []) standings
+enq_codes ret full =
+    flat_map (λ s. (enq_decision s ret full true).code ∷ (enq_decision s ret full false).code ∷ []) standings
 
 abbrev pub deq_codes : Bool → List Code
 deq_codes have = map (λ s. deq_code s have) standings
@@ -116,7 +119,8 @@ with_rank_of v t (Some r) rank = with_rank v t r rank
 
 -- a task whose outstanding request was answered; a record that this makes has this rank
 unfoldable pub tell_answer_ranked : TasksView → TaskId → Asked → Answer → ℕ → TasksView
-tell_answer_ranked v t a answer rank = with_rank_of (tell_answer v t a answer) t (unrecorded v t (res_wanted a.req.want)) rank
+tell_answer_ranked v t a answer rank =
+    with_rank_of (tell_answer v t a answer) t (unrecorded v t (res_wanted a.req.want)) rank
 
 -- the same where a task has one
 abbrev pub tell_answer_any_ranked : TasksView → TaskId → Answer → ℕ → Option Asked → TasksView
@@ -142,5 +146,6 @@ has_effect v t answer rank = has_sent v t && (nat_le rank last_number && is_awai
 -- The tasks after a mail. A request is for their system as a manager, and nothing to them.
 unfoldable pub after_mail : TasksView → Mail → TasksView
 after_mail v (Request entry from q) = v
-after_mail v (Answered t answer rank) = cond (has_effect v t answer rank) (tell_answer_any_ranked v t answer rank (state_of v t).outstanding) v
+after_mail v (Answered t answer rank) =
+    cond (has_effect v t answer rank) (tell_answer_any_ranked v t answer rank (state_of v t).outstanding) v
 after_mail v (Granted t r) = tell_control v r t

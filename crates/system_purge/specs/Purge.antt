@@ -13,8 +13,8 @@ use Rattle.task_state.specs.View.{TasksView}
 abbrev pub newcomers : List Elem → List Elem → List TaskId
 newcomers before after = pick (λ e. not (owns before e.task)) (λ e. e.task) (take (owners after) after)
 
--- The tasks that get control of a resource when the elements of a system's tasks leave its list. They leave only the lists
--- of the whole complex.
+-- The tasks that get control of a resource when the elements of a system's tasks leave its list. They leave only the
+-- lists of the whole complex.
 abbrev pub freed : ℕ → Res → List Elem → List TaskId
 freed n r es = cond (is_systems r) (newcomers es (filter (is_of_other n) es)) []
 

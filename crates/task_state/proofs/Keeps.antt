@@ -14,14 +14,18 @@ pub either : {X : Type 0} {Y : Type 0} (f : X → Y) (b : Bool) (x y : X) (z : Y
 either f true x y z p q = p
 either f false x y z p q = q
 
-pub system-enq : (v : TasksView) (t : TaskId) (r : Res) (c : Ctl) (unit : Option ℕ) (ret : Ret) (code : Code) → (record_enq v t r c unit ret code).system ≡ v.system
+pub system-enq : (v : TasksView) (t : TaskId) (r : Res) (c : Ctl) (unit : Option ℕ) (ret : Ret) (code : Code)
+    → (record_enq v t r c unit ret code).system ≡ v.system
 unfolding record_enq
 system-enq v t r c unit ret code =
-    either (λ (w : TasksView). w.system) (is_queued ret code) _ _ _ (system-record v t _) (either (λ (w : TasksView). w.system) (is_changed ret code) _ _ _ (system-exclusive v t r) refl)
+    either (λ (w : TasksView). w.system) (is_queued ret code) _ _ _ (system-record v t _)
+    (either (λ (w : TasksView). w.system) (is_changed ret code) _ _ _ (system-exclusive v t r) refl)
 
-pub count-enq : (v : TasksView) (t : TaskId) (r : Res) (c : Ctl) (unit : Option ℕ) (ret : Ret) (code : Code) → length (record_enq v t r c unit ret code).tasks ≡ length v.tasks
+pub count-enq : (v : TasksView) (t : TaskId) (r : Res) (c : Ctl) (unit : Option ℕ) (ret : Ret) (code : Code)
+    → length (record_enq v t r c unit ret code).tasks ≡ length v.tasks
 unfolding record_enq
 count-enq v t r c unit ret code =
-    either (λ (w : TasksView). length w.tasks) (is_queued ret code) _ _ _ (count-record v t _) (either (λ (w : TasksView). length w.tasks) (is_changed ret code) _ _ _ (count-exclusive v t r) refl)
+    either (λ (w : TasksView). length w.tasks) (is_queued ret code) _ _ _ (count-record v t _)
+    (either (λ (w : TasksView). length w.tasks) (is_changed ret code) _ _ _ (count-exclusive v t r) refl)
 
 pub ruleset keeps = (stays, system-enq, count-enq)

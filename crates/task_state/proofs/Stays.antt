@@ -8,13 +8,16 @@ use Rattle.task_state.specs.declared.state.Asked.{Asked}
 use Rattle.task_state.specs.declared.state.Rec.{Rec}
 use Rattle.task_state.specs.declared.state.Phase.{Phase}
 use Rattle.task_state.specs.declared.state.TaskState.{TaskState}
-use Rattle.task_state.specs.View.{TasksView, with_state, with_line, with_phase, with_outstanding, with_record, without_record, with_told, with_exclusive, with_rank, with_rows, without_rows, telling}
+use Rattle.task_state.specs.View.{TasksView, with_state, with_line, with_phase, with_outstanding, with_record}
+use Rattle.task_state.specs.View.{without_record, with_told, with_exclusive, with_rank, with_rows, without_rows}
+use Rattle.task_state.specs.View.{telling}
 
 pub system-state : (v : TasksView) (t : TaskId) (f : TaskState → TaskState) → (with_state v t f).system ≡ v.system
 unfolding with_state
 system-state v t f = refl
 
-pub count-state : (v : TasksView) (t : TaskId) (f : TaskState → TaskState) → length (with_state v t f).tasks ≡ length v.tasks
+pub count-state : (v : TasksView) (t : TaskId) (f : TaskState → TaskState)
+    → length (with_state v t f).tasks ≡ length v.tasks
 unfolding with_state
 count-state v t f = length-set _ _ _
 
@@ -38,7 +41,8 @@ pub system-outstanding : (v : TasksView) (t : TaskId) (q : Option Asked) → (wi
 unfolding with_outstanding
 system-outstanding v t q = system-state v t _
 
-pub count-outstanding : (v : TasksView) (t : TaskId) (q : Option Asked) → length (with_outstanding v t q).tasks ≡ length v.tasks
+pub count-outstanding : (v : TasksView) (t : TaskId) (q : Option Asked)
+    → length (with_outstanding v t q).tasks ≡ length v.tasks
 unfolding with_outstanding
 count-outstanding v t q = count-state v t _
 
@@ -106,4 +110,27 @@ pub count-telling : (v : TasksView) (l : ToldLine) → length (telling v l).task
 unfolding telling
 count-telling v l = refl
 
-pub ruleset stays = (system-line, count-line, system-phase, count-phase, system-outstanding, count-outstanding, system-record, count-record, system-without, count-without, system-told, count-told, system-exclusive, count-exclusive, system-rank, count-rank, system-rows, count-rows, system-no_rows, count-no_rows, system-telling, count-telling)
+pub ruleset stays = (
+  system-line,
+  count-line,
+  system-phase,
+  count-phase,
+  system-outstanding,
+  count-outstanding,
+  system-record,
+  count-record,
+  system-without,
+  count-without,
+  system-told,
+  count-told,
+  system-exclusive,
+  count-exclusive,
+  system-rank,
+  count-rank,
+  system-rows,
+  count-rows,
+  system-no_rows,
+  count-no_rows,
+  system-telling,
+  count-telling,
+)

@@ -1,6 +1,7 @@
 -- How the records of one task are kept: each under a number, in the order of the numbers, and beside them the
 -- number of each resource that has a record.
-use Rattle.std.specs.Prelude.{◌≡◌, ◌≤◌, ℕ, Bool, true, not, ◌&&◌, ◌==◌, nat_lt, List, [], ◌∷◌, length, cond, Option, Some, None, is_some}
+use Rattle.std.specs.Prelude.{◌≡◌, ◌≤◌, ℕ, Bool, true, not, ◌&&◌, ◌==◌, nat_lt, List, [], ◌∷◌, length, cond, Option}
+use Rattle.std.specs.Prelude.{Some, None, is_some}
 use Rattle.std.specs.Map.{lookup}
 use Rattle.grs_base.specs.Same.{same_res}
 use Rattle.grs_base.specs.declared.resource.Res.{Res}

@@ -19,7 +19,8 @@ use Rattle.task_state.specs.declared.state.Asked.{Asked}
 use Rattle.task_state.specs.declared.state.Rec.{Rec}
 use Rattle.task_state.specs.declared.state.Phase.{Phase}
 use Rattle.task_state.specs.declared.state.Phase.TheVariants as phases
-use Rattle.task_state.specs.View.{TasksView, is_task, state_of, record_of, with_phase, with_outstanding, with_record, without_record, with_told, with_exclusive, telling}
+use Rattle.task_state.specs.View.{TasksView, is_task, state_of, record_of, with_phase, with_outstanding, with_record}
+use Rattle.task_state.specs.View.{without_record, with_told, with_exclusive, telling}
 
 -- whether a code is 00
 abbrev pub is_granted : Code → Bool
@@ -60,7 +61,8 @@ tell_code v t verb (End n) = telling v (told.Coded t (state_of v t).line 0 verb 
 
 -- the record of an ENQ or RESERVE of a task's last line, with the unit that it reserves
 abbrev pub new_record : TasksView → TaskId → Res → Ctl → Option ℕ → Code → Rec
-new_record v t r c unit code = record { res = r; ctl = c; rank = 0; told = is_granted code; unit = unit; line = (state_of v t).line }
+new_record v t r c unit
+    code = record { res = r; ctl = c; rank = 0; told = is_granted code; unit = unit; line = (state_of v t).line }
 
 -- the records of a task after an ENQ was answered
 unfoldable pub record_enq : TasksView → TaskId → Res → Ctl → Option ℕ → Ret → Code → TasksView
@@ -70,8 +72,10 @@ record_enq v t r c unit ret code =
 
 -- a task after its own request was answered; a record that it makes has this unit
 unfoldable pub after_code : TasksView → TaskId → Want → Option ℕ → Code → TasksView
-after_code v t (Enq r c ret full) unit code = tell_code (with_phase (record_enq v t r c unit ret code) t (phase_after code)) t verbs.Enq code
-after_code v t (Deq r have) unit code = tell_code (with_phase (cond (is_granted code) (without_record v t r) v) t (phase_after code)) t verbs.Deq code
+after_code v t (Enq r c ret full) unit code =
+    tell_code (with_phase (record_enq v t r c unit ret code) t (phase_after code)) t verbs.Enq code
+after_code v t (Deq r have) unit code =
+    tell_code (with_phase (cond (is_granted code) (without_record v t r) v) t (phase_after code)) t verbs.Deq code
 after_code v t (Release r) unit code = without_record v t r
 after_code v t (Look first count filter) unit code = v
 
@@ -92,7 +96,9 @@ is_held_for r _ = false
 
 -- a task that is no longer held at a WAIT line for this resource
 unfoldable pub passes_wait : TasksView → TaskId → Res → TasksView
-passes_wait v t r = cond (is_held_for r (state_of v t).phase) (telling (with_phase v t phases.Ready) (told.Coded t (state_of v t).line 0 verbs.Wait C00)) v
+passes_wait v t r =
+    cond (is_held_for r (state_of v t).phase)
+    (telling (with_phase v t phases.Ready) (told.Coded t (state_of v t).line 0 verbs.Wait C00)) v
 
 -- A task is told control for which its line of this number asked: by that line's code if the task is held by its
 -- answer, else by posting the line's ECB.

@@ -1,5 +1,6 @@
 -- The reply in a task's outstanding item fits its past by what is known.
-use Rattle.std.proofs.Common.{◌≡◌, zero, suc, Bool, true, false, cond, ◌&&◌, ◌||◌, List, [], ◌∷◌, ◌++◌, Option, Some, None, refl, ap, sym, ◌∙◌, subst, append_assoc, append-nil}
+use Rattle.std.proofs.Common.{◌≡◌, zero, suc, Bool, true, false, cond, ◌&&◌, ◌||◌, List, [], ◌∷◌, ◌++◌, Option, Some}
+use Rattle.std.proofs.Common.{None, refl, ap, sym, ◌∙◌, subst, append_assoc, append-nil}
 use Rattle.std.specs.List.{list_any}
 use Rattle.std.proofs.lemmas.Bool.{or_parts}
 use Rattle.std.proofs.Math.Bool.{or-false}
@@ -51,10 +52,17 @@ last_mine t (y ∷ ys) x e = go (is_of t y.fixed) refl (mine t ys) refl e (last_
         by_own true f = rw f (ap (λ zs. y ∷ zs) l.mine_is)
         by_own false f = rw f l.mine_is
 
-    go : (b : Bool) → is_of t y.fixed ≡ b → (zs : List RunItem) → mine t ys ≡ zs → last_of (cond b (y ∷ zs) zs) ≡ Some x → (last_of (mine t ys) ≡ Some x → LastMine t ys x) → LastMine t (y ∷ ys) x
+    go : (b : Bool) → is_of t y.fixed ≡ b → (zs : List RunItem) → mine t ys ≡ zs → last_of (cond b (y ∷ zs) zs) ≡ Some x
+        → (last_of (mine t ys) ≡ Some x → LastMine t ys x) → LastMine t (y ∷ ys) x
     go true o [] m f more =
         let same : y ≡ x = cc in
-        record { before = []; behind = ys; is = ap (λ z. z ∷ ys) same; own = subst (λ (z : RunItem). is_of t z.fixed ≡ true) same o; mine_is = rw o (ap (λ zs. y ∷ zs) m ∙ ap (λ z. z ∷ []) same) }
+        record {
+          before = [];
+          behind = ys;
+          is = ap (λ z. z ∷ ys) same;
+          own = subst (λ (z : RunItem). is_of t z.fixed ≡ true) same o;
+          mine_is = rw o (ap (λ zs. y ∷ zs) m ∙ ap (λ z. z ∷ []) same);
+        }
     go true o (z ∷ zs) m f more = longer true o (more (ap last_of m ∙ f))
     go false o zs m f more = longer false o (more (ap last_of m ∙ f))
 
@@ -65,11 +73,14 @@ made-front F (x ∷ xs) ys made = (made.0, made-front (F ++ x ∷ []) xs ys made
 
 pub made-behind : (F xs ys : List RunItem) → AllMade F (xs ++ ys) → AllMade (F ++ xs) ys
 made-behind F [] ys made = subst (λ G. AllMade G ys) (sym (append-nil F)) made
-made-behind F (x ∷ xs) ys made = subst (λ G. AllMade G ys) (append_assoc F (x ∷ []) xs) (made-behind (F ++ x ∷ []) xs ys made.1)
+made-behind F (x ∷ xs) ys made =
+    subst (λ G. AllMade G ys) (append_assoc F (x ∷ []) xs) (made-behind (F ++ x ∷ []) xs ys made.1)
 
-live-front : (t : TaskId) (xs ys : List RunItem) → list_any (λ y. removes_system_of t y.fixed) (xs ++ ys) ≡ false → list_any (λ y. removes_system_of t y.fixed) xs ≡ false
+live-front : (t : TaskId) (xs ys : List RunItem) → list_any (λ y. removes_system_of t y.fixed) (xs ++ ys) ≡ false
+    → list_any (λ y. removes_system_of t y.fixed) xs ≡ false
 live-front t [] ys e = refl
-live-front t (x ∷ xs) ys e = let l = or_parts _ _ e in ap (λ b. b || list_any (λ y. removes_system_of t y.fixed) xs) l.0 ∙ live-front t xs ys l.1
+live-front t (x ∷ xs) ys e =
+    let l = or_parts _ _ e in ap (λ b. b || list_any (λ y. removes_system_of t y.fixed) xs) l.0 ∙ live-front t xs ys l.1
 
 head_same : (a b : HistEntry) (hs : List HistEntry) → a ∷ hs ≡ b ∷ [] → a ≡ b
 head_same a b hs e = cc
@@ -94,27 +105,50 @@ reply_fits t k T x h made live out one right = by_fixed x.fixed refl last.own (s
     at = (made-behind [] last.before (x ∷ last.behind) made_T).0
 
     learned_is : learned t k T ≡ mine t last.before
-    learned_is = ap (λ b. cond b (all_but_last (mine t T)) (mine t T)) is_last.0 ∙ ap all_but_last last.mine_is ∙ all_but_last-push (mine t last.before) x
+    learned_is =
+        ap (λ b. cond b (all_but_last (mine t T)) (mine t T)) is_last.0
+        ∙ ap all_but_last last.mine_is
+        ∙ all_but_last-push (mine t last.before) x
 
     elements : own_elements (lists last.before) t ≡ own_after [] (history (learned t k T))
-    elements = elements_are_of_items t last.before (made-front [] last.before (x ∷ last.behind) made_T) (live-front t last.before (x ∷ last.behind) (subst (λ xs. list_any (λ y. removes_system_of t y.fixed) xs ≡ false) last.is live))
+    elements =
+        elements_are_of_items t last.before (made-front [] last.before (x ∷ last.behind) made_T)
+        (live-front t last.before (x ∷ last.behind)
+        (subst (λ xs. list_any (λ y. removes_system_of t y.fixed) xs ≡ false) last.is live))
         ∙ ap (λ xs. own_after [] (history xs)) (sym learned_is)
 
     -- a DEQ of what the task is known to own was answered 00
-    granted : (r : Res) (g : HistEntry) → gives_back r x.fixed ≡ true → x.entries ≡ g ∷ [] → k.owns r ≡ true → took r g ≡ true
-    granted r g e is o = sym (or-false (took r g)) ∙ (subst (λ hs. list_any (took r) hs ≡ true) is ((subst (Still r t T) out (right.owned r o)).1 e))
+    granted : (r : Res) (g : HistEntry) → gives_back r x.fixed ≡ true → x.entries ≡ g ∷ [] → k.owns r ≡ true
+        → took r g ≡ true
+    granted r g e is o =
+        sym (or-false (took r g))
+        ∙ (subst (λ hs. list_any (took r) hs ≡ true) is ((subst (Still r t T) out (right.owned r o)).1 e))
 
-    by_want : (w : Want) → ((r : Res) → gives_up r w ≡ true → gives_back r x.fixed ≡ true) → entries_for (lists last.before) t w ≡ h ∷ [] → Fits (past_of t k T) h
+    by_want : (w : Want) → ((r : Res) → gives_up r w ≡ true → gives_back r x.fixed ≡ true)
+        → entries_for (lists last.before) t w ≡ h ∷ [] → Fits (past_of t k T) h
     by_want (wants.Enq r c ret full) gives m = subst (Fits (past_of t k T)) (head_same _ h [] m)
-        (λ q. sym (ap (has_own r) elements) ∙ sym (has_task-own (lists last.before) t r) ∙ absent-has (list_of (lists last.before) r) t (queued-absent (standing_of (list_of (lists last.before) r) t) ret full (can_have (list_of (lists last.before) r) c) q))
+        (λ q.
+        sym (ap (has_own r) elements)
+        ∙ sym (has_task-own (lists last.before) t r)
+        ∙ absent-has (list_of (lists last.before) r) t (queued-absent (standing_of (list_of (lists last.before) r) t)
+        ret full (can_have (list_of (lists last.before) r) c) q))
     by_want (wants.Deq r have) gives m =
         let is = head_same _ h [] m in
-        subst (Fits (past_of t k T)) is (λ f. false_by (k.owns r) (λ o. absurd (let g : false ≡ true = sym (ap (λ b. b && is_granted (deq_reply (lists last.before) r t have)) (same_res-itself r) ∙ f) ∙ granted r (entries.Deq t r have (deq_reply (lists last.before) r t have)) (gives r (same_res-itself r)) (one ∙ ap (λ z. z ∷ []) (sym is)) o in cc)))
+        subst (Fits (past_of t k T)) is (λ f.
+        false_by (k.owns r) (λ o.
+        absurd (let g : false ≡ true =
+        sym (ap (λ b. b && is_granted (deq_reply (lists last.before) r t have)) (same_res-itself r) ∙ f)
+        ∙ granted r (entries.Deq t r have (deq_reply (lists last.before) r t have)) (gives r (same_res-itself r))
+        (one ∙ ap (λ z. z ∷ []) (sym is)) o in
+        cc)))
     by_want (wants.Release r) gives m = subst (Fits (past_of t k T)) (head_same _ h [] m) tt
     by_want (wants.Look first zero f) gives m = absurd (cc)
     by_want (wants.Look first (suc count) f) gives m = subst (Fits (past_of t k T)) (head_same _ h _ m) tt
 
-    by_fixed : (f : Fixed) → x.fixed ≡ f → is_of t f ≡ true → fixed_entries (lists last.before) x.by f ≡ h ∷ [] → Fits (past_of t k T) h
-    by_fixed (Asked q) e own m = by_want q.want (λ r g. ap (gives_back r) e ∙ g) (subst (λ u. entries_for (lists last.before) u q.want ≡ h ∷ []) (sym (same_task-exact t q.task own)) m)
+    by_fixed : (f : Fixed) → x.fixed ≡ f → is_of t f ≡ true → fixed_entries (lists last.before) x.by f ≡ h ∷ []
+        → Fits (past_of t k T) h
+    by_fixed (Asked q) e own m =
+        by_want q.want (λ r g. ap (gives_back r) e ∙ g)
+        (subst (λ u. entries_for (lists last.before) u q.want ≡ h ∷ []) (sym (same_task-exact t q.task own)) m)
     by_fixed (LocalLook u f) e own m = subst (Fits (past_of t k T)) (head_same _ h [] m) tt
     by_fixed (Purged target) e own m = cc

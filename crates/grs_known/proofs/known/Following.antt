@@ -1,5 +1,6 @@
 -- What a task asks next by its past may follow in the history.
-use Rattle.std.proofs.Common.{◌≡◌, suc, true, ◌||◌, List, [], ◌∷◌, map, length, Option, Some, None, refl, ap, sym, ◌∙◌, subst}
+use Rattle.std.proofs.Common.{◌≡◌, suc, true, ◌||◌, List, [], ◌∷◌, map, length, Option, Some, None, refl, ap, sym, ◌∙◌}
+use Rattle.std.proofs.Common.{subst}
 use Rattle.std.specs.Prelude.{is_some, nat_le}
 use Rattle.grs_base.specs.Lists.{has_task}
 use Rattle.grs_base.specs.State.{list_of, is_full, is_systems, enq_code}
@@ -32,14 +33,18 @@ ask_of (wants.Deq r have) = Some (AsksDeq r have)
 ask_of (wants.Release r) = Some (AsksRelease r)
 ask_of (wants.Look first count f) = None
 
-module _ (deck : Deck) (P : List RunItem) (right : IsHistory deck P) (t : TaskId) (p : Past) (speaks : Speaks deck.limit t p (history P)) where
+module _ (deck : Deck) (P : List RunItem) (right : IsHistory deck P) (t : TaskId) (p : Past)
+    (speaks : Speaks deck.limit t p (history P)) where
   -- it has elements where its past has them, as many as it has records
   pub has-known : (r : Res) → has_task (list_of (lists P) r) t ≡ has_own r p.own
-  has-known r = ap (λ s. has_task (list_of s r) t) (replayed deck P right) ∙ has-speaks deck.limit t p (history P) speaks r
+  has-known r =
+      ap (λ s. has_task (list_of s r) t) (replayed deck P right) ∙ has-speaks deck.limit t p (history P) speaks r
 
-  pub is_full-known : (xs : List Rec) → map key xs ≡ p.own → nat_le deck.limit (length xs) ≡ is_full deck.limit (lists P) t
+  pub is_full-known : (xs : List Rec) → map key xs ≡ p.own
+      → nat_le deck.limit (length xs) ≡ is_full deck.limit (lists P) t
   is_full-known xs e =
-      ap (nat_le deck.limit) (same_length xs ∙ ap length (ap (map (λ z. z.0)) e ∙ sym (queued-speaks deck.limit t p (history P) speaks)))
+      ap (nat_le deck.limit)
+      (same_length xs ∙ ap length (ap (map (λ z. z.0)) e ∙ sym (queued-speaks deck.limit t p (history P) speaks)))
       ∙ ap (λ s. is_full deck.limit s t) (sym (replayed deck P right))
     where
       same_length : (ys : List Rec) → length ys ≡ length (map (λ z. z.0) (map key ys))
@@ -47,18 +52,30 @@ module _ (deck : Deck) (P : List RunItem) (right : IsHistory deck P) (t : TaskId
       same_length (y ∷ ys) = ap suc (same_length ys)
 
   module _ (ls : List Meaning) (lines : lines_of deck t ≡ Some ls) (live : IsLive t P) where
-    asks : (a : Ask) (h : HistEntry) → IsNext ls p a → ask_in h ≡ Some a → answer_of h ≡ reply_of deck.limit (lists P) h → MayAsk deck t (history P) h
+    asks : (a : Ask) (h : HistEntry) → IsNext ls p a → ask_in h ≡ Some a → answer_of h ≡ reply_of deck.limit (lists P) h
+        → MayAsk deck t (history P) h
     asks a h next is reply = subst (λ o. IsLegalOf deck.limit t o (history P) h) (sym lines)
-        (legal-speaks deck.limit t p (history P) speaks ls a h (removes-history [] P right.made t ∙ live) next (reply ∙ ap (λ s. reply_of deck.limit s h) (replayed deck P right)) is)
+        (legal-speaks deck.limit t p (history P) speaks ls a h (removes-history [] P right.made t ∙ live) next
+        (reply ∙ ap (λ s. reply_of deck.limit s h) (replayed deck P right)) is)
 
-    pub may_follow : (c : SysId) (w : Want) (r : Res) → res_wanted w ≡ Some r → (is_systems r || is_res_of t.system.0 r) ≡ true → CountsIn deck.limit (lists P) t w → (a : Ask) → ask_of w ≡ Some a → IsNext ls p a →
+    pub may_follow : (c : SysId) (w : Want) (r : Res) → res_wanted w ≡ Some r
+        → (is_systems r || is_res_of t.system.0 r) ≡ true → CountsIn deck.limit (lists P) t w → (a : Ask)
+        → ask_of w ≡ Some a → IsNext ls p a →
         MayFollow deck P (made_item c P (Asked (record { task = t; want = w })))
     may_follow c w r wanted place counts a is next = by_want w counts is wanted
       where
         ask : (v : Want) → res_wanted v ≡ Some r → IsAsk deck (made_item c P (Asked (record { task = t; want = v })))
-        ask v e = record { req = record { task = t; want = v }; res = r; asked = refl; wanted = e; known = ap is_some lines; place = place }
+        ask v e = record {
+          req = record { task = t; want = v };
+          res = r;
+          asked = refl;
+          wanted = e;
+          known = ap is_some lines;
+          place = place;
+        }
 
-        by_want : (v : Want) → CountsIn deck.limit (lists P) t v → ask_of v ≡ Some a → res_wanted v ≡ Some r → MayFollow deck P (made_item c P (Asked (record { task = t; want = v })))
+        by_want : (v : Want) → CountsIn deck.limit (lists P) t v → ask_of v ≡ Some a → res_wanted v ≡ Some r
+            → MayFollow deck P (made_item c P (Asked (record { task = t; want = v })))
         by_want (wants.Enq q d ret full) k i e = record {
           ask = ask (wants.Enq q d ret full) e;
           live = live;
@@ -68,6 +85,22 @@ module _ (deck : Deck) (P : List RunItem) (right : IsHistory deck P) (t : TaskId
           one = refl;
           stands = asks a _ next i (ap (λ b. Coded (enq_code (lists P) q t d ret b)) k);
         }
-        by_want (wants.Deq q have) k i e = record { ask = ask (wants.Deq q have) e; live = live; made = refl; counts = tt; entry = _; one = refl; stands = asks a _ next i refl }
-        by_want (wants.Release q) k i e = record { ask = ask (wants.Release q) e; live = live; made = refl; counts = tt; entry = _; one = refl; stands = asks a _ next i refl }
+        by_want (wants.Deq q have) k i e = record {
+          ask = ask (wants.Deq q have) e;
+          live = live;
+          made = refl;
+          counts = tt;
+          entry = _;
+          one = refl;
+          stands = asks a _ next i refl;
+        }
+        by_want (wants.Release q) k i e = record {
+          ask = ask (wants.Release q) e;
+          live = live;
+          made = refl;
+          counts = tt;
+          entry = _;
+          one = refl;
+          stands = asks a _ next i refl;
+        }
         by_want (wants.Look first count f) k i e = absurd (cc)

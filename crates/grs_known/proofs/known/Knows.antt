@@ -19,7 +19,8 @@ use Rattle.grs_known.specs.Past.{Past, past_by, past_of, after_entry, after_entr
 use Rattle.grs_known.proofs.lists.Truths.{false_by, no_truth}
 use Rattle.grs_known.proofs.known.Fitting.{reply_fits}
 use Rattle.grs_known.proofs.known.Histories.{IsHistory, IsLive, live-push}
-use Rattle.grs_known.proofs.known.Knowing.{outstanding-other, learned-other, right-other, outstanding-own, learned-own, right-own, right-answer, given-told, right-control}
+use Rattle.grs_known.proofs.known.Knowing.{outstanding-other, learned-other, right-other, outstanding-own, learned-own}
+use Rattle.grs_known.proofs.known.Knowing.{right-own, right-answer, given-told, right-control}
 use Rattle.grs_known.proofs.known.Pasts.{past_grows, past_speaks, past_speaks_of}
 
 -- the outstanding item is that of the outstanding request
@@ -35,11 +36,14 @@ pub record Knows (T : List RunItem) (t : TaskId) (o : Option Asked) (k : Known) 
   pub live : IsLive t T
 
 -- ---- with nothing outstanding
-pub known-all : (T : List RunItem) (t : TaskId) (k : Known) → IsRight t k T → outstanding t k T ≡ None → k.behind ≡ false
-known-all T t k right e = false_by k.behind (λ b. absurd (let f : false ≡ true = ap is_some (sym e) ∙ right.waits b in cc))
+pub known-all : (T : List RunItem) (t : TaskId) (k : Known) → IsRight t k T → outstanding t k T ≡ None
+    → k.behind ≡ false
+known-all T t k right e =
+    false_by k.behind (λ b. absurd (let f : false ≡ true = ap is_some (sym e) ∙ right.waits b in cc))
 
 -- a task without a request has no outstanding item
-pub knows-closed : (T : List RunItem) (t : TaskId) (o : Option Asked) (k : Known) → o ≡ None → Knows T t o k → outstanding t k T ≡ None
+pub knows-closed : (T : List RunItem) (t : TaskId) (o : Option Asked) (k : Known) → o ≡ None → Knows T t o k
+    → outstanding t k T ≡ None
 knows-closed T t o k e h = go (outstanding t k T) (subst (λ z. IsOutstanding z (outstanding t k T)) e h.request)
   where
     go : (i : Option RunItem) → IsOutstanding None i → i ≡ None
@@ -47,34 +51,52 @@ knows-closed T t o k e h = go (outstanding t k T) (subst (λ z. IsOutstanding z 
     go (Some x) i = absurd i
 
 -- then the past speaks of the history
-pub speaks-known : (deck : Deck) (T : List RunItem) (t : TaskId) (k : Known) → IsHistory deck T → IsLive t T → IsRight t k T → outstanding t k T ≡ None → Speaks deck.limit t (past_of t k T) (history T)
-speaks-known deck T t k g live right e = past_speaks deck.limit t k T g.made g.count live (known-all T t k right e) right
+pub speaks-known : (deck : Deck) (T : List RunItem) (t : TaskId) (k : Known) → IsHistory deck T → IsLive t T
+    → IsRight t k T → outstanding t k T ≡ None → Speaks deck.limit t (past_of t k T) (history T)
+speaks-known deck T t k g live right e =
+    past_speaks deck.limit t k T g.made g.count live (known-all T t k right e) right
 
 -- else of what the request doesn't give up
-pub stays-asked : (r : Res) (o : Option Asked) (i : Option RunItem) → IsOutstanding o i → is_leaving r o ≡ false → may_leave r i ≡ false
+pub stays-asked : (r : Res) (o : Option Asked) (i : Option RunItem) → IsOutstanding o i → is_leaving r o ≡ false
+    → may_leave r i ≡ false
 stays-asked r o None h e = refl
 stays-asked r None (Some x) h e = absurd h
 stays-asked r (Some a) (Some x) h e = ap (gives_back r) h ∙ e
 
-pub speaks_of-known : (deck : Deck) (T : List RunItem) (t : TaskId) (r : Res) (o : Option Asked) (k : Known) → IsHistory deck T → Knows T t o k → is_leaving r o ≡ false → SpeaksOf deck.limit t r (past_of t k T) (history T)
-speaks_of-known deck T t r o k g h e = past_speaks_of deck.limit t r k T g.made g.count (stays-asked r o (outstanding t k T) h.request e) h.right
+pub speaks_of-known : (deck : Deck) (T : List RunItem) (t : TaskId) (r : Res) (o : Option Asked) (k : Known)
+    → IsHistory deck T → Knows T t o k → is_leaving r o ≡ false → SpeaksOf deck.limit t r (past_of t k T) (history T)
+speaks_of-known deck T t r o k g h e =
+    past_speaks_of deck.limit t r k T g.made g.count (stays-asked r o (outstanding t k T) h.request e) h.right
 
 -- an owner by the lists is still one, where nothing gives the resource up
-pub owns-still : (r : Res) (t : TaskId) (T : List RunItem) (i : Option RunItem) → may_leave r i ≡ false → owns (list_of (lists T) r) t ≡ true → Still r t T i
+pub owns-still : (r : Res) (t : TaskId) (T : List RunItem) (i : Option RunItem) → may_leave r i ≡ false
+    → owns (list_of (lists T) r) t ≡ true → Still r t T i
 owns-still r t T None e h = h
 owns-still r t T (Some x) e h = (λ f. h, λ f. no_truth (gives_back r x.fixed) f e)
 
 -- ---- another task's item
-pub knows-other : (T : List RunItem) (x : RunItem) (t : TaskId) (o : Option Asked) (k : Known) → is_of t x.fixed ≡ false → removes_system_of t x.fixed ≡ false → Knows T t o k → Knows (T ++ x ∷ []) t o k
-knows-other T x t o k apart live h = record { right = right-other t k T x apart live h.right; request = subst (IsOutstanding o) (sym (outstanding-other t k T x apart)) h.request; live = live-push t T x h.live live }
+pub knows-other : (T : List RunItem) (x : RunItem) (t : TaskId) (o : Option Asked) (k : Known) → is_of t x.fixed ≡ false
+    → removes_system_of t x.fixed ≡ false → Knows T t o k → Knows (T ++ x ∷ []) t o k
+knows-other T x t o k apart live h = record {
+  right = right-other t k T x apart live h.right;
+  request = subst (IsOutstanding o) (sym (outstanding-other t k T x apart)) h.request;
+  live = live-push t T x h.live live;
+}
 
-pub past-other : (T : List RunItem) (x : RunItem) (t : TaskId) (k : Known) → is_of t x.fixed ≡ false → past_of t k (T ++ x ∷ []) ≡ past_of t k T
+pub past-other : (T : List RunItem) (x : RunItem) (t : TaskId) (k : Known) → is_of t x.fixed ≡ false
+    → past_of t k (T ++ x ∷ []) ≡ past_of t k T
 past-other T x t k apart = ap (λ xs. past_by k.owns (history xs)) (learned-other t k T x apart)
 
 -- ---- its own item: it is behind
-module _ (T : List RunItem) (x : RunItem) (t : TaskId) (k : Known) (own : is_of t x.fixed ≡ true) (now : k.behind ≡ false) where
-  pub knows-behind : (a : Asked) → x.fixed ≡ fixing.Asked a.req → Made T x → IsLive t T → IsRight t k T → Knows (T ++ x ∷ []) t (Some a) (falls_behind k)
-  knows-behind a e made live right = record { right = right-own t T x own k now made right; request = subst (IsOutstanding (Some a)) (sym (outstanding-own t T x own k)) e; live = live-push t T x live (ap (removes_system_of t) e) }
+module _ (T : List RunItem) (x : RunItem) (t : TaskId) (k : Known) (own : is_of t x.fixed ≡ true)
+    (now : k.behind ≡ false) where
+  pub knows-behind : (a : Asked) → x.fixed ≡ fixing.Asked a.req → Made T x → IsLive t T → IsRight t k T
+      → Knows (T ++ x ∷ []) t (Some a) (falls_behind k)
+  knows-behind a e made live right = record {
+    right = right-own t T x own k now made right;
+    request = subst (IsOutstanding (Some a)) (sym (outstanding-own t T x own k)) e;
+    live = live-push t T x live (ap (removes_system_of t) e);
+  }
 
   pub past-behind : past_of t (falls_behind k) (T ++ x ∷ []) ≡ past_of t k T
   past-behind = ap (λ xs. past_by k.owns (history xs)) (learned-own t T x own k now)
@@ -88,7 +110,9 @@ pub record KnowsEntry (T : List RunItem) (t : TaskId) (p : Past) (h : HistEntry)
   pub fits : Fits p h
   pub control : (r : Res) → tells r h ≡ true → owns (list_of (lists T) r) t ≡ true
 
-pub entry-learned : (deck : Deck) (T : List RunItem) (x : RunItem) (t : TaskId) (k : Known) (h : HistEntry) → IsHistory deck T → IsLive t T → IsRight t k T → outstanding t k T ≡ Some x → x.entries ≡ h ∷ [] → KnowsEntry T t (past_of t k T) h
+pub entry-learned : (deck : Deck) (T : List RunItem) (x : RunItem) (t : TaskId) (k : Known) (h : HistEntry)
+    → IsHistory deck T → IsLive t T → IsRight t k T → outstanding t k T ≡ Some x → x.entries ≡ h ∷ []
+    → KnowsEntry T t (past_of t k T) h
 entry-learned deck T x t k h g live right is one = record {
   known = learns_item k x;
   knows = record { right = right-answer t k T x is right; request = tt; live = live };
@@ -98,12 +122,16 @@ entry-learned deck T x t k h g live right is one = record {
 }
 
 -- one that its system decides at once
-pub entry-decided : (deck : Deck) (T : List RunItem) (x : RunItem) (t : TaskId) (k : Known) (h : HistEntry) → IsHistory deck (T ++ x ∷ []) → is_of t x.fixed ≡ true → Made T x → IsLive t (T ++ x ∷ []) → IsRight t k T → k.behind ≡ false → x.entries ≡ h ∷ [] →
+pub entry-decided : (deck : Deck) (T : List RunItem) (x : RunItem) (t : TaskId) (k : Known) (h : HistEntry)
+    → IsHistory deck (T ++ x ∷ []) → is_of t x.fixed ≡ true → Made T x → IsLive t (T ++ x ∷ []) → IsRight t k T
+    → k.behind ≡ false → x.entries ≡ h ∷ [] →
     KnowsEntry (T ++ x ∷ []) t (past_of t k T) h
 entry-decided deck T x t k h g own made live right now one =
     subst (λ p. KnowsEntry (T ++ x ∷ []) t p h) (past-behind T x t k own now)
-    (entry-learned deck (T ++ x ∷ []) x t (falls_behind k) h g live (right-own t T x own k now made right) (outstanding-own t T x own k) one)
+    (entry-learned deck (T ++ x ∷ []) x t (falls_behind k) h g live (right-own t T x own k now made right)
+    (outstanding-own t T x own k) one)
 
 -- ---- control is learned
-pub knows-control : (T : List RunItem) (t : TaskId) (r : Res) (o : Option Asked) (k : Known) → Knows T t o k → Still r t T (outstanding t k T) → Knows T t o (learns_control k r)
+pub knows-control : (T : List RunItem) (t : TaskId) (r : Res) (o : Option Asked) (k : Known) → Knows T t o k
+    → Still r t T (outstanding t k T) → Knows T t o (learns_control k r)
 knows-control T t r o k h s = record { right = right-control t k T r h.right s; request = h.request; live = h.live }

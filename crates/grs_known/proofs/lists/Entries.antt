@@ -24,11 +24,13 @@ last_entry-push (x ∷ []) h = refl
 last_entry-push (x ∷ y ∷ ys) h = last_entry-push (y ∷ ys) h
 
 -- an entry that is no end changes nothing, one that is an end counts where there was none
-pub end_among-push : (xs : List HistEntry) (h : HistEntry) → end_among xs ≡ None → end_among (xs ++ h ∷ []) ≡ end_or (code_of h) None
+pub end_among-push : (xs : List HistEntry) (h : HistEntry) → end_among xs ≡ None
+    → end_among (xs ++ h ∷ []) ≡ end_or (code_of h) None
 end_among-push [] h none = refl
 end_among-push (x ∷ xs) h none = by_code (code_of x) (end_among-push xs h) none
   where
-    by_code : (c : Code) → (end_among xs ≡ None → end_among (xs ++ h ∷ []) ≡ end_or (code_of h) None) → end_or c (end_among xs) ≡ None → end_or c (end_among (xs ++ h ∷ [])) ≡ end_or (code_of h) None
+    by_code : (c : Code) → (end_among xs ≡ None → end_among (xs ++ h ∷ []) ≡ end_or (code_of h) None)
+        → end_or c (end_among xs) ≡ None → end_or c (end_among (xs ++ h ∷ [])) ≡ end_or (code_of h) None
     by_code (codes.End n) more e = cc
     by_code codes.C00 more e = more e
     by_code codes.C04 more e = more e
@@ -38,7 +40,8 @@ end_among-push (x ∷ xs) h none = by_code (code_of x) (end_among-push xs h) non
     by_code codes.Wait more e = more e
 
 -- an entry of a line keeps its place when the history grows
-pub asked_at-grows : (l : Option Meaning) (xs ys : List HistEntry) (i : ℕ) (e : HistEntry) → asked_at l (slice_get xs i) ≡ Some e → asked_at l (slice_get (xs ++ ys) i) ≡ Some e
+pub asked_at-grows : (l : Option Meaning) (xs ys : List HistEntry) (i : ℕ) (e : HistEntry)
+    → asked_at l (slice_get xs i) ≡ Some e → asked_at l (slice_get (xs ++ ys) i) ≡ Some e
 asked_at-grows None xs ys i e h = cc
 asked_at-grows (Some l) xs ys i e h = cases (is_silent l) h
   where

@@ -12,6 +12,7 @@ pub queued_by-own : (s : State) (t : TaskId) → queued_by s t ≡ map (λ k. k.
 queued_by-own [] t = refl
 queued_by-own (h ∷ s) t = grind (arith, queued_by-own s t)
 
-pub has_task-own : (s : State) (t : TaskId) (r : Res) → has_task (list_of s r) t ≡ list_any (λ k. same_res r k.0) (own_elements s t)
+pub has_task-own : (s : State) (t : TaskId) (r : Res)
+    → has_task (list_of s r) t ≡ list_any (λ k. same_res r k.0) (own_elements s t)
 has_task-own [] t r = refl
 has_task-own (h ∷ s) t r = grind (arith, has_task-own s t r)

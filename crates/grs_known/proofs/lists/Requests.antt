@@ -1,9 +1,11 @@
 -- What a task's own request does to what the task owns, and what the reply tells of that.
-use Rattle.std.proofs.Common.{◌≡◌, ℕ, suc, zero, Bool, true, false, ◌&&◌, ◌||◌, List, [], ◌∷◌, ◌++◌, refl, ap, sym, ◌∙◌, subst, arith}
+use Rattle.std.proofs.Common.{◌≡◌, ℕ, suc, zero, Bool, true, false, ◌&&◌, ◌||◌, List, [], ◌∷◌, ◌++◌, refl, ap, sym, ◌∙◌}
+use Rattle.std.proofs.Common.{subst, arith}
 use Rattle.std.specs.List.{list_any}
 use Rattle.std.proofs.lemmas.Bool.Decides.{nat_tests}
 use Rattle.grs_base.specs.Same.{same_res}
-use Rattle.grs_base.specs.Lists.{owns, owns_shared, has_task, all_shared, is_shared, can_have, standing_of, list_after, list_exclusive, enq_decision, deq_code, is_owner}
+use Rattle.grs_base.specs.Lists.{owns, owns_shared, has_task, all_shared, is_shared, can_have, standing_of, list_after}
+use Rattle.grs_base.specs.Lists.{list_exclusive, enq_decision, deq_code, is_owner}
 use Rattle.grs_base.specs.State.{State, list_of, enq_state, enq_code}
 use Rattle.grs_base.specs.declared.resource.Elem.{Elem}
 use Rattle.grs_base.specs.declared.resource.Ctl.{Ctl}
@@ -31,11 +33,13 @@ use Rattle.grs_base.specs.declared.resource.Ret.TheVariants.{RetNone, RetUse, Re
 use Rattle.grs_known.specs.Items.{gave}
 
 -- ---- a task's own ENQ
-owns_shared-push : (es : List Elem) (t : TaskId) (c : Ctl) → has_task es t ≡ false → owns_shared (es ++ record { task = t; ctl = c } ∷ []) t ≡ (all_shared es && is_shared c)
+owns_shared-push : (es : List Elem) (t : TaskId) (c : Ctl) → has_task es t ≡ false
+    → owns_shared (es ++ record { task = t; ctl = c } ∷ []) t ≡ (all_shared es && is_shared c)
 owns_shared-push [] t c h = grind (arith, same_task-itself t)
 owns_shared-push (e ∷ es) t c h = grind (arith, h, owns_shared-push es t c)
 
-pub owns-push : (es : List Elem) (t : TaskId) (c : Ctl) → has_task es t ≡ false → owns (es ++ record { task = t; ctl = c } ∷ []) t ≡ can_have es c
+pub owns-push : (es : List Elem) (t : TaskId) (c : Ctl) → has_task es t ≡ false
+    → owns (es ++ record { task = t; ctl = c } ∷ []) t ≡ can_have es c
 owns-push [] t E h = grind (arith, same_task-itself t)
 owns-push [] t S h = grind (arith, same_task-itself t)
 owns-push (e ∷ es) t E h = grind (arith, h, owns_shared-push es t E)
@@ -46,15 +50,19 @@ owns-exclusive [] t h = grind (arith, nat_tests, h)
 owns-exclusive (e ∷ es) t h = grind (arith, nat_tests, h)
 
 -- it leaves what its task owned
-owns-after : (es : List Elem) (t : TaskId) (c : Ctl) (e : Effect) → (e ≡ MakeExclusive → standing_of es t ≡ OnlyShared) → owns es t ≡ true → owns (list_after es t c e) t ≡ true
+owns-after : (es : List Elem) (t : TaskId) (c : Ctl) (e : Effect) → (e ≡ MakeExclusive → standing_of es t ≡ OnlyShared)
+    → owns es t ≡ true → owns (list_after es t c e) t ≡ true
 owns-after es t c Nothing only h = h
 owns-after es t c Append only h = owns-append es _ t h
 owns-after es t c MakeExclusive only h = owns-exclusive es t (only refl)
 
-owns-enq : (s : State) (r q : Res) (t : TaskId) (c : Ctl) (ret : Ret) (full : Bool) → owns (list_of s r) t ≡ true → owns (list_of (enq_state s q t c ret full) r) t ≡ true
+owns-enq : (s : State) (r q : Res) (t : TaskId) (c : Ctl) (ret : Ret) (full : Bool) → owns (list_of s r) t ≡ true
+    → owns (list_of (enq_state s q t c ret full) r) t ≡ true
 owns-enq s r q t c ret full h = by_res r q _
     (λ same. subst (λ z. owns (list_of (enq_state s q t c ret full) z) t ≡ true) (sym same)
-    (ap (λ es. owns es t) (list_of-effect s q t c _) ∙ owns-after (list_of s q) t c _ (only_owner (list_of s q) t c ret full) (subst (λ z. owns (list_of s z) t ≡ true) same h)))
+    (ap (λ es. owns es t) (list_of-effect s q t c _)
+    ∙ owns-after (list_of s q) t c _ (only_owner (list_of s q) t c ret full)
+    (subst (λ z. owns (list_of s z) t ≡ true) same h)))
     (λ other. ap (λ es. owns es t) (list_of-effect_other s r q t c _ other) ∙ h)
 
 -- whether a task that stood like this owns after an effect; `can` tells whether its control could be had
@@ -64,10 +72,13 @@ then_owns Absent can Append = can
 then_owns OnlyShared can MakeExclusive = true
 then_owns _ _ _ = false
 
-then_owns-granted : (st : Standing) (ret : Ret) (full can : Bool) → has_control ret ≡ true → is_granted (enq_decision st ret full can).code ≡ true → then_owns st can (enq_decision st ret full can).effect ≡ true
+then_owns-granted : (st : Standing) (ret : Ret) (full can : Bool) → has_control ret ≡ true
+    → is_granted (enq_decision st ret full can).code ≡ true
+    → then_owns st can (enq_decision st ret full can).effect ≡ true
 then_owns-granted st ret full can has g = grind (arith, has, g)
 
-owns-then : (es : List Elem) (t : TaskId) (c : Ctl) (e : Effect) (st : Standing) → standing_of es t ≡ st → then_owns st (can_have es c) e ≡ true → owns (list_after es t c e) t ≡ true
+owns-then : (es : List Elem) (t : TaskId) (c : Ctl) (e : Effect) (st : Standing) → standing_of es t ≡ st
+    → then_owns st (can_have es c) e ≡ true → owns (list_after es t c e) t ≡ true
 owns-then es t c Nothing st at h = sym (is_owner-standing es t) ∙ ap is_owner at ∙ h
 owns-then es t c Append Absent at h = owns-push es t c (absent-has es t at) ∙ h
 owns-then es t c Append Exclusive at h = cc
@@ -81,22 +92,26 @@ owns-then es t c MakeExclusive Waits at h = cc
 owns-then es t c MakeExclusive Absent at h = cc
 
 -- one that tells control is of an owner
-pub owns-granted : (s : State) (r : Res) (t : TaskId) (c : Ctl) (ret : Ret) (full : Bool) → has_control ret ≡ true → is_granted (enq_code s r t c ret full) ≡ true → owns (list_of (enq_state s r t c ret full) r) t ≡ true
+pub owns-granted : (s : State) (r : Res) (t : TaskId) (c : Ctl) (ret : Ret) (full : Bool) → has_control ret ≡ true
+    → is_granted (enq_code s r t c ret full) ≡ true → owns (list_of (enq_state s r t c ret full) r) t ≡ true
 owns-granted s r t c ret full has g =
     ap (λ es. owns es t) (list_of-effect s r t c _)
-    ∙ owns-then (list_of s r) t c _ (standing_of (list_of s r) t) refl (then_owns-granted (standing_of (list_of s r) t) ret full (can_have (list_of s r) c) has g)
+    ∙ owns-then (list_of s r) t c _ (standing_of (list_of s r) t) refl
+    (then_owns-granted (standing_of (list_of s r) t) ret full (can_have (list_of s r) c) has g)
 
 -- ---- a task's own request
 pub granted-deq : (st : Standing) (have : Bool) → is_owner st ≡ true → is_granted (deq_code st have) ≡ true
 granted-deq st have h = grind (arith, h)
 
-pub want-keeps : (s : State) (t : TaskId) (w : Want) (r : Res) → gives_up r w ≡ false → owns (list_of s r) t ≡ true → owns (list_of (after_want s t w) r) t ≡ true
+pub want-keeps : (s : State) (t : TaskId) (w : Want) (r : Res) → gives_up r w ≡ false → owns (list_of s r) t ≡ true
+    → owns (list_of (after_want s t w) r) t ≡ true
 want-keeps s t (wants.Enq q c ret full) r e h = owns-enq s r q t c ret full h
 want-keeps s t (wants.Deq q have) r e h = ap (λ es. owns es t) (list_of-want_other s t (wants.Deq q have) r e) ∙ h
 want-keeps s t (wants.Release q) r e h = ap (λ es. owns es t) (list_of-want_other s t (wants.Release q) r e) ∙ h
 want-keeps s t (wants.Look first count f) r e h = h
 
-pub want-takes : (s : State) (t : TaskId) (w : Want) (r : Res) → gives_up r w ≡ true → owns (list_of s r) t ≡ true → list_any (took r) (entries_for s t w) ≡ true
+pub want-takes : (s : State) (t : TaskId) (w : Want) (r : Res) → gives_up r w ≡ true → owns (list_of s r) t ≡ true
+    → list_any (took r) (entries_for s t w) ≡ true
 want-takes s t (wants.Enq q c ret full) r e h = cc
 want-takes s t (wants.Deq q have) r e h =
     let own : owns (list_of s q) t ≡ true = subst (λ z. owns (list_of s z) t ≡ true) (same_res-exact r q e) h in
@@ -104,14 +119,18 @@ want-takes s t (wants.Deq q have) r e h =
 want-takes s t (wants.Release q) r e h = rw e refl
 want-takes s t (wants.Look first count f) r e h = cc
 
-looks-tell : (s : State) (t : TaskId) (r : Res) (first count : ℕ) (f : _) → list_any (tells r) (look_entries s t first count f) ≡ false
+looks-tell : (s : State) (t : TaskId) (r : Res) (first count : ℕ) (f : _)
+    → list_any (tells r) (look_entries s t first count f) ≡ false
 looks-tell s t r first zero f = refl
 looks-tell s t r first (suc count) f = looks-tell s t r (suc first) count f
 
-pub want-tells : (s : State) (t : TaskId) (w : Want) (r : Res) → list_any (tells r) (entries_for s t w) ≡ true → owns (list_of (after_want s t w) r) t ≡ true
+pub want-tells : (s : State) (t : TaskId) (w : Want) (r : Res) → list_any (tells r) (entries_for s t w) ≡ true
+    → owns (list_of (after_want s t w) r) t ≡ true
 want-tells s t (wants.Enq q c ret full) r h =
-    let parts : (same_res r q ≡ true) × (is_granted (enq_code s q t c ret full) ≡ true) × (has_control ret ≡ true) = three (same_res r q) (is_granted (enq_code s q t c ret full)) (has_control ret) h in
-    subst (λ z. owns (list_of (enq_state s q t c ret full) z) t ≡ true) (sym (same_res-exact r q parts.0)) (owns-granted s q t c ret full parts.2 parts.1)
+    let parts : (same_res r q ≡ true) × (is_granted (enq_code s q t c ret full) ≡ true) × (has_control ret ≡ true) =
+    three (same_res r q) (is_granted (enq_code s q t c ret full)) (has_control ret) h in
+    subst (λ z. owns (list_of (enq_state s q t c ret full) z) t ≡ true) (sym (same_res-exact r q parts.0))
+    (owns-granted s q t c ret full parts.2 parts.1)
   where
     three : (a b c : Bool) → ((a && (b && c)) || false) ≡ true → (a ≡ true) × (b ≡ true) × (c ≡ true)
     three true true true e = (refl, refl, refl)
@@ -120,11 +139,13 @@ want-tells s t (wants.Enq q c ret full) r h =
     three false b c e = cc
 want-tells s t (wants.Deq q have) r h = cc
 want-tells s t (wants.Release q) r h = cc
-want-tells s t (wants.Look first count f) r h = absurd (let g : false ≡ true = sym (looks-tell s t r first count f) ∙ h in cc)
+want-tells s t (wants.Look first count f) r h =
+    absurd (let g : false ≡ true = sym (looks-tell s t r first count f) ∙ h in cc)
 
 -- ---- the reply
 -- what is queued was asked where its task had no element
-pub queued-absent : (st : Standing) (ret : Ret) (full can : Bool) → is_queued ret (enq_decision st ret full can).code ≡ true → st ≡ Absent
+pub queued-absent : (st : Standing) (ret : Ret) (full can : Bool)
+    → is_queued ret (enq_decision st ret full can).code ≡ true → st ≡ Absent
 queued-absent st ret full can h = grind (arith, h)
 
 -- what an entry gave its task it tells

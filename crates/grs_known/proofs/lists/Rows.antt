@@ -20,12 +20,14 @@ AreLists s [] = Unit {0}
 AreLists s (x ∷ xs) = (x.elems ≡ list_of s x.res) × AreLists s xs
 
 module _ (s : State) where
-  with-put : (r : Res) (es : List (Res × List Elem)) → AreLists s (map row_of es) → AreLists s (map row_of (put res_order r (list_of s r) es))
+  with-put : (r : Res) (es : List (Res × List Elem)) → AreLists s (map row_of es)
+      → AreLists s (map row_of (put res_order r (list_of s r) es))
   with-put r [] h = (refl, tt)
   with-put r (e ∷ es) h = go (res_order r e.0) refl (with-put r es h.1)
     where
       go : (o : Ordering) → res_order r e.0 ≡ o → AreLists s (map row_of (put res_order r (list_of s r) es)) →
-          AreLists s (map row_of (by_order o ((r, list_of s r) ∷ e ∷ es) ((e.0, list_of s r) ∷ es) (e ∷ put res_order r (list_of s r) es)))
+          AreLists s (map row_of
+          (by_order o ((r, list_of s r) ∷ e ∷ es) ((e.0, list_of s r) ∷ es) (e ∷ put res_order r (list_of s r) es)))
       go Less is rest = (refl, h)
       go Equal is rest = (ap (list_of s) (same_res-exact r e.0 (same_res-tie r e.0 ∙ ap is_eq is)), h.1)
       go Greater is rest = (h.0, rest)

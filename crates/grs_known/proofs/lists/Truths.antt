@@ -22,7 +22,10 @@ or_other true b e f = cc
 or_other false b e f = e
 
 pub task_swap : (t u : TaskId) → same_task t u ≡ false → same_task u t ≡ false
-task_swap t u e = false_by (same_task u t) (λ h. no_truth (same_task t u) (subst (λ (z : TaskId). same_task z u ≡ true) (same_task-exact u t h) (same_task-itself u)) e)
+task_swap t u e =
+    false_by (same_task u t) (λ h.
+    no_truth (same_task t u) (subst (λ (z : TaskId). same_task z u ≡ true) (same_task-exact u t h) (same_task-itself u))
+    e)
 
 pub eqb-flip : (a b : ℕ) → (a == b) ≡ (b == a)
 eqb-flip a b = go (a == b) refl

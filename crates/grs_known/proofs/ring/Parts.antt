@@ -18,7 +18,8 @@ pub list_of-systems : (s : State) (r : Res) → is_systems r ≡ true → list_o
 list_of-systems s r h = list_of-part is_systems s r h
 
 -- ---- what goes with the message is done to the part
-pub part-want : (s : State) (t : TaskId) (w : Want) → wants_round w ≡ true → systems_part (after_want s t w) ≡ after_want (systems_part s) t w
+pub part-want : (s : State) (t : TaskId) (w : Want) → wants_round w ≡ true
+    → systems_part (after_want s t w) ≡ after_want (systems_part s) t w
 part-want s t (wants.Enq r c ret full) wide = sym (after_want-part is_systems s t (wants.Enq r c ret full) r refl wide)
 part-want s t (wants.Deq r have) wide = sym (after_want-part is_systems s t (wants.Deq r have) r refl wide)
 part-want s t (wants.Release r) wide = sym (after_want-part is_systems s t (wants.Release r) r refl wide)
@@ -28,13 +29,15 @@ pub part-remove : (s : State) (n : ℕ) → systems_part (remove_state s n) ≡ 
 part-remove [] n = refl
 part-remove (x ∷ s) n = grind (arith, part-remove s n)
 
-part-fixed : (s : State) (f : Fixed) → goes_round f ≡ true → systems_part (after_fixed s f) ≡ after_fixed (systems_part s) f
+part-fixed : (s : State) (f : Fixed) → goes_round f ≡ true
+    → systems_part (after_fixed s f) ≡ after_fixed (systems_part s) f
 part-fixed s (Asked q) e = part-want s q.task q.want e
 part-fixed s (LocalLook t f) e = refl
 part-fixed s (Purged target) e = part-remove s target.0
 
 -- ---- and nothing else is
-part-narrow : (s : State) (t : TaskId) (w : Want) → wants_round w ≡ false → systems_part (after_want s t w) ≡ systems_part s
+part-narrow : (s : State) (t : TaskId) (w : Want) → wants_round w ≡ false
+    → systems_part (after_want s t w) ≡ systems_part s
 part-narrow s t (wants.Enq r c ret full) narrow = part-want_other is_systems s t (wants.Enq r c ret full) r refl narrow
 part-narrow s t (wants.Deq r have) narrow = part-want_other is_systems s t (wants.Deq r have) r refl narrow
 part-narrow s t (wants.Release r) narrow = part-want_other is_systems s t (wants.Release r) r refl narrow
@@ -46,11 +49,14 @@ part-fixed_other s (LocalLook t f) e = refl
 part-fixed_other s (Purged target) e = cc
 
 -- ---- items
-pub part-items : (s : State) (xs : List RunItem) → lists_from (systems_part s) (rounds xs) ≡ systems_part (lists_from s xs)
+pub part-items : (s : State) (xs : List RunItem)
+    → lists_from (systems_part s) (rounds xs) ≡ systems_part (lists_from s xs)
 part-items s [] = refl
 part-items s (x ∷ xs) = go (goes_round x.fixed) refl ∙ part-items (after_fixed s x.fixed) xs
   where
-    go : (b : Bool) → goes_round x.fixed ≡ b → lists_from (systems_part s) (cond b (x ∷ rounds xs) (rounds xs)) ≡ lists_from (systems_part (after_fixed s x.fixed)) (rounds xs)
+    go : (b : Bool) → goes_round x.fixed ≡ b
+        → lists_from (systems_part s) (cond b (x ∷ rounds xs) (rounds xs))
+        ≡ lists_from (systems_part (after_fixed s x.fixed)) (rounds xs)
     go true e = ap (λ z. lists_from z (rounds xs)) (sym (part-fixed s x.fixed e))
     go false e = ap (λ z. lists_from z (rounds xs)) (sym (part-fixed_other s x.fixed e))
 

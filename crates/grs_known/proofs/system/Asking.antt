@@ -1,5 +1,6 @@
 -- A task whose request is outstanding is seen as one that hasn't asked yet.
-use Rattle.std.proofs.Common.{◌≡◌, ◌<◌, ◌-◌, ℕ, Bool, true, false, not, ◌||◌, List, [], ◌∷◌, map, length, Option, Some, None, refl, ap, sym, ◌∙◌, subst, arith}
+use Rattle.std.proofs.Common.{◌≡◌, ◌<◌, ◌-◌, ℕ, Bool, true, false, not, ◌||◌, List, [], ◌∷◌, map, length, Option, Some}
+use Rattle.std.proofs.Common.{None, refl, ap, sym, ◌∙◌, subst, arith}
 use Rattle.std.specs.Prelude.{slice_get, nat_le}
 use Rattle.std.specs.List.{list_all}
 use Rattle.std.proofs.lemmas.Bool.{cases_Bool}
@@ -45,10 +46,14 @@ unasked_by (Some a) x = record x { line = line_asked a.req.want x.line; phase = 
 abbrev pub unasked : TaskState → TaskState
 unasked x = unasked_by x.outstanding x
 
-pub unasked-told : (x : TaskState) (r : Res) (f : Rec → Rec) → unasked (record x { records = on_record r f x.records }) ≡ record (unasked x) { records = on_record r f (unasked x).records }
+pub unasked-told : (x : TaskState) (r : Res) (f : Rec → Rec)
+    → unasked (record x { records = on_record r f x.records })
+    ≡ record (unasked x) { records = on_record r f (unasked x).records }
 unasked-told x r f = go x.outstanding
   where
-    go : (o : Option Asked) → unasked_by o (record x { records = on_record r f x.records }) ≡ record (unasked_by o x) { records = on_record r f (unasked_by o x).records }
+    go : (o : Option Asked)
+        → unasked_by o (record x { records = on_record r f x.records })
+        ≡ record (unasked_by o x) { records = on_record r f (unasked_by o x).records }
     go None = refl
     go (Some a) = refl
 
@@ -72,38 +77,48 @@ IsAtLines phases.Ended code = Unit {0}
 -- what an outstanding request has to do with its task: it is what the last line means, or, of an ending task,
 -- the release of its first resource on record; and it is for a resource of the whole complex
 abbrev pub IsAskedFor : ℕ → List Meaning → ℕ → List Rec → Want → Option ℕ → Type 0
-IsAskedFor limit ls n xs (Enq r c ret full) unit = (0 < n) × (slice_get ls (n - 1) ≡ Some (lines.Enq r c ret unit)) × (is_systems r ≡ true) × (full ≡ nat_le limit (length xs))
-IsAskedFor limit ls n xs (Deq r have) unit = (0 < n) × (slice_get ls (n - 1) ≡ Some (lines.Deq r have)) × (is_systems r ≡ true)
+IsAskedFor limit ls n xs (Enq r c ret full) unit =
+    (0 < n) × (slice_get ls (n - 1) ≡ Some (lines.Enq r c ret unit)) × (is_systems r ≡ true)
+    × (full ≡ nat_le limit (length xs))
+IsAskedFor limit ls n xs (Deq r have) unit =
+    (0 < n) × (slice_get ls (n - 1) ≡ Some (lines.Deq r have)) × (is_systems r ≡ true)
 IsAskedFor limit ls n xs (Release r) unit = (slice_get (map (λ y. y.res) xs) 0 ≡ Some r) × (is_systems r ≡ true)
 IsAskedFor limit ls n xs (Look first count f) unit = ⊥
 
 abbrev pub IsOpenBy : ℕ → List Meaning → TaskId → TaskState → Option Asked → Type 0
 IsOpenBy limit ls t x None = IsAtLines x.phase x.code
-IsOpenBy limit ls t x (Some a) = (a.req.task ≡ t) × (is_unsent x.phase ≡ true) × IsAskedFor limit ls x.line x.records a.req.want a.unit
+IsOpenBy limit ls t x (Some a) =
+    (a.req.task ≡ t) × (is_unsent x.phase ≡ true) × IsAskedFor limit ls x.line x.records a.req.want a.unit
 
 -- a task's phase goes with its outstanding request
 abbrev pub IsOpen : ℕ → List Meaning → TaskId → TaskState → Type 0
 IsOpen limit ls t x = IsOpenBy limit ls t x x.outstanding
 
-same-res : (r : Res) (xs : List Rec) → map (λ (y : Rec). y.res) (on_record r (λ z. record z { told = true }) xs) ≡ map (λ (y : Rec). y.res) xs
+same-res : (r : Res) (xs : List Rec)
+    → map (λ (y : Rec). y.res) (on_record r (λ z. record z { told = true }) xs) ≡ map (λ (y : Rec). y.res) xs
 same-res r [] = refl
 same-res r (x ∷ xs) = grind (arith, same-res r xs)
 
-pub open-told : (limit : ℕ) (ls : List Meaning) (t : TaskId) (r : Res) (x : TaskState) → IsOpen limit ls t x → IsOpen limit ls t (record x { records = on_record r (λ z. record z { told = true }) x.records })
+pub open-told : (limit : ℕ) (ls : List Meaning) (t : TaskId) (r : Res) (x : TaskState) → IsOpen limit ls t x
+    → IsOpen limit ls t (record x { records = on_record r (λ z. record z { told = true }) x.records })
 open-told limit ls t r x h = go x.outstanding h
   where
-    by_want : (n : ℕ) (xs : List Rec) (w : Want) (unit : Option ℕ) → IsAskedFor limit ls n xs w unit → IsAskedFor limit ls n (on_record r (λ z. record z { told = true }) xs) w unit
-    by_want n xs (Enq q c ret full) unit k = (k.0, k.1, k.2, k.3 ∙ ap (nat_le limit) (sym (length-on_record r (λ z. record z { told = true }) xs)))
+    by_want : (n : ℕ) (xs : List Rec) (w : Want) (unit : Option ℕ) → IsAskedFor limit ls n xs w unit
+        → IsAskedFor limit ls n (on_record r (λ z. record z { told = true }) xs) w unit
+    by_want n xs (Enq q c ret full) unit
+        k = (k.0, k.1, k.2, k.3 ∙ ap (nat_le limit) (sym (length-on_record r (λ z. record z { told = true }) xs)))
     by_want n xs (Deq q have) unit k = k
     by_want n xs (Release q) unit k = (ap (λ zs. slice_get zs 0) (same-res r xs) ∙ k.0, k.1)
     by_want n xs (Look first count f) unit k = k
 
-    go : (o : Option Asked) → IsOpenBy limit ls t x o → IsOpenBy limit ls t (record x { records = on_record r (λ z. record z { told = true }) x.records }) o
+    go : (o : Option Asked) → IsOpenBy limit ls t x o
+        → IsOpenBy limit ls t (record x { records = on_record r (λ z. record z { told = true }) x.records }) o
     go None k = k
     go (Some a) k = (k.0, k.1, by_want x.line x.records a.req.want a.unit k.2)
 
 -- a task that is held has no outstanding request
-pub held-none : (limit : ℕ) (ls : List Meaning) (t : TaskId) (x : TaskState) → IsOpen limit ls t x → is_unsent x.phase ≡ false → x.outstanding ≡ None
+pub held-none : (limit : ℕ) (ls : List Meaning) (t : TaskId) (x : TaskState) → IsOpen limit ls t x
+    → is_unsent x.phase ≡ false → x.outstanding ≡ None
 held-none limit ls t x h e = go x.outstanding h
   where
     go : (o : Option Asked) → IsOpenBy limit ls t x o → o ≡ None
@@ -111,7 +126,8 @@ held-none limit ls t x h e = go x.outstanding h
     go (Some a) k = let f : false ≡ true = sym e ∙ k.1 in absurd (cc)
 
 -- a task with a request is seen as one that isn't held
-pub unheld : (limit : ℕ) (ls : List Meaning) (t : TaskId) (x : TaskState) → IsOpen limit ls t x → is_held (unasked x).phase ≡ true → x.outstanding ≡ None
+pub unheld : (limit : ℕ) (ls : List Meaning) (t : TaskId) (x : TaskState) → IsOpen limit ls t x
+    → is_held (unasked x).phase ≡ true → x.outstanding ≡ None
 unheld limit ls t x h e = go x.outstanding h e
   where
     asks : (w : Want) (code : ℕ) → is_held (phase_asking w code) ≡ false
@@ -125,13 +141,17 @@ unheld limit ls t x h e = go x.outstanding h e
     go (Some a) k f = let g : false ≡ true = sym (asks a.req.want x.code) ∙ f in absurd (cc)
 
 -- what waits for the message is for a resource of the whole complex, so it leaves others
-pub stays-open : (limit : ℕ) (ls : List Meaning) (t : TaskId) (x : TaskState) (r : Res) (i : Option RunItem) → IsOpen limit ls t x → IsOutstanding x.outstanding i → is_systems r ≡ false → may_leave r i ≡ false
+pub stays-open : (limit : ℕ) (ls : List Meaning) (t : TaskId) (x : TaskState) (r : Res) (i : Option RunItem)
+    → IsOpen limit ls t x → IsOutstanding x.outstanding i → is_systems r ≡ false → may_leave r i ≡ false
 stays-open limit ls t x r i h out narrow = stays-asked r x.outstanding i out (go x.outstanding h)
   where
     apart : (q : Res) → is_systems q ≡ true → same_res r q ≡ false
-    apart q wide = false_by (same_res r q) (λ e. no_truth (is_systems q) wide (subst (λ z. is_systems z ≡ false) (same_res-exact r q e) narrow))
+    apart q wide =
+        false_by (same_res r q)
+        (λ e. no_truth (is_systems q) wide (subst (λ z. is_systems z ≡ false) (same_res-exact r q e) narrow))
 
-    by_want : (n : ℕ) (xs : List Rec) (w : Want) (unit : Option ℕ) → IsAskedFor limit ls n xs w unit → gives_up r w ≡ false
+    by_want : (n : ℕ) (xs : List Rec) (w : Want) (unit : Option ℕ) → IsAskedFor limit ls n xs w unit
+        → gives_up r w ≡ false
     by_want n xs (Enq q c ret full) unit k = refl
     by_want n xs (Deq q have) unit k = apart q k.2
     by_want n xs (Release q) unit k = apart q k.1
@@ -171,13 +191,15 @@ asked-none t (q ∷ qs) h = go (same_task t q.task) refl (asked-none t qs h.1)
 
 pub asked-absent : (t : TaskId) (o : Option Asked) (qs : List Req) → is_among t (askers qs) ≡ false → IsAskedBy t o qs
 asked-absent t o [] h = tt
-asked-absent t o (q ∷ qs) h = (λ e. absurd (grind (arith, h, e)), asked-absent t o qs (grind (arith, h, cases_Bool (same_task t q.task))))
+asked-absent t o (q ∷ qs)
+    h = (λ e. absurd (grind (arith, h, e)), asked-absent t o qs (grind (arith, h, cases_Bool (same_task t q.task))))
 
 -- a task whose request was sent is so
 abbrev pub are_sent : TaskId → Phase → List Req → Bool
 are_sent t p qs = list_all (λ q. not (same_task t q.task) || is_sent p) qs
 
-pub sent-kept : (t : TaskId) (p p' : Phase) (qs : List Req) → (is_sent p ≡ true → is_sent p' ≡ true) → are_sent t p qs ≡ true → are_sent t p' qs ≡ true
+pub sent-kept : (t : TaskId) (p p' : Phase) (qs : List Req) → (is_sent p ≡ true → is_sent p' ≡ true)
+    → are_sent t p qs ≡ true → are_sent t p' qs ≡ true
 sent-kept t p p' [] k h = refl
 sent-kept t p p' (q ∷ qs) k h = grind (arith, h, k, sent-kept t p p' qs k, cases_Bool (same_task t q.task))
 
@@ -186,7 +208,10 @@ sent-absent t p [] h = refl
 sent-absent t p (q ∷ qs) h = grind (arith, h, sent-absent t p qs, cases_Bool (same_task t q.task))
 
 -- the same task, whatever its outstanding request
-pub task-open : (ls : List Meaning) (p : Past) (T : List ToldLine) (leaving : Res → Bool) (t : TaskId) (x : TaskState) (o : Option Asked) → IsTask ls p T leaving t x → IsTask ls p T leaving t (record x { outstanding = o })
+pub task-open :
+    (ls : List Meaning) (p : Past) (T : List ToldLine) (leaving : Res → Bool) (t : TaskId) (x : TaskState)
+    (o : Option Asked)
+    → IsTask ls p T leaving t x → IsTask ls p T leaving t (record x { outstanding = o })
 task-open ls p T leaving t x o k = record {
   keys = k.keys;
   owned = k.owned;

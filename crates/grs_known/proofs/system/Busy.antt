@@ -1,5 +1,6 @@
 -- A task that has an element on a resource has the request on record, or asks for just that resource.
-use Rattle.std.proofs.Common.{◌≡◌, ◌⊎◌, inl, inr, Bool, true, false, cond, not, ◌||◌, List, [], ◌∷◌, ◌++◌, map, Some, None, refl, ap, sym, ◌∙◌, subst}
+use Rattle.std.proofs.Common.{◌≡◌, ◌⊎◌, inl, inr, Bool, true, false, cond, not, ◌||◌, List, [], ◌∷◌, ◌++◌, map, Some}
+use Rattle.std.proofs.Common.{None, refl, ap, sym, ◌∙◌, subst}
 use Rattle.std.specs.Prelude.{filter}
 use Rattle.std.proofs.lemmas.Bool.{or_left, or_right}
 use Rattle.grs_base.specs.Same.{same_res}
@@ -39,11 +40,13 @@ own-made : (r q : Res) (ks : List (Res × Ctl)) → has_own r (map (made_exclusi
 own-made r q [] = refl
 own-made r q (k ∷ ks) = go (same_res q k.0) (own-made r q ks)
   where
-    go : (b : Bool) → has_own r (map (made_exclusive q) ks) ≡ has_own r ks → has_own r (cond b (k.0, ctls.E) k ∷ map (made_exclusive q) ks) ≡ has_own r (k ∷ ks)
+    go : (b : Bool) → has_own r (map (made_exclusive q) ks) ≡ has_own r ks
+        → has_own r (cond b (k.0, ctls.E) k ∷ map (made_exclusive q) ks) ≡ has_own r (k ∷ ks)
     go true h = ap (λ c. same_res r k.0 || c) h
     go false h = ap (λ c. same_res r k.0 || c) h
 
-own-push : (r q : Res) (c : Ctl) (ks : List (Res × Ctl)) → has_own r (ks ++ (q, c) ∷ []) ≡ true → (has_own r ks ≡ true) ⊎ (q ≡ r)
+own-push : (r q : Res) (c : Ctl) (ks : List (Res × Ctl)) → has_own r (ks ++ (q, c) ∷ []) ≡ true
+    → (has_own r ks ≡ true) ⊎ (q ≡ r)
 own-push r q c [] h = go (same_res r q) refl h
   where
     go : (b : Bool) → same_res r q ≡ b → (b || false) ≡ true → (has_own r [] ≡ true) ⊎ (q ≡ r)
@@ -51,7 +54,9 @@ own-push r q c [] h = go (same_res r q) refl h
     go false e k = absurd (cc)
 own-push r q c (k ∷ ks) h = go (same_res r k.0) refl h (own-push r q c ks)
   where
-    go : (b : Bool) → same_res r k.0 ≡ b → (b || has_own r (ks ++ (q, c) ∷ [])) ≡ true → (has_own r (ks ++ (q, c) ∷ []) ≡ true → (has_own r ks ≡ true) ⊎ (q ≡ r)) → (has_own r (k ∷ ks) ≡ true) ⊎ (q ≡ r)
+    go : (b : Bool) → same_res r k.0 ≡ b → (b || has_own r (ks ++ (q, c) ∷ [])) ≡ true
+        → (has_own r (ks ++ (q, c) ∷ []) ≡ true → (has_own r ks ≡ true) ⊎ (q ≡ r))
+        → (has_own r (k ∷ ks) ≡ true) ⊎ (q ≡ r)
     go true e f more = inl (or_left (same_res r k.0) (has_own r ks) e)
     go false e f more = by_more (more f)
       where
@@ -59,51 +64,79 @@ own-push r q c (k ∷ ks) h = go (same_res r k.0) refl h (own-push r q c ks)
         by_more (inl z) = inl (or_right (same_res r k.0) (has_own r ks) z)
         by_more (inr z) = inr z
 
-own-left : (r q : Res) (ks : List (Res × Ctl)) → has_own r (filter (λ k. not (same_res q k.0)) ks) ≡ true → has_own r ks ≡ true
+own-left : (r q : Res) (ks : List (Res × Ctl)) → has_own r (filter (λ k. not (same_res q k.0)) ks) ≡ true
+    → has_own r ks ≡ true
 own-left r q [] h = h
 own-left r q (k ∷ ks) h = go (same_res q k.0) h (own-left r q ks)
   where
-    go : (b : Bool) → has_own r (cond (not b) (k ∷ filter (λ z. not (same_res q z.0)) ks) (filter (λ z. not (same_res q z.0)) ks)) ≡ true → (has_own r (filter (λ z. not (same_res q z.0)) ks) ≡ true → has_own r ks ≡ true) → has_own r (k ∷ ks) ≡ true
+    go : (b : Bool)
+        → has_own r (cond (not b) (k ∷ filter (λ z. not (same_res q z.0)) ks) (filter (λ z. not (same_res q z.0)) ks))
+        ≡ true
+        → (has_own r (filter (λ z. not (same_res q z.0)) ks) ≡ true → has_own r ks ≡ true) → has_own r (k ∷ ks) ≡ true
     go true e more = or_right (same_res r k.0) (has_own r ks) (more e)
     go false e more = by_first (same_res r k.0) refl e
       where
-        by_first : (c : Bool) → same_res r k.0 ≡ c → (c || has_own r (filter (λ z. not (same_res q z.0)) ks)) ≡ true → has_own r (k ∷ ks) ≡ true
+        by_first : (c : Bool) → same_res r k.0 ≡ c → (c || has_own r (filter (λ z. not (same_res q z.0)) ks)) ≡ true
+            → has_own r (k ∷ ks) ≡ true
         by_first true f g = or_left (same_res r k.0) (has_own r ks) f
         by_first false f g = or_right (same_res r k.0) (has_own r ks) (more g)
 
-own-effect : (e : Effect) (r q : Res) (c : Ctl) (ks : List (Res × Ctl)) → has_own r (own_by_effect e q c ks) ≡ true → (has_own r ks ≡ true) ⊎ (q ≡ r)
+own-effect : (e : Effect) (r q : Res) (c : Ctl) (ks : List (Res × Ctl)) → has_own r (own_by_effect e q c ks) ≡ true
+    → (has_own r ks ≡ true) ⊎ (q ≡ r)
 own-effect Nothing r q c ks h = inl h
 own-effect Append r q c ks h = own-push r q c ks h
 own-effect MakeExclusive r q c ks h = inl (sym (own-made r q ks) ∙ h)
 
-module _ (deck : Deck) (os : Opens) (T : List RunItem) (right : IsHistory deck T) (told : List ToldLine) (t : TaskId) (ls : List Meaning) (x : TaskState) (k : IsHere deck os T told t ls x) (r : Res) where
+module _ (deck : Deck) (os : Opens) (T : List RunItem) (right : IsHistory deck T) (told : List ToldLine) (t : TaskId)
+    (ls : List Meaning) (x : TaskState) (k : IsHere deck os T told t ls x) (r : Res) where
   recorded : has_own r (past_of t k.known T).own ≡ true → has_res r x.records ≡ true
-  recorded h = has_res-own r x.records (past_of t k.known T).own (ap (map key) (sym (records-unasked x)) ∙ k.task.keys) ∙ h
+  recorded h =
+      has_res-own r x.records (past_of t k.known T).own (ap (map key) (sym (records-unasked x)) ∙ k.task.keys) ∙ h
 
-  by_item : (y : RunItem) (S : State) (w : Want) → outstanding t k.known T ≡ Some y → y.entries ≡ entries_for S t w → (q : Res) → res_wanted w ≡ Some q → has_task (list_of (lists T) r) t ≡ true → (has_own r (past_of t k.known T).own ≡ true) ⊎ (q ≡ r)
+  by_item : (y : RunItem) (S : State) (w : Want) → outstanding t k.known T ≡ Some y → y.entries ≡ entries_for S t w
+      → (q : Res) → res_wanted w ≡ Some q → has_task (list_of (lists T) r) t ≡ true
+      → (has_own r (past_of t k.known T).own ≡ true) ⊎ (q ≡ r)
   by_item y S w is made q wanted h = by_want w made wanted
     where
       all : has_own r (after_entries y.entries (past_of t k.known T)).own ≡ true
-      all = sym (ap (λ (p : Past). has_own r p.own) (past_grows t k.known T y is)) ∙ (sym (ap (has_own r) (elements_are_of_items t T right.made k.knows.live)) ∙ (sym (has_task-own (lists T) t r) ∙ h))
+      all =
+          sym (ap (λ (p : Past). has_own r p.own) (past_grows t k.known T y is))
+          ∙ (sym (ap (has_own r) (elements_are_of_items t T right.made k.knows.live))
+          ∙ (sym (has_task-own (lists T) t r) ∙ h))
 
-      by_want : (v : Want) → y.entries ≡ entries_for S t v → res_wanted v ≡ Some q → (has_own r (past_of t k.known T).own ≡ true) ⊎ (q ≡ r)
+      by_want : (v : Want) → y.entries ≡ entries_for S t v → res_wanted v ≡ Some q
+          → (has_own r (past_of t k.known T).own ≡ true) ⊎ (q ≡ r)
       by_want (Enq p c ret full) e z =
           let same : p ≡ q = cc in
-          subst (λ u. (has_own r (past_of t k.known T).own ≡ true) ⊎ (u ≡ r)) same (own-effect _ r p c (past_of t k.known T).own (sym (ap (λ hs. has_own r (after_entries hs (past_of t k.known T)).own) e) ∙ all))
-      by_want (Deq p have) e z = inl (taken _ (sym (ap (λ hs. has_own r (after_entries hs (past_of t k.known T)).own) e) ∙ all))
+          subst (λ u. (has_own r (past_of t k.known T).own ≡ true) ⊎ (u ≡ r)) same
+          (own-effect _ r p c (past_of t k.known T).own
+          (sym (ap (λ hs. has_own r (after_entries hs (past_of t k.known T)).own) e) ∙ all))
+      by_want (Deq p have) e z =
+          inl (taken _ (sym (ap (λ hs. has_own r (after_entries hs (past_of t k.known T)).own) e) ∙ all))
         where
-          taken : (b : Bool) → has_own r (cond b (filter (λ j. not (same_res p j.0)) (past_of t k.known T).own) (past_of t k.known T).own) ≡ true → has_own r (past_of t k.known T).own ≡ true
+          taken : (b : Bool)
+              → has_own r (cond b (filter (λ j. not (same_res p j.0)) (past_of t k.known T).own)
+              (past_of t k.known T).own)
+              ≡ true
+              → has_own r (past_of t k.known T).own ≡ true
           taken true j = own-left r p (past_of t k.known T).own j
           taken false j = j
-      by_want (Release p) e z = inl (own-left r p (past_of t k.known T).own (sym (ap (λ hs. has_own r (after_entries hs (past_of t k.known T)).own) e) ∙ all))
+      by_want (Release p) e z =
+          inl (own-left r p (past_of t k.known T).own
+          (sym (ap (λ hs. has_own r (after_entries hs (past_of t k.known T)).own) e) ∙ all))
       by_want (Look first count f) e z = absurd (cc)
 
   -- a task that isn't behind
   pub busy-idle : outstanding t k.known T ≡ None → has_task (list_of (lists T) r) t ≡ true → has_res r x.records ≡ true
-  busy-idle none h = recorded (sym (has-known deck T right t (past_of t k.known T) (speaks-known deck T t k.known right k.knows.live k.knows.right none) r) ∙ h)
+  busy-idle none h =
+      recorded (sym (has-known deck T right t (past_of t k.known T)
+      (speaks-known deck T t k.known right k.knows.live k.knows.right none) r)
+      ∙ h)
 
   -- one that is, with this request
-  pub busy-behind : (a : Asked) (y : RunItem) (S : State) → outstanding t k.known T ≡ Some y → y.entries ≡ entries_for S t a.req.want → (q : Res) → res_wanted a.req.want ≡ Some q → has_task (list_of (lists T) r) t ≡ true →
+  pub busy-behind : (a : Asked) (y : RunItem) (S : State) → outstanding t k.known T ≡ Some y
+      → y.entries ≡ entries_for S t a.req.want → (q : Res) → res_wanted a.req.want ≡ Some q
+      → has_task (list_of (lists T) r) t ≡ true →
       (has_res r x.records ≡ true) ⊎ (q ≡ r)
   busy-behind a y S out made q wanted h = go (by_item y S a.req.want out made q wanted h)
     where

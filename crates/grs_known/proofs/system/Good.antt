@@ -37,24 +37,37 @@ pub record IsGood (deck : Deck) (s : ℕ) (os : Opens) (P : List RunItem) (v : T
   pub system : v.system ≡ s
 
 -- a task of the deck that is here is of the system
-pub home-ours : (deck : Deck) (s : ℕ) (v : TasksView) (t : TaskId) → v.system ≡ s → is_some (lines_of deck t) ≡ true → is_task v t ≡ true → IsHome deck s v t
-home-ours deck s v t system h here = let x = some_of (lines_of deck t) h in record { lines = x.0; ours = record { lines = x.1; home = sym (is_task-system v t here) ∙ system; here = here } }
+pub home-ours : (deck : Deck) (s : ℕ) (v : TasksView) (t : TaskId) → v.system ≡ s → is_some (lines_of deck t) ≡ true
+    → is_task v t ≡ true → IsHome deck s v t
+home-ours deck s v t system h here =
+    let x = some_of (lines_of deck t) h in
+    record { lines = x.0; ours = record { lines = x.1; home = sym (is_task-system v t here) ∙ system; here = here } }
 
-pub ours-home : (deck : Deck) (s : ℕ) (v : TasksView) (t : TaskId) (ls : List Meaning) → IsOurs deck s v t ls → is_home_at deck s t ≡ true
+pub ours-home : (deck : Deck) (s : ℕ) (v : TasksView) (t : TaskId) (ls : List Meaning) → IsOurs deck s v t ls
+    → is_home_at deck s t ≡ true
 ours-home deck s v t ls o = let a : (t.system.0 == s) ≡ true = eq-eqb _ _ o.home in rw (a, o.lines) refl
 
 -- a code told to one task leaves the others
-pub task-told_after : (ls : List Meaning) (p : Past) (T : List ToldLine) (leaving : Res → Bool) (u : TaskId) (x : TaskState) (t : TaskId) (k : ℕ) (verb : Verb) (c : Code) → same_task u t ≡ false → IsTask ls p T leaving u x → IsTask ls p (told_after T t k verb c) leaving u x
-task-told_after ls p T leaving u x t k verb c apart h = by_code (λ d U. IsTask ls p U leaving u x) T t k verb h (λ d e. task-told ls p T leaving u x _ apart h) c
+pub task-told_after :
+    (ls : List Meaning) (p : Past) (T : List ToldLine) (leaving : Res → Bool) (u : TaskId) (x : TaskState) (t : TaskId)
+    (k : ℕ) (verb : Verb) (c : Code)
+    → same_task u t ≡ false → IsTask ls p T leaving u x → IsTask ls p (told_after T t k verb c) leaving u x
+task-told_after ls p T leaving u x t k verb c apart h =
+    by_code (λ d U. IsTask ls p U leaving u x) T t k verb h (λ d e. task-told ls p T leaving u x _ apart h) c
 
 -- ---- what another task's request leaves
 -- T' is what was told since T
 abbrev pub Untold : List ToldLine → List ToldLine → TaskId → List Meaning → Type 0
-Untold T T' u ls = (p : Past) (leaving : Res → Bool) (y : TaskState) → IsTask ls p T leaving u y → IsTask ls p T' leaving u y
+Untold T T' u ls =
+    (p : Past) (leaving : Res → Bool) (y : TaskState) → IsTask ls p T leaving u y → IsTask ls p T' leaving u y
 
 -- a task stands as it did
-pub here-kept : (deck : Deck) (os os' : Opens) (P : List RunItem) (T T' : List ToldLine) (u : TaskId) (ls : List Meaning) (x : TaskState) → mine u os'.later ≡ mine u os.later →
-    (IsAskedBy u x.outstanding os.all → IsAskedBy u x.outstanding os'.all) → (are_sent u x.phase os.out ≡ true → are_sent u x.phase os'.out ≡ true) → Untold T T' u ls →
+pub here-kept :
+    (deck : Deck) (os os' : Opens) (P : List RunItem) (T T' : List ToldLine) (u : TaskId) (ls : List Meaning)
+    (x : TaskState)
+    → mine u os'.later ≡ mine u os.later →
+    (IsAskedBy u x.outstanding os.all → IsAskedBy u x.outstanding os'.all)
+    → (are_sent u x.phase os.out ≡ true → are_sent u x.phase os'.out ≡ true) → Untold T T' u ls →
     IsHere deck os P T u ls x → IsHere deck os' P T' u ls x
 here-kept deck os os' P T T' u ls x due asked sent told k = record {
   known = k.known;
@@ -67,12 +80,18 @@ here-kept deck os os' P T T' u ls x due asked sent told k = record {
 }
 
 -- and so it does where another task's item was fixed
-pub here-other : (deck : Deck) (os : Opens) (P : List RunItem) (z : RunItem) (T : List ToldLine) (u : TaskId) (ls : List Meaning) (x : TaskState) → is_of u z.fixed ≡ false → removes_system_of u z.fixed ≡ false → IsHere deck os P T u ls x → IsHere deck os (P ++ z ∷ []) T u ls x
+pub here-other :
+    (deck : Deck) (os : Opens) (P : List RunItem) (z : RunItem) (T : List ToldLine) (u : TaskId) (ls : List Meaning)
+    (x : TaskState)
+    → is_of u z.fixed ≡ false → removes_system_of u z.fixed ≡ false → IsHere deck os P T u ls x
+    → IsHere deck os (P ++ z ∷ []) T u ls x
 here-other deck os P z T u ls x apart live k = record {
   known = k.known;
   knows = knows-other P z u x.outstanding k.known apart live k.knows;
   due = k.due ∙ ap one (sym (outstanding-other u k.known P z apart));
-  task = subst (λ p. IsTask ls p T (λ r. is_leaving r x.outstanding) u (unasked x)) (sym (past-other P z u k.known apart)) k.task;
+  task =
+      subst (λ p. IsTask ls p T (λ r. is_leaving r x.outstanding) u (unasked x)) (sym (past-other P z u k.known apart))
+      k.task;
   opened = k.opened;
   asked = k.asked;
   sent = k.sent;

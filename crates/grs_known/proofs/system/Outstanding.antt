@@ -26,38 +26,64 @@ use Rattle.grs_known.proofs.system.Events.{StaysGood, Decides, enq-good, deq-goo
 use Rattle.grs_known.proofs.system.Good.{IsGood}
 use Rattle.grs_known.proofs.system.Ours.{IsOurs}
 
-module _ (deck : Deck) (s : ℕ) (os os' : Opens) (P P' : List RunItem) (v : TasksView) (good : IsGood deck s os P v) (t : TaskId) (ls : List Meaning) (ours : IsOurs deck s v t ls) where
+module _ (deck : Deck) (s : ℕ) (os os' : Opens) (P P' : List RunItem) (v : TasksView) (good : IsGood deck s os P v)
+    (t : TaskId) (ls : List Meaning) (ours : IsOurs deck s v t ls) where
   -- the task with its request taken back
-  recalls : (w : Want) → Did v (recalled v t w) t (record (state_of v t) { phase = phase_asking w (state_of v t).code; code = code_in (phase_asking w (state_of v t).code) (state_of v t).code; outstanding = None }) v.told
+  recalls : (w : Want)
+      → Did v (recalled v t w) t (record (state_of v t) {
+        phase = phase_asking w (state_of v t).code;
+        code = code_in (phase_asking w (state_of v t).code) (state_of v t).code;
+        outstanding = None;
+      })
+      v.told
   unfolding recalled
   recalls w =
       let y : TaskState = state_of v t in
-      did-outstanding v _ t _ v.told ours.here (did-phase v v t y v.told ours.here (did-none v t) (phase_asking w y.code)) None
+      did-outstanding v _ t _ v.told ours.here
+      (did-phase v v t y v.told ours.here (did-none v t) (phase_asking w y.code)) None
 
   abbrev p : Past
   p = past_of t (good.tasks.each t ls ours).known P
 
   -- S are the lists by which it is decided, and ts the tasks that became owners by it
   pub asked-good : (w : Want) (unit : Option ℕ) (S : State) (ts : List TaskId) →
-      IsTask ls p v.told (λ r. gives_up r w) t (record (state_of v t) { line = line_asked w (state_of v t).line; phase = phase_asking w (state_of v t).code; outstanding = None }) →
-      IsAskedFor deck.limit ls (state_of v t).line (state_of v t).records w unit → ((h : HistEntry) (r : Res) → res_wanted w ≡ Some r → entries_for S t w ≡ h ∷ [] → Decides deck os os' P P' t p h r ts) →
+      IsTask ls p v.told (λ r. gives_up r w) t (record (state_of v t)
+      { line = line_asked w (state_of v t).line; phase = phase_asking w (state_of v t).code; outstanding = None })
+      →
+      IsAskedFor deck.limit ls (state_of v t).line (state_of v t).records w unit
+      → ((h : HistEntry) (r : Res) → res_wanted w ≡ Some r → entries_for S t w ≡ h ∷ []
+      → Decides deck os os' P P' t p h r ts)
+      →
       StaysGood deck s os' P' v.told (tell_new (replied (recalled v t w) t w unit (answer_to S t w)) (res_wanted w) ts)
   asked-good (Enq r c ret full) unit S ts k a d =
       let y : TaskState = state_of v t in
       let w : Want = Enq r c ret full in
       let back : suc (y.line - 1) ≡ y.line = omega (arith, a.0) in
-      let did0 = subst (λ m. Did v (recalled v t w) t (record { line = m; phase = phases.Ready; code = y.code; records = y.records; outstanding = None; rows = y.rows }) v.told) (sym back) (recalls w) in
-      enq-good deck s os os' P P' v good t ls ours p r ts (y.line - 1) y.code y.records y.rows (recalled v t w) did0 (lines.Enq r c ret unit) (enq_code S r t c ret full) c unit ret full
+      let did0 =
+      subst (λ m.
+      Did v (recalled v t w) t
+      (record { line = m; phase = phases.Ready; code = y.code; records = y.records; outstanding = None; rows = y.rows })
+      v.told)
+      (sym back) (recalls w) in
+      enq-good deck s os os' P P' v good t ls ours p r ts (y.line - 1) y.code y.records y.rows (recalled v t w) did0
+      (lines.Enq r c ret unit) (enq_code S r t c ret full) c unit ret full
       (d (entries.Enq t r c ret (enq_code S r t c ret full)) r refl refl) (record { before = k; at = a.1; asks = refl })
   asked-good (Deq r have) unit S ts k a d =
       let y : TaskState = state_of v t in
       let w : Want = Deq r have in
       let back : suc (y.line - 1) ≡ y.line = omega (arith, a.0) in
-      let did0 = subst (λ m. Did v (recalled v t w) t (record { line = m; phase = phases.Ready; code = y.code; records = y.records; outstanding = None; rows = y.rows }) v.told) (sym back) (recalls w) in
-      deq-good deck s os os' P P' v good t ls ours p r ts (y.line - 1) y.code y.records y.rows (recalled v t w) did0 (lines.Deq r have) (deq_reply S r t have) have (λ z. same_res z r) (λ z apart. apart)
+      let did0 =
+      subst (λ m.
+      Did v (recalled v t w) t
+      (record { line = m; phase = phases.Ready; code = y.code; records = y.records; outstanding = None; rows = y.rows })
+      v.told)
+      (sym back) (recalls w) in
+      deq-good deck s os os' P P' v good t ls ours p r ts (y.line - 1) y.code y.records y.rows (recalled v t w) did0
+      (lines.Deq r have) (deq_reply S r t have) have (λ z. same_res z r) (λ z apart. apart)
       (d (entries.Deq t r have (deq_reply S r t have)) r refl refl) (record { before = k; at = a.1; asks = refl }) unit
   asked-good (Release r) unit S ts k a d =
       let y : TaskState = state_of v t in
-      release-good deck s os os' P P' v good t ls ours p r ts y.line y.code y.code y.records y.rows (recalled v t (Release r)) (recalls (Release r)) refl (λ z. same_res z r) (λ z apart. apart) k
+      release-good deck s os os' P P' v good t ls ours p r ts y.line y.code y.code y.records y.rows
+      (recalled v t (Release r)) (recalls (Release r)) refl (λ z. same_res z r) (λ z apart. apart) k
       (d (entries.Release t r) r refl refl) unit
   asked-good (Look first count f) unit S ts k a d = absurd a

@@ -40,7 +40,8 @@ own_requests s (x ∷ xs) = own_asked s x.fixed ++ own_requests s xs
 -- ---- lines told
 -- a line that is told to a task agrees with a history, behind lines told before
 abbrev pub AgreesBehind : Deck → List HistEntry → List ToldLine → ToldLine → Type 0
-AgreesBehind deck P T (told.Coded t k part verb code) = (part ≡ 0) × AgreesOf deck.limit (lines_of deck t) P T (told.Coded t k part verb code)
+AgreesBehind deck P T (told.Coded t k part verb code) =
+    (part ≡ 0) × AgreesOf deck.limit (lines_of deck t) P T (told.Coded t k part verb code)
 AgreesBehind deck P T (told.Shown t k verb code rows) = ⊥
 AgreesBehind deck P T (told.Post t k) = AgreesOf deck.limit (lines_of deck t) P T (told.Post t k)
 AgreesBehind deck P T (told.Ended t code) = AgreesOf deck.limit (lines_of deck t) P T (told.Ended t code)
@@ -64,6 +65,8 @@ is_line_of s (told.Desk k said) = false
 
 -- The lines that a system tells in a step: each is told to a task of this system, agrees with the history, and answers
 -- only who has none of the open requests.
-pub data ToldBy (deck : Deck) (s : ℕ) (opens : List Req) (P : List HistEntry) (T0 : List ToldLine) : List ToldLine → Type 0 where
+pub data ToldBy (deck : Deck) (s : ℕ) (opens : List Req) (P : List HistEntry) (T0 : List ToldLine) : List ToldLine
+    → Type 0 where
   none : ToldBy deck s opens P T0 T0
-  more : (T : List ToldLine) (l : ToldLine) → ToldBy deck s opens P T0 T → is_line_of s l ≡ true → AgreesBehind deck P T l → Clears opens l → ToldBy deck s opens P T0 (T ++ l ∷ [])
+  more : (T : List ToldLine) (l : ToldLine) → ToldBy deck s opens P T0 T → is_line_of s l ≡ true
+      → AgreesBehind deck P T l → Clears opens l → ToldBy deck s opens P T0 (T ++ l ∷ [])

@@ -1,5 +1,6 @@
 -- What holds of each task after each event: the invariant of a run.
-use Rattle.std.proofs.Common.{◌≡◌, ◌<◌, ◌≤◌, ◌-◌, ℕ, suc, Bool, true, false, cond, not, ◌&&◌, ◌||◌, List, [], ◌∷◌, map, length, take, Option, Some, None}
+use Rattle.std.proofs.Common.{◌≡◌, ◌<◌, ◌≤◌, ◌-◌, ℕ, suc, Bool, true, false, cond, not, ◌&&◌, ◌||◌, List, [], ◌∷◌, map}
+use Rattle.std.proofs.Common.{length, take, Option, Some, None}
 use Rattle.std.specs.Prelude.{slice_get, ◌⊎◌, IfSome, is_some, unwrap_or, nat_lt}
 use Rattle.std.specs.List.{list_any, list_all}
 use Rattle.grs_base.specs.Same.{same_res, same_task}
@@ -23,7 +24,8 @@ use Rattle.task_state.specs.declared.state.Phase.{Phase}
 use Rattle.task_state.specs.declared.state.Phase.TheVariants as phases
 use Rattle.task_state.specs.declared.state.TaskState.{TaskState}
 use Rattle.task_state.specs.Replies.{is_queued, is_held}
-use Rattle.grs_known.specs.Told.{entry_of_line, queued_last, tells_control, is_code_before, is_code_of, is_post_of, is_end_of}
+use Rattle.grs_known.specs.Told.{entry_of_line, queued_last, tells_control, is_code_before, is_code_of, is_post_of}
+use Rattle.grs_known.specs.Told.{is_end_of}
 
 -- each of these records is so
 abbrev pub Each : (Rec → Type 0) → List Rec → Type 0
@@ -104,7 +106,9 @@ abbrev pub WaitsFor : List Meaning → List HistEntry → List ToldLine → Task
 WaitsFor ls E T t line p x = ((is_held p ≡ true) × (x.line ≡ line)) ⊎ IsDue ls E T t x.line
 
 -- A record of task t, which owns this by its past; `leaving` is what its outstanding request gives up.
-pub record IsRec (ls : List Meaning) (E : List HistEntry) (T : List ToldLine) (owns leaving : Res → Bool) (t : TaskId) (line : ℕ) (p : Phase) (x : Rec) : Type 0 where
+pub record IsRec (ls : List Meaning) (E : List HistEntry) (T : List ToldLine) (owns leaving : Res → Bool) (t : TaskId)
+    (line : ℕ) (p : Phase) (x : Rec) :
+    Type 0 where
   pub entry : IsEntryOn x.res (entry_of_line ls E x.line)
   -- and no later line queued another element there
   pub latest : queued_last ls E x.res x.line ≡ true
@@ -155,7 +159,9 @@ IsFree p = IfSome p.last (λ h. code_of h ≡ Wait → owns_entry p.owns h ≡ t
 -- what a task with this past asks next: what its next asking line asks, or the release of its first element; and which
 -- lines that ask nothing it passes before
 abbrev pub asks_next : List Meaning → Past → Option Ask
-asks_next ls p = or_else (cond (is_some (end_among p.asked)) None (slice_get (asks_of ls) (length p.asked))) (release_next (slice_get (map (λ k. k.0) p.own) 0))
+asks_next ls p =
+    or_else (cond (is_some (end_among p.asked)) None (slice_get (asks_of ls) (length p.asked)))
+    (release_next (slice_get (map (λ k. k.0) p.own) 0))
 
 abbrev pub passes_next : List Meaning → Past → List Meaning
 passes_next ls p = cond (is_some (end_among p.asked)) [] (passed_behind (length p.asked) ls)
@@ -191,7 +197,8 @@ IsWaitFor r (Some (lines.Wait q)) = q ≡ r
 IsWaitFor r (Some lines.Nothing) = ⊥
 
 -- A task held at a WAIT line.
-pub record IsHeldLine (ls : List Meaning) (p : Past) (T : List ToldLine) (t : TaskId) (line : ℕ) (r : Res) : Type 0 where
+pub record IsHeldLine (ls : List Meaning) (p : Past) (T : List ToldLine) (t : TaskId) (line : ℕ) (r : Res) :
+    Type 0 where
   pub going : IsGoing p.asked T t
   pub free : IsFree p
   pub begun : 0 < line
@@ -226,7 +233,9 @@ has_ended phases.Ready = false
 has_ended (phases.Ending c) = false
 
 -- A task of these lines with this past, when T was told. Of what its outstanding request gives up no line tells.
-pub record IsTask (ls : List Meaning) (p : Past) (T : List ToldLine) (leaving : Res → Bool) (t : TaskId) (x : TaskState) : Type 0 where
+pub record IsTask (ls : List Meaning) (p : Past) (T : List ToldLine) (leaving : Res → Bool) (t : TaskId)
+    (x : TaskState) :
+    Type 0 where
   -- its records are its elements, in the order in which these were queued
   pub keys : map key x.records ≡ p.own
   -- and it owns only where it has one

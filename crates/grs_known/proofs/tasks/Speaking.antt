@@ -1,5 +1,6 @@
 -- A task's past, and a history of which it speaks: what the one tells of the other.
-use Rattle.std.proofs.Common.{◌≡◌, ℕ, Bool, true, false, cond, not, ◌||◌, List, [], map, length, Option, Some, None, refl, ap, sym, ◌∙◌, subst, arith}
+use Rattle.std.proofs.Common.{◌≡◌, ℕ, Bool, true, false, cond, not, ◌||◌, List, [], map, length, Option, Some, None}
+use Rattle.std.proofs.Common.{refl, ap, sym, ◌∙◌, subst, arith}
 use Rattle.std.specs.Prelude.{slice_get, is_some, IfSome}
 use Rattle.std.specs.List.{list_all, list_any}
 use Rattle.std.proofs.lemmas.Option.{IfSome_then}
@@ -11,7 +12,8 @@ use Rattle.grs_base.specs.declared.resource.TaskId.{TaskId}
 use Rattle.grs_base.specs.declared.decision.Code.TheVariants.{Wait}
 use Rattle.grs_base.proofs.SameLaws.{same_res-exact}
 use Rattle.grs_legal.specs.Asks.{Ask, asks_of}
-use Rattle.grs_legal.specs.Legal.{ask_in, IsLegal, entries_of, end_among, release_next, or_else, next_ask, passed_behind, passed_lines, lets_pass, last_entry, HasControl}
+use Rattle.grs_legal.specs.Legal.{ask_in, IsLegal, entries_of, end_among, release_next, or_else, next_ask}
+use Rattle.grs_legal.specs.Legal.{passed_behind, passed_lines, lets_pass, last_entry, HasControl}
 use Rattle.grs_legal.specs.declared.meaning.Meaning.{Meaning}
 use Rattle.grs_legal.specs.declared.meaning.Meaning.TheVariants as lines
 use Rattle.grs_wire.specs.History.{removes, code_of, answer_of, reply_of, replay}
@@ -24,7 +26,9 @@ use Rattle.grs_known.proofs.lists.Own.{queued_by-own, has_task-own}
 
 -- what a task asks next that has these entries of its lines, and elements on these resources
 next_of : List Meaning → List HistEntry → List Res → Option Ask
-next_of ls asked queued = or_else (cond (is_some (end_among asked)) None (slice_get (asks_of ls) (length asked))) (release_next (slice_get queued 0))
+next_of ls asked queued =
+    or_else (cond (is_some (end_among asked)) None (slice_get (asks_of ls) (length asked)))
+    (release_next (slice_get queued 0))
 
 passed_of : List Meaning → List HistEntry → List Meaning
 passed_of ls asked = cond (is_some (end_among asked)) [] (passed_behind (length asked) ls)
@@ -41,9 +45,12 @@ module _ (limit : ℕ) (t : TaskId) (p : Past) (P : List HistEntry) (s : Speaks 
   pass-speaks : (l : Meaning) → may_pass p l ≡ true → lets_pass (replay limit P) t l ≡ true
   pass-speaks (lines.Enq r c ret unit) h = refl
   pass-speaks (lines.Deq r have) h = refl
-  pass-speaks (lines.Wait r) h = subst (λ b. (owns (list_of (replay limit P) r) t || not b) ≡ true) (sym (has-speaks r)) (owned (p.owns r) (s.owns r) h)
+  pass-speaks (lines.Wait r) h =
+      subst (λ b. (owns (list_of (replay limit P) r) t || not b) ≡ true) (sym (has-speaks r))
+      (owned (p.owns r) (s.owns r) h)
     where
-      owned : (a : Bool) → (a ≡ true → owns (list_of (replay limit P) r) t ≡ true) → (a || not (has_own r p.own)) ≡ true → (owns (list_of (replay limit P) r) t || not (has_own r p.own)) ≡ true
+      owned : (a : Bool) → (a ≡ true → owns (list_of (replay limit P) r) t ≡ true) → (a || not (has_own r p.own)) ≡ true
+          → (owns (list_of (replay limit P) r) t || not (has_own r p.own)) ≡ true
       owned true f e = ap (λ b. b || not (has_own r p.own)) (f refl)
       owned false f e = grind (arith, e)
   pass-speaks lines.Nothing h = refl
@@ -62,19 +69,32 @@ module _ (limit : ℕ) (t : TaskId) (p : Past) (P : List HistEntry) (s : Speaks 
   -- what it asks next by its past it asks, and may
   pub next-speaks : (ls : List Meaning) → next_ask limit t ls P ≡ asks_next ls p
   unfolding next_of
-  next-speaks ls = ap (λ es. next_of ls es (queued_by (replay limit P) t)) s.asked ∙ ap (next_of ls p.asked) queued-speaks
+  next-speaks ls =
+      ap (λ es. next_of ls es (queued_by (replay limit P) t)) s.asked ∙ ap (next_of ls p.asked) queued-speaks
 
-  lines-speaks : (ls : List Meaning) → list_all (may_pass p) (passes_next ls p) ≡ true → list_all (lets_pass (replay limit P) t) (passed_lines t ls P) ≡ true
+  lines-speaks : (ls : List Meaning) → list_all (may_pass p) (passes_next ls p) ≡ true
+      → list_all (lets_pass (replay limit P) t) (passed_lines t ls P) ≡ true
   unfolding passed_of
-  lines-speaks ls h = ap (λ es. list_all (lets_pass (replay limit P) t) (passed_of ls es)) s.asked ∙ all-kept (may_pass p) (lets_pass (replay limit P) t) pass-speaks (passes_next ls p) h
+  lines-speaks ls h =
+      ap (λ es. list_all (lets_pass (replay limit P) t) (passed_of ls es)) s.asked
+      ∙ all-kept (may_pass p) (lets_pass (replay limit P) t) pass-speaks (passes_next ls p) h
 
-  pub legal-speaks : (ls : List Meaning) (a : Ask) (h : HistEntry) → list_any (removes t.system) P ≡ false → IsNext ls p a → answer_of h ≡ reply_of limit (replay limit P) h → ask_in h ≡ Some a → IsLegal limit t ls P h
-  legal-speaks ls a h live i right asks = record { reply = right; live = live; next = next-speaks ls ∙ i.next ∙ sym asks; waited = free-speaks i.free; passed = lines-speaks ls i.passed }
+  pub legal-speaks : (ls : List Meaning) (a : Ask) (h : HistEntry) → list_any (removes t.system) P ≡ false
+      → IsNext ls p a → answer_of h ≡ reply_of limit (replay limit P) h → ask_in h ≡ Some a → IsLegal limit t ls P h
+  legal-speaks ls a h live i right asks = record {
+    reply = right;
+    live = live;
+    next = next-speaks ls ∙ i.next ∙ sym asks;
+    waited = free-speaks i.free;
+    passed = lines-speaks ls i.passed;
+  }
 
   -- the task was told control that it has
   pub speaks-control : (r : Res) → owns (list_of (replay limit P) r) t ≡ true → Speaks limit t (with_control r p) P
-  speaks-control r own = record { own = s.own; owns = λ q e. owned q (p.owns q) (s.owns q) e; asked = s.asked; last = s.last }
+  speaks-control r
+      own = record { own = s.own; owns = λ q e. owned q (p.owns q) (s.owns q) e; asked = s.asked; last = s.last }
     where
-      owned : (q : Res) (a : Bool) → (a ≡ true → owns (list_of (replay limit P) q) t ≡ true) → (a || same_res q r) ≡ true → owns (list_of (replay limit P) q) t ≡ true
+      owned : (q : Res) (a : Bool) → (a ≡ true → owns (list_of (replay limit P) q) t ≡ true)
+          → (a || same_res q r) ≡ true → owns (list_of (replay limit P) q) t ≡ true
       owned q true f e = f refl
       owned q false f e = subst (λ z. owns (list_of (replay limit P) z) t ≡ true) (sym (same_res-exact q r e)) own

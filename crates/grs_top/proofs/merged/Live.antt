@@ -1,10 +1,13 @@
 -- A system that makes a call isn't removed by it.
-use Rattle.std.proofs.Common.{◌≡◌, ◌≢◌, ◌⊎◌, ℕ, Bool, true, false, cond, List, [], ◌∷◌, Option, Some, None, refl, ap, sym, ◌∙◌, inl, inr}
+use Rattle.std.proofs.Common.{◌≡◌, ◌≢◌, ◌⊎◌, ℕ, Bool, true, false, cond, List, [], ◌∷◌, Option, Some, None, refl, ap}
+use Rattle.std.proofs.Common.{sym, ◌∙◌, inl, inr}
 use Rattle.std.specs.Prelude.{◌==◌}
 use Rattle.std.proofs.lemmas.Bool.{true≢false}
 use Rattle.std.proofs.lemmas.Bool.Decides.{eqb_tells}
 use Rattle.grs_base.specs.declared.resource.SysId.{SysId}
-use Rattle.grs_medium.specs.Apply.{switch_ring, switch_row, turn_row, submit_on, submit_row, joined, manages, take_from, take_row, mail_row, leave_row, is_live, without_system, purge_row, rest_row, row, apply, reply_to, medium_after, ActFits}
+use Rattle.grs_medium.specs.Apply.{switch_ring, switch_row, turn_row, submit_on, submit_row, joined, manages, take_from}
+use Rattle.grs_medium.specs.Apply.{take_row, mail_row, leave_row, is_live, without_system, purge_row, rest_row, row}
+use Rattle.grs_medium.specs.Apply.{apply, reply_to, medium_after, ActFits}
 use Rattle.grs_medium.specs.Medium.{MediumState, inbox, word}
 use Rattle.grs_wire.specs.LockWords.{leave_changes}
 use Rattle.grs_wire.specs.Masks.{has, with_also}
@@ -22,7 +25,8 @@ use Rattle.lock_structure.specs.declared.word.Route.{Route}
 use Rattle.lock_structure.specs.declared.word.Route.TheVariants as routes
 use Rattle.rsa_message.specs.Message.{first_number}
 
-either : (m : MediumState) (b : Bool) (x y : MediumState) → x.removed ≡ m.removed → y.removed ≡ m.removed → (cond b x y).removed ≡ m.removed
+either : (m : MediumState) (b : Bool) (x y : MediumState) → x.removed ≡ m.removed → y.removed ≡ m.removed
+    → (cond b x y).removed ≡ m.removed
 either m true x y p q = p
 either m false x y p q = q
 
@@ -30,7 +34,8 @@ switches : (m : MediumState) (c : SysId) (words : List ℕ) → (switch_row m c 
 unfolding switch_row
 switches m c words = go m.star (first_number (unseen c m.message.entries))
   where
-    go : (b : Bool) (o : Option ℕ) → (cond {A = Reply × MediumState} b (Already, m) (switch_ring m c words o)).1.removed ≡ m.removed
+    go : (b : Bool) (o : Option ℕ)
+        → (cond {A = Reply × MediumState} b (Already, m) (switch_ring m c words o)).1.removed ≡ m.removed
     go true o = refl
     go false None = refl
     go false (Some n) = refl
@@ -63,7 +68,11 @@ purges : (m : MediumState) (c t : SysId) → t.0 ≢ c.0 → has (purge_row m c 
 unfolding purge_row
 purges m c t other = go m.star (is_live m t)
   where
-    go : (b d : Bool) → has (cond {A = Reply × MediumState} b (InStar, m) (cond d (Purged, without_system m c t) (NoSuch, m))).1.removed c.0 ≡ has m.removed c.0
+    go : (b d : Bool)
+        → has (cond {A = Reply × MediumState} b (InStar, m)
+        (cond d (Purged, without_system m c t) (NoSuch, m))).1.removed
+        c.0
+        ≡ has m.removed c.0
     go true d = refl
     go false true = has-with_other m.removed t.0 c.0 (λ e. other (sym e))
     go false false = refl
@@ -80,11 +89,15 @@ rows m c (acts.Leave e) h = ap (λ r. has r c.0) (leaves m c e)
 rows m c (acts.Purge t) h = purges m c t h
 rows m c acts.Rest h = refl
 
-pub stays_there : (m : MediumState) (c : SysId) (call : Call) → ActFits m c call.act → has (medium_after m c call).removed c.0 ≡ has m.removed c.0
+pub stays_there : (m : MediumState) (c : SysId) (call : Call) → ActFits m c call.act
+    → has (medium_after m c call).removed c.0 ≡ has m.removed c.0
 unfolding apply
 stays_there m c call h = go (has m.removed c.0) (call.known == m.removed)
   where
-    go : (b d : Bool) → has (cond {A = Reply × MediumState} b (Removed, m) (cond d (row m c call.act) (Stale m.removed, m))).1.removed c.0 ≡ has m.removed c.0
+    go : (b d : Bool)
+        → has (cond {A = Reply × MediumState} b (Removed, m) (cond d (row m c call.act) (Stale m.removed, m))).1.removed
+        c.0
+        ≡ has m.removed c.0
     go true d = refl
     go false true = rows m c call.act h
     go false false = refl
@@ -94,7 +107,11 @@ pub was_there : (m : MediumState) (c : SysId) (call : Call) → reply_to m c cal
 unfolding apply
 was_there m c call h = go (has m.removed c.0) h
   where
-    go : (b : Bool) → (cond {A = Reply × MediumState} b (Removed, m) (cond (call.known == m.removed) (row m c call.act) (Stale m.removed, m))).0 ≢ Removed → b ≡ false
+    go : (b : Bool)
+        → (cond {A = Reply × MediumState} b (Removed, m)
+        (cond (call.known == m.removed) (row m c call.act) (Stale m.removed, m))).0
+        ≢ Removed
+        → b ≡ false
     go true h = absurd (h refl)
     go false h = refl
 
@@ -103,16 +120,24 @@ purged : (m : MediumState) (c t : SysId) (u : ℕ) → has (purge_row m c t).1.r
 unfolding purge_row
 purged m c t u h = go m.star (is_live m t) h
   where
-    by_target : (((u == t.0) ≡ true) × (u ≡ t.0)) ⊎ (((u == t.0) ≡ false) × (u ≢ t.0)) → has (with_also m.removed t.0) u ≡ false → has m.removed u ≡ false
-    by_target (inl is) h = absurd (true≢false (sym (has-with_same m.removed t.0) ∙ ap (has (with_also m.removed t.0)) (sym is.1) ∙ h))
+    by_target : (((u == t.0) ≡ true) × (u ≡ t.0)) ⊎ (((u == t.0) ≡ false) × (u ≢ t.0))
+        → has (with_also m.removed t.0) u ≡ false → has m.removed u ≡ false
+    by_target (inl is) h =
+        absurd (true≢false (sym (has-with_same m.removed t.0) ∙ ap (has (with_also m.removed t.0)) (sym is.1) ∙ h))
     by_target (inr is) h = sym (has-with_other m.removed t.0 u is.1) ∙ h
 
-    go : (b d : Bool) → has (cond {A = Reply × MediumState} b (InStar, m) (cond d (Purged, without_system m c t) (NoSuch, m))).1.removed u ≡ false → has m.removed u ≡ false
+    go : (b d : Bool)
+        → has (cond {A = Reply × MediumState} b (InStar, m)
+        (cond d (Purged, without_system m c t) (NoSuch, m))).1.removed
+        u
+        ≡ false
+        → has m.removed u ≡ false
     go true d h = h
     go false true h = by_target (eqb_tells u t.0) h
     go false false h = h
 
-row_there : (m : MediumState) (c : SysId) (act : Act) (u : ℕ) → has (row m c act).1.removed u ≡ false → has m.removed u ≡ false
+row_there : (m : MediumState) (c : SysId) (act : Act) (u : ℕ) → has (row m c act).1.removed u ≡ false
+    → has m.removed u ≡ false
 unfolding row turn_row mail_row rest_row
 row_there m c (acts.Turn out) u h = h
 row_there m c (acts.Switch words) u h = ap (λ r. has r u) (sym (switches m c words)) ∙ h
@@ -124,11 +149,16 @@ row_there m c (acts.Leave e) u h = ap (λ r. has r u) (sym (leaves m c e)) ∙ h
 row_there m c (acts.Purge t) u h = purged m c t u h
 row_there m c acts.Rest u h = h
 
-pub still_there : (m : MediumState) (c : SysId) (call : Call) (u : ℕ) → has (medium_after m c call).removed u ≡ false → has m.removed u ≡ false
+pub still_there : (m : MediumState) (c : SysId) (call : Call) (u : ℕ) → has (medium_after m c call).removed u ≡ false
+    → has m.removed u ≡ false
 unfolding apply
 still_there m c call u h = go (has m.removed c.0) (call.known == m.removed) h
   where
-    go : (b d : Bool) → has (cond {A = Reply × MediumState} b (Removed, m) (cond d (row m c call.act) (Stale m.removed, m))).1.removed u ≡ false → has m.removed u ≡ false
+    go : (b d : Bool)
+        → has (cond {A = Reply × MediumState} b (Removed, m) (cond d (row m c call.act) (Stale m.removed, m))).1.removed
+        u
+        ≡ false
+        → has m.removed u ≡ false
     go true d h = h
     go false true h = row_there m c call.act u h
     go false false h = h

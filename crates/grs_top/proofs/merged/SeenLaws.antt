@@ -15,7 +15,17 @@ use Rattle.grs_top.specs.Tasks.{tasks_of, ends_at}
 
 -- what is seen of the medium, of the systems and of what they show together is what is seen of the run
 pub seen_is : (deck : Deck) (m : MediumState) (vs : List NodeView) (x : Merged) → IsRun deck m vs x
-    → record { events = x.events; hist = x.hist; told = x.told; queues = rows_of (replay deck.limit x.hist); units = units_of (nodes_of vs); words = m.words; star = m.star; ended = ends_at m.removed (nodes_of vs) (tasks_of deck) } ≡ seen_of_run deck x.events
+    → record {
+      events = x.events;
+      hist = x.hist;
+      told = x.told;
+      queues = rows_of (replay deck.limit x.hist);
+      units = units_of (nodes_of vs);
+      words = m.words;
+      star = m.star;
+      ended = ends_at m.removed (nodes_of vs) (tasks_of deck);
+    }
+    ≡ seen_of_run deck x.events
 unfolding seen_of_run
 seen_is deck m vs x r = λ i. record {
   events = x.events;

@@ -8,4 +8,5 @@ use Rattle.grs_top.proofs.rest.Ended.{rests}
 pub merged_rests : MergedRests
 merged_rests deck m journal vs some h last =
     let r = merged_runs deck m journal vs h in
-    rests deck m journal vs h last some (merged_steps journal (logs_of vs)).events r.medium (ap (λ ns. length ns) r.nodes ∙ count-nodes vs ∙ h.count)
+    rests deck m journal vs h last some (merged_steps journal (logs_of vs)).events r.medium
+    (ap (λ ns. length ns) r.nodes ∙ count-nodes vs ∙ h.count)

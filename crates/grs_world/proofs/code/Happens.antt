@@ -1,5 +1,6 @@
 -- What an event comes to, as the code takes it.
-use Rattle.std.proofs.Common.{◌≡◌, ◌<◌, ◌+◌, ℕ, Bool, true, false, cond, List, length, get_or, drop, refl, ap, sym, ◌∙◌, arith}
+use Rattle.std.proofs.Common.{◌≡◌, ◌<◌, ◌+◌, ℕ, Bool, true, false, cond, List, length, get_or, drop, refl, ap, sym, ◌∙◌}
+use Rattle.std.proofs.Common.{arith}
 use Rattle.std.proofs.lemmas.List.{at_drop_more}
 use Rattle.std.proofs.lemmas.Bool.{and_parts, ltb-true}
 use Rattle.std.proofs.lemmas.Bool.Decides.{nat_tests}
@@ -13,13 +14,22 @@ use Rattle.grs_world.specs.World.{World, chosen, placed, counted, happens_at, ha
 use Rattle.grs_world.specs.Running.{is_live, node_at}
 
 -- an event of a system that is there and wasn't removed
-pub happens-live : (deck : Deck) (w : World) (e : Event) → is_live w e.system ≡ true → happens deck w e ≡ placed w e.system (node_at deck w.nodes e.system) (chosen deck w.medium e.system (node_at deck w.nodes e.system) e.choice)
+pub happens-live : (deck : Deck) (w : World) (e : Event) → is_live w e.system ≡ true
+    → happens deck w e
+    ≡ placed w e.system (node_at deck w.nodes e.system)
+    (chosen deck w.medium e.system (node_at deck w.nodes e.system) e.choice)
 unfolding happens happens_at placed
 happens-live deck w e h =
     let both = and_parts (nat_lt e.system.0 (length w.nodes)) (not (has w.medium.removed e.system.0)) h in
-    ap (λ o. happens_at deck w e o) (slice_get-get_or w.nodes e.system.0 (first_node deck e.system.0) (ltb-true _ _ both.0)) ∙ by_removed (has w.medium.removed e.system.0) both.1
+    ap (λ o. happens_at deck w e o)
+    (slice_get-get_or w.nodes e.system.0 (first_node deck e.system.0) (ltb-true _ _ both.0))
+    ∙ by_removed (has w.medium.removed e.system.0) both.1
   where
-    by_removed : (b : Bool) → not b ≡ true → cond b (counted w) (placed w e.system (node_at deck w.nodes e.system) (chosen deck w.medium e.system (node_at deck w.nodes e.system) e.choice)) ≡ placed w e.system (node_at deck w.nodes e.system) (chosen deck w.medium e.system (node_at deck w.nodes e.system) e.choice)
+    by_removed : (b : Bool) → not b ≡ true
+        → cond b (counted w) (placed w e.system (node_at deck w.nodes e.system)
+        (chosen deck w.medium e.system (node_at deck w.nodes e.system) e.choice))
+        ≡ placed w e.system (node_at deck w.nodes e.system)
+        (chosen deck w.medium e.system (node_at deck w.nodes e.system) e.choice)
     by_removed true k = cc
     by_removed false k = refl
 
@@ -28,20 +38,28 @@ pub happens-idle : (deck : Deck) (w : World) (e : Event) → is_live w e.system 
 unfolding happens happens_at placed
 happens-idle deck w e h = by_place (nat_lt e.system.0 (length w.nodes)) refl
   where
-    by_removed : (n : NodeState) (b : Bool) → true && not b ≡ false → cond b (counted w) (placed w e.system n (chosen deck w.medium e.system n e.choice)) ≡ counted w
+    by_removed : (n : NodeState) (b : Bool) → true && not b ≡ false
+        → cond b (counted w) (placed w e.system n (chosen deck w.medium e.system n e.choice)) ≡ counted w
     by_removed n true k = refl
     by_removed n false k = cc
 
-    by_place : (b : Bool) → nat_lt e.system.0 (length w.nodes) ≡ b → happens_at deck w e (slice_get w.nodes e.system.0) ≡ counted w
-    by_place false past = ap (λ o. happens_at deck w e o) (slice_get_past w.nodes e.system.0 (grind (arith, nat_tests, past)))
+    by_place : (b : Bool) → nat_lt e.system.0 (length w.nodes) ≡ b
+        → happens_at deck w e (slice_get w.nodes e.system.0) ≡ counted w
+    by_place false past =
+        ap (λ o. happens_at deck w e o) (slice_get_past w.nodes e.system.0 (grind (arith, nat_tests, past)))
     by_place true there =
-        ap (λ o. happens_at deck w e o) (slice_get-get_or w.nodes e.system.0 (first_node deck e.system.0) (ltb-true _ _ there))
-        ∙ by_removed (node_at deck w.nodes e.system) (has w.medium.removed e.system.0) (ap (λ b. b && not (has w.medium.removed e.system.0)) (sym there) ∙ h)
+        ap (λ o. happens_at deck w e o)
+        (slice_get-get_or w.nodes e.system.0 (first_node deck e.system.0) (ltb-true _ _ there))
+        ∙ by_removed (node_at deck w.nodes e.system) (has w.medium.removed e.system.0)
+        (ap (λ b. b && not (has w.medium.removed e.system.0)) (sym there) ∙ h)
 
 pub ruleset happening = (happens-live, happens-idle)
 
 -- a run over one more event
-pub run_from-more : (deck : Deck) (w : World) (es : List Event) (i : ℕ) (e : Event) → i < length es → e ≡ get_or es i e → run_from deck w (drop i es) ≡ run_from deck (happens deck w e) (drop (i + 1) es)
-run_from-more deck w es i e h at = at_drop_more (λ (xs : List Event). run_from deck w xs) es i e h ∙ ap (λ x. run_from deck (happens deck w x) (drop (i + 1) es)) (sym at)
+pub run_from-more : (deck : Deck) (w : World) (es : List Event) (i : ℕ) (e : Event) → i < length es → e ≡ get_or es i e
+    → run_from deck w (drop i es) ≡ run_from deck (happens deck w e) (drop (i + 1) es)
+run_from-more deck w es i e h at =
+    at_drop_more (λ (xs : List Event). run_from deck w xs) es i e h
+    ∙ ap (λ x. run_from deck (happens deck w x) (drop (i + 1) es)) (sym at)
 
 pub ruleset runs = (run_from-more)

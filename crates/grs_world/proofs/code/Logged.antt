@@ -1,5 +1,6 @@
 -- What the event that is taken out of a log fixed and told.
-use Rattle.std.proofs.Common.{◌≡◌, true, false, List, [], ◌∷◌, ◌++◌, length, drop, Option, Some, None, refl, ap, sym, ◌∙◌}
+use Rattle.std.proofs.Common.{◌≡◌, true, false, List, [], ◌∷◌, ◌++◌, length, drop, Option, Some, None, refl, ap, sym}
+use Rattle.std.proofs.Common.{◌∙◌}
 use Rattle.std.specs.Prelude.{◌≢◌}
 use Rattle.grs_wire.specs.declared.deck.Choice.{Choice}
 use Rattle.grs_wire.specs.declared.log.StepDone.{StepDone}
@@ -15,7 +16,8 @@ pub drop-all : {X : Type 0} (xs : List X) → drop (length xs) xs ≡ []
 drop-all [] = refl
 drop-all (x ∷ xs) = drop-all xs
 
-pub finished-node : (v : NodeView) (choice : Choice) (reply : Option Reply) → (finished v choice (journalled reply)).node ≡ (finish v.deck v.node choice reply).node
+pub finished-node : (v : NodeView) (choice : Choice) (reply : Option Reply)
+    → (finished v choice (journalled reply)).node ≡ (finish v.deck v.node choice reply).node
 unfolding finished
 finished-node v choice None = refl
 finished-node v choice (Some reply) = refl
@@ -27,27 +29,35 @@ last_done-behind (s ∷ []) step = refl
 last_done-behind (s ∷ t ∷ ts) step = last_done-behind (t ∷ ts) step
 
 -- of the log of a system that finished a choice
-pub finished-done : (v : NodeView) (choice : Choice) (reply : Option Reply) → last_done (finished v choice (journalled reply)).log ≡ done_by v.node (finish v.deck v.node choice reply)
+pub finished-done : (v : NodeView) (choice : Choice) (reply : Option Reply)
+    → last_done (finished v choice (journalled reply)).log ≡ done_by v.node (finish v.deck v.node choice reply)
 unfolding finished
 finished-done v choice None = last_done-behind v.log (step_done v.node choice false (finish v.deck v.node choice None))
-finished-done v choice (Some reply) = last_done-behind v.log (step_done v.node choice true (finish v.deck v.node choice (Some reply)))
+finished-done v choice (Some reply) =
+    last_done-behind v.log (step_done v.node choice true (finish v.deck v.node choice (Some reply)))
 
 -- which isn't empty
 some-behind : (log : List StepDone) (step : StepDone) → log ++ step ∷ [] ≢ []
 some-behind [] step h = absurd (cc)
 some-behind (s ∷ log) step h = absurd (cc)
 
-pub finished-some : (v : NodeView) (choice : Choice) (reply : Option Reply) → (finished v choice (journalled reply)).log ≢ []
+pub finished-some : (v : NodeView) (choice : Choice) (reply : Option Reply)
+    → (finished v choice (journalled reply)).log ≢ []
 unfolding finished
 finished-some v choice None = some-behind v.log (step_done v.node choice false (finish v.deck v.node choice None))
-finished-some v choice (Some reply) = some-behind v.log (step_done v.node choice true (finish v.deck v.node choice (Some reply)))
+finished-some v choice (Some reply) =
+    some-behind v.log (step_done v.node choice true (finish v.deck v.node choice (Some reply)))
 
 -- a reply that leaves the system as it is
-pub left-node : (v : NodeView) (choice : Choice) (reply : Reply) → leaves_all reply ≡ true → v.node ≡ (finish v.deck v.node choice (Some reply)).node
+pub left-node : (v : NodeView) (choice : Choice) (reply : Reply) → leaves_all reply ≡ true
+    → v.node ≡ (finish v.deck v.node choice (Some reply)).node
 left-node v choice reply h = sym (ap (λ s. s.node) (replies_leave v.deck v.node choice reply h))
 
-pub left-done : (v : NodeView) (choice : Choice) (reply : Reply) → leaves_all reply ≡ true → record { fixed = []; told = [] } ≡ done_by v.node (finish v.deck v.node choice (Some reply))
-left-done v choice reply h = ap (λ ls. record { fixed = []; told = ls }) (sym (drop-all v.node.tasks.told)) ∙ sym (ap (done_by v.node) (replies_leave v.deck v.node choice reply h))
+pub left-done : (v : NodeView) (choice : Choice) (reply : Reply) → leaves_all reply ≡ true
+    → record { fixed = []; told = [] } ≡ done_by v.node (finish v.deck v.node choice (Some reply))
+left-done v choice reply h =
+    ap (λ ls. record { fixed = []; told = ls }) (sym (drop-all v.node.tasks.told))
+    ∙ sym (ap (done_by v.node) (replies_leave v.deck v.node choice reply h))
 
 pub ruleset leaving_steps = (left-node, left-done)
 

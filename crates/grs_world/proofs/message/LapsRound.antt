@@ -1,5 +1,6 @@
 -- How far round the message has gone, counted in places from a system on, and to whom it comes next.
-use Rattle.std.proofs.Common.{ℕ, zero, suc, ◌≡◌, ◌≢◌, ◌+◌, ◌-◌, ◌%◌, ◌<◌, ◌≤◌, Bool, true, false, cond, List, [], ◌∷◌, map, Option, Some, refl, sym, ap, ◌∙◌, subst, arith}
+use Rattle.std.proofs.Common.{ℕ, zero, suc, ◌≡◌, ◌≢◌, ◌+◌, ◌-◌, ◌%◌, ◌<◌, ◌≤◌, Bool, true, false, cond, List, [], ◌∷◌}
+use Rattle.std.proofs.Common.{map, Option, Some, refl, sym, ap, ◌∙◌, subst, arith}
 use Rattle.std.specs.Prelude.{find}
 use Rattle.std.specs.List.{range_with_len}
 use Rattle.std.proofs.Math.Nat.{mod-eq_of_lt, mod-lt, add-mod_right}
@@ -29,7 +30,8 @@ came_round n s k low some most same = go (dec_lt (s + k) n)
     go : Dec ((s + k) < n) → k ≡ n
     go (yes l) = let e : (s + k) % n ≡ s + k = mod-eq_of_lt l in absurd (omega arith)
     go (no far) =
-        let back : (s + k) % n ≡ (s + k - n) % n = ap (λ (x : ℕ). x % n) (let w : s + k ≡ (s + k - n) + n = omega arith in w) ∙ add-mod_right (s + k - n) n in
+        let back : (s + k) % n ≡ (s + k - n) % n =
+        ap (λ (x : ℕ). x % n) (let w : s + k ≡ (s + k - n) + n = omega arith in w) ∙ add-mod_right (s + k - n) n in
         let e : (s + k - n) % n ≡ s + k - n = mod-eq_of_lt (omega arith) in
         omega arith
 
@@ -50,15 +52,28 @@ pub after_some : (n c u : ℕ) → c < n → u < n → (k : ℕ) × (0 < k) × (
 after_some n c u low in_it = go (dec_lt c u)
   where
     go : Dec (c < u) → (k : ℕ) × (0 < k) × (k ≤ n) × ((c + k) % n ≡ u)
-    go (yes l) = (u - c, omega arith, omega arith, ap (λ (x : ℕ). x % n) (let w : c + (u - c) ≡ u = omega arith in w) ∙ mod-eq_of_lt in_it)
-    go (no far) = (u + n - c, omega arith, omega arith, ap (λ (x : ℕ). x % n) (let w : c + (u + n - c) ≡ u + n = omega arith in w) ∙ add-mod_right u n ∙ mod-eq_of_lt in_it)
+    go (yes l) = (
+      u - c,
+      omega arith,
+      omega arith,
+      ap (λ (x : ℕ). x % n) (let w : c + (u - c) ≡ u = omega arith in w) ∙ mod-eq_of_lt in_it,
+    )
+    go (no far) = (
+      u + n - c,
+      omega arith,
+      omega arith,
+      ap (λ (x : ℕ). x % n) (let w : c + (u + n - c) ≡ u + n = omega arith in w)
+          ∙ add-mod_right u n
+          ∙ mod-eq_of_lt in_it,
+    )
 
 -- ---- the first that passes a test
 -- One that passes isn't passed over.
 found : (test : SysId → Bool) (g : ℕ → SysId) (k n i : ℕ) → k ≤ i → i < k + n → test (g i) ≡ true
     → (j : ℕ) × (k ≤ j) × (j ≤ i) × (find test (map g (range_with_len k n)) ≡ Some (g j))
 found test g k zero i from to passes = absurd (omega arith)
-found test g k (suc n) i from to passes = go (test (g k)) refl (λ past. found test g (k + 1) n i past (omega arith) passes)
+found test g k (suc n) i from to passes =
+    go (test (g k)) refl (λ past. found test g (k + 1) n i past (omega arith) passes)
   where
     Found : ℕ → Option SysId → Type 0
     Found low first = (j : ℕ) × (low ≤ j) × (j ≤ i) × (first ≡ Some (g j))
@@ -67,23 +82,29 @@ found test g k (suc n) i from to passes = go (test (g k)) refl (λ past. found t
         → Found k (cond (test (g k)) (Some (g k)) (find test (map g (range_with_len (k + 1) n))))
     go true e on = (k, omega arith, from, rw e refl)
     go false e on =
-        let other : k ≢ i = λ same. let clash : test (g i) ≡ false = subst (λ (x : ℕ). test (g x) ≡ false) same e in absurd cc in
+        let other : k
+        ≢ i = λ same. let clash : test (g i) ≡ false = subst (λ (x : ℕ). test (g x) ≡ false) same e in absurd cc in
         let r = on (omega arith) in
         (r.0, omega (arith, r.1), r.2, rw e r.3)
 
-pub first_found : (test : SysId → Bool) (n : ℕ) (c : SysId) (i : ℕ) → 0 < i → i ≤ n → test (record { 0 = (c.0 + i) % n }) ≡ true
+pub first_found : (test : SysId → Bool) (n : ℕ) (c : SysId) (i : ℕ) → 0 < i → i ≤ n
+    → test (record { 0 = (c.0 + i) % n }) ≡ true
     → (j : ℕ) × (0 < j) × (j ≤ i) × (first_after n c test ≡ Some (record { 0 = (c.0 + j) % n }))
 unfolding first_after
-first_found test n c i from to passes = found test (λ k. record { 0 = (c.0 + k) % n }) 1 n i (omega arith) (omega arith) passes
+first_found test n c i from to passes =
+    found test (λ k. record { 0 = (c.0 + k) % n }) 1 n i (omega arith) (omega arith) passes
 
 -- It is one of the systems.
-found_inside : (test : SysId → Bool) (n c : ℕ) (ks : List ℕ) (h : SysId) → 0 < n → find test (map (λ k. record { 0 = (c + k) % n }) ks) ≡ Some h → h.0 < n
+found_inside : (test : SysId → Bool) (n c : ℕ) (ks : List ℕ) (h : SysId) → 0 < n
+    → find test (map (λ k. record { 0 = (c + k) % n }) ks) ≡ Some h → h.0 < n
 found_inside test n c [] h some e = absurd cc
 found_inside test n c (k ∷ ks) h some e = go (test (record { 0 = (c + k) % n })) (found_inside test n c ks h some) e
   where
     go : (b : Bool) → (find test (map (λ k. record { 0 = (c + k) % n }) ks) ≡ Some h → h.0 < n)
-        → cond b (Some (record { 0 = (c + k) % n })) (find test (map (λ k. record { 0 = (c + k) % n }) ks)) ≡ Some h → h.0 < n
-    go true on is = let same : record { 0 = (c + k) % n } ≡ h = cc in subst (λ (x : SysId). x.0 < n) same (under n (c + k) some)
+        → cond b (Some (record { 0 = (c + k) % n })) (find test (map (λ k. record { 0 = (c + k) % n }) ks)) ≡ Some h
+        → h.0 < n
+    go true on is =
+        let same : record { 0 = (c + k) % n } ≡ h = cc in subst (λ (x : SysId). x.0 < n) same (under n (c + k) some)
     go false on is = on is
 
 pub first_inside : (test : SysId → Bool) (n : ℕ) (c h : SysId) → 0 < n → first_after n c test ≡ Some h → h.0 < n

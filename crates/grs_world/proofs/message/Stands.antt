@@ -1,5 +1,7 @@
 -- What stands in the message of all that was ever put in, whatever kind it is.
-use Rattle.std.proofs.Common.{ℕ, zero, suc, ◌≡◌, ◌≢◌, ◌+◌, ◌-◌, ◌<◌, ◌≤◌, Bool, true, false, cond, not, eqb, leb, ◌&&◌, List, [], ◌∷◌, ◌++◌, length, drop, map, Option, Some, None, ap, sym, ◌∙◌, refl, subst, arith, eqb-true, leb-true, leb-false, le-leb}
+use Rattle.std.proofs.Common.{ℕ, zero, suc, ◌≡◌, ◌≢◌, ◌+◌, ◌-◌, ◌<◌, ◌≤◌, Bool, true, false, cond, not, eqb, leb, ◌&&◌}
+use Rattle.std.proofs.Common.{List, [], ◌∷◌, ◌++◌, length, drop, map, Option, Some, None, ap, sym, ◌∙◌, refl, subst}
+use Rattle.std.proofs.Common.{arith, eqb-true, leb-true, leb-false, le-leb}
 use Rattle.std.specs.Prelude.{filter, ◌==◌, nat_lt}
 use Rattle.std.proofs.Math.Seq.{drop-nil}
 use Rattle.std.proofs.lemmas.Bool.{eqb-false, lt-leb, lt-ltb, ltb-true, and_right}
@@ -28,16 +30,21 @@ body_of (Purged target) = Some (Remove target)
 -- process stands in es, in order. U j s says that s has still to process what has place j.
 pub data Stands (U : ℕ → ℕ → Bool) : ℕ → List Fixed → List RingEntry → Type 0 where
   none : {k : ℕ} → Stands U k [] []
-  gone : {k : ℕ} {q : Fixed} {qs : List Fixed} {es : List RingEntry} → ((s : ℕ) → U k s ≡ false) → Stands U (suc k) qs es → Stands U k (q ∷ qs) es
-  kept : {k : ℕ} {e : RingEntry} {q : Fixed} {qs : List Fixed} {es : List RingEntry} → e.number ≡ suc k → body_of q ≡ Some e.body → ((s : ℕ) → has e.mask s ≡ U k s) → Stands U (suc k) qs es → Stands U k (q ∷ qs) (e ∷ es)
+  gone : {k : ℕ} {q : Fixed} {qs : List Fixed} {es : List RingEntry} → ((s : ℕ) → U k s ≡ false)
+      → Stands U (suc k) qs es → Stands U k (q ∷ qs) es
+  kept : {k : ℕ} {e : RingEntry} {q : Fixed} {qs : List Fixed} {es : List RingEntry} → e.number ≡ suc k
+      → body_of q ≡ Some e.body → ((s : ℕ) → has e.mask s ≡ U k s) → Stands U (suc k) qs es
+      → Stands U k (q ∷ qs) (e ∷ es)
 
-module _ (U V : ℕ → ℕ → Bool) (c : SysId) (n : ℕ) (at_c : (j : ℕ) → j < n → V j c.0 ≡ false) (apart : (j s : ℕ) → j < n → s ≢ c.0 → V j s ≡ U j s) where
+module _ (U V : ℕ → ℕ → Bool) (c : SysId) (n : ℕ) (at_c : (j : ℕ) → j < n → V j c.0 ≡ false)
+    (apart : (j s : ℕ) → j < n → s ≢ c.0 → V j s ≡ U j s) where
   same_mask : (m j : ℕ) → j < n → ((s : ℕ) → has m s ≡ U j s) → (s : ℕ) → has (without m c.0) s ≡ V j s
   same_mask m j in_n h s = go (eqb s c.0) refl
     where
       go : (b : Bool) → eqb s c.0 ≡ b → has (without m c.0) s ≡ V j s
       go true e = rw (eqb-true s c.0 e) (has-without_same m c.0 ∙ sym (at_c j in_n))
-      go false e = let ne : s ≢ c.0 = eqb-false s c.0 e in has-without_other m c.0 s ne ∙ (h s ∙ sym (apart j s in_n ne))
+      go false e =
+          let ne : s ≢ c.0 = eqb-false s c.0 e in has-without_other m c.0 s ne ∙ (h s ∙ sym (apart j s in_n ne))
 
   still_none : (j : ℕ) → j < n → ((s : ℕ) → s ≢ c.0 → U j s ≡ false) → (s : ℕ) → V j s ≡ false
   still_none j in_n h s = go (eqb s c.0) refl
@@ -53,7 +60,8 @@ module _ (U V : ℕ → ℕ → Bool) (c : SysId) (n : ℕ) (at_c : (j : ℕ) �
   clear es = map (left_by c) (filter (λ e. not (e.mask == only c.0)) es)
 
   -- c leaves all masks
-  Stands-clear : {k : ℕ} {qs : List Fixed} {es : List RingEntry} → k + length qs ≤ n → Stands U k qs es → Stands V k qs (clear es)
+  Stands-clear : {k : ℕ} {qs : List Fixed} {es : List RingEntry} → k + length qs ≤ n → Stands U k qs es
+      → Stands V k qs (clear es)
   unfolding clear
   Stands-clear l none = none
   Stands-clear l (gone {k = k} h r) = gone (still_none k (omega arith) (λ s ne. h s)) (Stands-clear (omega arith) r)
@@ -61,32 +69,41 @@ module _ (U V : ℕ → ℕ → Bool) (c : SysId) (n : ℕ) (at_c : (j : ℕ) �
       let rest = Stands-clear (omega arith) r in
       go (e.mask == only c.0) refl rest
     where
-      go : (b : Bool) → (e.mask == only c.0) ≡ b → Stands V (suc k) qs (clear es) → Stands V k (q ∷ qs) (map (left_by c) (cond (not b) (e ∷ filter (λ f. not (f.mask == only c.0)) es) (filter (λ f. not (f.mask == only c.0)) es)))
+      go : (b : Bool) → (e.mask == only c.0) ≡ b → Stands V (suc k) qs (clear es)
+          → Stands V k (q ∷ qs) (map (left_by c)
+          (cond (not b) (e ∷ filter (λ f. not (f.mask == only c.0)) es) (filter (λ f. not (f.mask == only c.0)) es)))
       go true t rest = gone (still_none k (omega arith) (alone e.mask k (eqb-true e.mask (only c.0) t) h)) rest
       go false t rest = kept number body (same_mask e.mask k (omega arith) h) rest
 
-  pub Stands-cleared : {k : ℕ} {qs : List Fixed} {es : List RingEntry} → k + length qs ≤ n → Stands U k qs es → Stands V k qs (cleared c es)
+  pub Stands-cleared : {k : ℕ} {qs : List Fixed} {es : List RingEntry} → k + length qs ≤ n → Stands U k qs es
+      → Stands V k qs (cleared c es)
   unfolding cleared clear
   Stands-cleared l h = Stands-clear l h
 
 -- what is put in behind
-pub Stands-append : {U : ℕ → ℕ → Bool} {k : ℕ} {ps : List Fixed} {es : List RingEntry} (j : ℕ) (qs : List Fixed) (fs : List RingEntry) → j ≡ k + length ps → Stands U k ps es → Stands U j qs fs → Stands U k (ps ++ qs) (es ++ fs)
+pub Stands-append :
+    {U : ℕ → ℕ → Bool} {k : ℕ} {ps : List Fixed} {es : List RingEntry} (j : ℕ) (qs : List Fixed) (fs : List RingEntry)
+    → j ≡ k + length ps → Stands U k ps es → Stands U j qs fs → Stands U k (ps ++ qs) (es ++ fs)
 Stands-append {U = U} {k = k} j qs fs e none t = subst (λ i. Stands U i qs fs) (omega arith) t
 Stands-append j qs fs e (gone h r) t = gone h (Stands-append j qs fs (omega arith) r t)
 Stands-append j qs fs e (kept number body h r) t = kept number body h (Stands-append j qs fs (omega arith) r t)
 
-pub Stands-stamped : (U : ℕ → ℕ → Bool) (c : SysId) (mask : ℕ) (k : ℕ) (qs : List Req) → ((j s : ℕ) → k ≤ j → has mask s ≡ U j s) → Stands U k (map Asked qs) (stamped (suc k) c mask qs)
+pub Stands-stamped : (U : ℕ → ℕ → Bool) (c : SysId) (mask : ℕ) (k : ℕ) (qs : List Req)
+    → ((j s : ℕ) → k ≤ j → has mask s ≡ U j s) → Stands U k (map Asked qs) (stamped (suc k) c mask qs)
 unfolding stamped
 Stands-stamped U c mask k [] h = none
-Stands-stamped U c mask k (q ∷ qs) h = kept refl refl (λ s. h k s (omega arith)) (Stands-stamped U c mask (suc k) qs (λ j s l. h j s (omega arith)))
+Stands-stamped U c mask k (q ∷ qs) h =
+    kept refl refl (λ s. h k s (omega arith)) (Stands-stamped U c mask (suc k) qs (λ j s l. h j s (omega arith)))
 
 -- these entries are these
 pub data Bodies : List Fixed → List RingEntry → Type 0 where
   none : Bodies [] []
-  more : {q : Fixed} {e : RingEntry} {qs : List Fixed} {es : List RingEntry} → body_of q ≡ Some e.body → Bodies qs es → Bodies (q ∷ qs) (e ∷ es)
+  more : {q : Fixed} {e : RingEntry} {qs : List Fixed} {es : List RingEntry} → body_of q ≡ Some e.body → Bodies qs es
+      → Bodies (q ∷ qs) (e ∷ es)
 
 -- what s has still to process is all that was put in behind what it has seen
-pub unseen-drop : {U : ℕ → ℕ → Bool} {k : ℕ} {qs : List Fixed} {es : List RingEntry} (s : SysId) (seen : ℕ) → ((j : ℕ) → U j s.0 ≡ leb seen j) → Stands U k qs es → Bodies (drop (seen - k) qs) (unseen s es)
+pub unseen-drop : {U : ℕ → ℕ → Bool} {k : ℕ} {qs : List Fixed} {es : List RingEntry} (s : SysId) (seen : ℕ)
+    → ((j : ℕ) → U j s.0 ≡ leb seen j) → Stands U k qs es → Bodies (drop (seen - k) qs) (unseen s es)
 unfolding unseen
 unseen-drop {k = k} s seen at none = subst (λ (z : List Fixed). Bodies z []) (sym (drop-nil (seen - k))) none
 unseen-drop {k = k} s seen at (gone {q = q} {qs = qs} {es = es} h r) =
@@ -99,13 +116,16 @@ unseen-drop {k = k} s seen at (kept {e = e} {q = q} {qs = qs} {es = es} number b
     (λ t. let l : seen ≤ k = leb-true seen k (sym (at k) ∙ (sym (h s.0) ∙ t)) in
     let d : seen - k ≡ 0 = omega arith in
     let d' : seen - suc k ≡ 0 = omega arith in
-    subst (λ i. Bodies (drop i (q ∷ qs)) (e ∷ unseen s es)) (sym d) (more body (subst (λ i. Bodies (drop i qs) (unseen s es)) d' ih)))
+    subst (λ i. Bodies (drop i (q ∷ qs)) (e ∷ unseen s es)) (sym d)
+    (more body (subst (λ i. Bodies (drop i qs) (unseen s es)) d' ih)))
     (λ t. let l : k < seen = leb-false seen k (sym (at k) ∙ (sym (h s.0) ∙ t)) in
     let d : seen - k ≡ suc (seen - suc k) = omega arith in
     subst (λ i. Bodies (drop i (q ∷ qs)) (unseen s es)) (sym d) ih)
 
 -- the number of the first entry that s has still to process is one above the count of those that it has seen
-pub first_number-seen : {U : ℕ → ℕ → Bool} {k : ℕ} {qs : List Fixed} {es : List RingEntry} (s : SysId) (seen : ℕ) → ((j : ℕ) → U j s.0 ≡ leb seen j) → k ≤ seen → Stands U k qs es → (number : ℕ) → first_number (unseen s es) ≡ Some number → number ≡ suc seen
+pub first_number-seen : {U : ℕ → ℕ → Bool} {k : ℕ} {qs : List Fixed} {es : List RingEntry} (s : SysId) (seen : ℕ)
+    → ((j : ℕ) → U j s.0 ≡ leb seen j) → k ≤ seen → Stands U k qs es → (number : ℕ)
+    → first_number (unseen s es) ≡ Some number → number ≡ suc seen
 unfolding unseen
 first_number-seen s seen at l none number f = cc
 first_number-seen {k = k} s seen at l (gone h r) number f =
@@ -114,14 +134,17 @@ first_number-seen {k = k} s seen at l (kept {e = e} {q = q} {qs = qs} {es = es} 
     by_test (λ xs. first_number xs ≡ Some number → number ≡ suc seen) (has e.mask s.0) (e ∷ unseen s es) (unseen s es)
     (λ t f. let m : seen ≤ k = leb-true seen k (sym (at k) ∙ (sym (h s.0) ∙ t)) in
     let same : e.number ≡ number = same_Some e.number number f in omega arith)
-    (λ t f. let m : k < seen = leb-false seen k (sym (at k) ∙ (sym (h s.0) ∙ t)) in first_number-seen s seen at m r number f) f
+    (λ t f. let m : k < seen = leb-false seen k (sym (at k) ∙ (sym (h s.0) ∙ t)) in
+    first_number-seen s seen at m r number f)
+    f
 
 -- ---- each of some systems has seen so many of the requests
 abbrev pub waits_for : ℕ → (ℕ → ℕ) → ℕ → ℕ → Bool
 waits_for live seen j s = has live s && leb (seen s) j
 
 -- new entries are unseen by each live system
-pub waits_new : (live : ℕ) (seen : ℕ → ℕ) (n : ℕ) → ((s : ℕ) → has live s ≡ true → seen s ≤ n) → (j s : ℕ) → n ≤ j → has live s ≡ waits_for live seen j s
+pub waits_new : (live : ℕ) (seen : ℕ → ℕ) (n : ℕ) → ((s : ℕ) → has live s ≡ true → seen s ≤ n) → (j s : ℕ) → n ≤ j
+    → has live s ≡ waits_for live seen j s
 waits_new live seen n within j s l = go (has live s) refl
   where
     go : (b : Bool) → has live s ≡ b → b ≡ (b && (leb (seen s) j))
@@ -131,7 +154,8 @@ waits_new live seen n within j s l = go (has live s) refl
 pub waits_seen : (live : ℕ) (seen : ℕ → ℕ) (j s : ℕ) → j < seen s → waits_for live seen j s ≡ false
 waits_seen live seen j s h = and_right (has live s) (leb (seen s) j) (lt-leb (seen s) j h)
 
-pub waits_live : (live : ℕ) (seen : ℕ → ℕ) (s : ℕ) → has live s ≡ true → (j : ℕ) → waits_for live seen j s ≡ leb (seen s) j
+pub waits_live : (live : ℕ) (seen : ℕ → ℕ) (s : ℕ) → has live s ≡ true → (j : ℕ)
+    → waits_for live seen j s ≡ leb (seen s) j
 waits_live live seen s h j = rw h refl
 
 -- the systems below a number are live where none is removed
@@ -139,35 +163,49 @@ pub has-others : (n s : ℕ) → s < n → has (others n 0) s ≡ true
 has-others zero s l = absurd (omega arith)
 has-others (suc n) s l = go (eqb s n) refl (has 0 n) (has-zero n) (λ m. has-others n s m)
   where
-    go : (b : Bool) → eqb s n ≡ b → (z : Bool) → z ≡ false → (s < n → has (others n 0) s ≡ true) → has (cond z (others n 0) (with_also (others n 0) n)) s ≡ true
+    go : (b : Bool) → eqb s n ≡ b → (z : Bool) → z ≡ false → (s < n → has (others n 0) s ≡ true)
+        → has (cond z (others n 0) (with_also (others n 0) n)) s ≡ true
     go b e true z below = cc
-    go true e false z below = subst (λ i. has (with_also (others n 0) n) i ≡ true) (sym (eqb-true s n e)) (has-with_same (others n 0) n)
+    go true e false z below =
+        subst (λ i. has (with_also (others n 0) n) i ≡ true) (sym (eqb-true s n e)) (has-with_same (others n 0) n)
     go false e false z below =
         let ne : s ≢ n = eqb-false s n e in
         has-with_other (others n 0) n s ne ∙ below (omega arith)
 
 -- who is live among so many, of whom these were removed
-live-step : (n m : ℕ) → ((j : ℕ) → has (others n m) j ≡ lives n m j) → (s : ℕ) → has (cond (has m n) (others n m) (with_also (others n m) n)) s ≡ lives (suc n) m s
+live-step : (n m : ℕ) → ((j : ℕ) → has (others n m) j ≡ lives n m j) → (s : ℕ)
+    → has (cond (has m n) (others n m) (with_also (others n m) n)) s ≡ lives (suc n) m s
 live-step n m below s = go (eqb s n) refl
   where
-    at_end : (b : Bool) → has m n ≡ b → has (cond b (others n m) (with_also (others n m) n)) n ≡ (nat_lt n (suc n) && not b)
+    at_end : (b : Bool) → has m n ≡ b
+        → has (cond b (others n m) (with_also (others n m) n)) n ≡ (nat_lt n (suc n) && not b)
     at_end true e =
-        let out : nat_lt n n ≡ false = false_by (nat_lt n n) (λ h. absurd (let l : n < n = ltb-true n n h in omega (arith, l))) in
+        let out : nat_lt n n ≡ false =
+        false_by (nat_lt n n) (λ h. absurd (let l : n < n = ltb-true n n h in omega (arith, l))) in
         below n ∙ (ap (λ b. b && not (has m n)) out ∙ sym (and_right (nat_lt n (suc n)) (not true) refl))
     at_end false e = has-with_same (others n m) n ∙ sym (ap (λ b. b && not false) (lt-ltb n (suc n) (omega arith)))
 
     step : s ≢ n → (b : Bool) → nat_lt s n ≡ b → b ≡ nat_lt s (suc n)
     step ne true e = sym (lt-ltb s (suc n) (let l : s < n = ltb-true s n e in omega (arith, l)))
-    step ne false e = sym (false_by (nat_lt s (suc n)) (λ h. no_truth (nat_lt s n) (lt-ltb s n (let l : s < suc n = ltb-true s (suc n) h in omega (arith, l, ne))) e))
+    step ne false e =
+        sym (false_by (nat_lt s (suc n))
+        (λ h. no_truth (nat_lt s n) (lt-ltb s n (let l : s < suc n = ltb-true s (suc n) h in omega (arith, l, ne))) e))
 
-    apart : s ≢ n → (b : Bool) → has m n ≡ b → has (cond b (others n m) (with_also (others n m) n)) s ≡ lives (suc n) m s
+    apart : s ≢ n → (b : Bool) → has m n ≡ b
+        → has (cond b (others n m) (with_also (others n m) n)) s ≡ lives (suc n) m s
     apart ne true e = below s ∙ ap (λ b. b && not (has m s)) (step ne (nat_lt s n) refl)
-    apart ne false e = has-with_other (others n m) n s ne ∙ (below s ∙ ap (λ b. b && not (has m s)) (step ne (nat_lt s n) refl))
+    apart ne false e =
+        has-with_other (others n m) n s ne ∙ (below s ∙ ap (λ b. b && not (has m s)) (step ne (nat_lt s n) refl))
 
     go : (b : Bool) → eqb s n ≡ b → has (cond (has m n) (others n m) (with_also (others n m) n)) s ≡ lives (suc n) m s
-    go true e = subst (λ i. has (cond (has m n) (others n m) (with_also (others n m) n)) i ≡ lives (suc n) m i) (sym (eqb-true s n e)) (at_end (has m n) refl)
+    go true e =
+        subst (λ i. has (cond (has m n) (others n m) (with_also (others n m) n)) i ≡ lives (suc n) m i)
+        (sym (eqb-true s n e)) (at_end (has m n) refl)
     go false e = apart (eqb-false s n e) (has m n) refl
 
 pub has-live : (n m s : ℕ) → has (others n m) s ≡ lives n m s
-has-live zero m s = has-zero s ∙ sym (ap (λ b. b && not (has m s)) (false_by (nat_lt s 0) (λ h. absurd (let l : s < 0 = ltb-true s 0 h in omega (arith, l)))))
+has-live zero m s =
+    has-zero s
+    ∙ sym (ap (λ b. b && not (has m s))
+    (false_by (nat_lt s 0) (λ h. absurd (let l : s < 0 = ltb-true s 0 h in omega (arith, l)))))
 has-live (suc n) m s = live-step n m (has-live n m) s

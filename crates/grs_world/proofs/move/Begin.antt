@@ -1,6 +1,7 @@
--- The complex begins to change: the lock words are those of the table of the system that orders it, and every system is shown
--- as it will be behind what it has still to process. So the world that is shown is one in star mode.
-use Rattle.std.proofs.Common.{◌≡◌, [], ◌<◌, ◌≤◌, ◌++◌, ◌&&◌, Bool, not, List, Option, Some, None, ap, append-nil, arith, false, length, refl, set, suc, subst, sym, true, zero, ℕ, ◌∙◌, ◌∷◌, ◌+◌, ◌||◌}
+-- The complex begins to change: the lock words are those of the table of the system that orders it, and every system is
+-- shown as it will be behind what it has still to process. So the world that is shown is one in star mode.
+use Rattle.std.proofs.Common.{◌≡◌, [], ◌<◌, ◌≤◌, ◌++◌, ◌&&◌, Bool, not, List, Option, Some, None, ap, append-nil, arith}
+use Rattle.std.proofs.Common.{false, length, refl, set, suc, subst, sym, true, zero, ℕ, ◌∙◌, ◌∷◌, ◌+◌, ◌||◌}
 use Rattle.std.specs.Prelude.{nat_lt, replicate, slice_get, is_some, slice_index_or}
 use Rattle.std.specs.List.{list_all, list_any, All}
 use Rattle.std.proofs.lemmas.Bool.{and_from, and_parts, lt-ltb, ltb-false, ltb-true}
@@ -62,20 +63,26 @@ use Rattle.rsa_message.specs.Message.{closed_by, first_number}
 use Rattle.grs_wire.specs.Unseen.{unseen}
 
 -- ---- the elements of a table of a run are of systems of the deck
-each-within : (deck : Deck) (t : State) → list_all (λ h. may_have deck h.0 h.1.task) t ≡ true → are_within (length deck.systems) t ≡ true
+each-within : (deck : Deck) (t : State) → list_all (λ h. may_have deck h.0 h.1.task) t ≡ true
+    → are_within (length deck.systems) t ≡ true
 each-within deck [] h = refl
 each-within deck (x ∷ t) h =
     let both = and_parts (may_have deck x.0 x.1.task) (list_all (λ z. may_have deck z.0 z.1.task) t) h in
-    and_from (nat_lt x.1.task.system.0 (length deck.systems)) (are_within (length deck.systems) t) (deck-task deck x.1.task (and_parts (is_some (lines_of deck x.1.task)) (is_systems x.0 || is_res_of x.1.task.system.0 x.0) both.0).0) (each-within deck t both.1)
+    and_from (nat_lt x.1.task.system.0 (length deck.systems)) (are_within (length deck.systems) t)
+    (deck-task deck x.1.task
+    (and_parts (is_some (lines_of deck x.1.task)) (is_systems x.0 || is_res_of x.1.task.system.0 x.0) both.0).0)
+    (each-within deck t both.1)
 
 pub more-within : (n m : ℕ) → n ≤ m → (t : State) → are_within n t ≡ true → are_within m t ≡ true
 more-within n m l [] h = refl
 more-within n m l (x ∷ t) h =
     let both = and_parts (nat_lt x.1.task.system.0 n) (are_within n t) h in
     let below : x.1.task.system.0 < n = ltb-true x.1.task.system.0 n both.0 in
-    and_from (nat_lt x.1.task.system.0 m) (are_within m t) (lt-ltb x.1.task.system.0 m (omega (arith, l, below))) (more-within n m l t both.1)
+    and_from (nat_lt x.1.task.system.0 m) (are_within m t) (lt-ltb x.1.task.system.0 m (omega (arith, l, below)))
+    (more-within n m l t both.1)
 
-pub front-within : (deck : Deck) (xs : List RunItem) → AllAsk deck xs → are_within (length deck.systems) (lists xs) ≡ true
+pub front-within : (deck : Deck) (xs : List RunItem) → AllAsk deck xs
+    → are_within (length deck.systems) (lists xs) ≡ true
 front-within deck xs asks = each-within deck (lists xs) (elements-ask deck [] xs asks refl)
 
 -- ---- what a system comes to by its change
@@ -85,7 +92,9 @@ pub record Arrives (deck : Deck) (s : ℕ) (T : List RunItem) (k : NodeState) : 
   pub is : k ≡ change_to_star deck from
   pub seen : Seen deck s T (rounds T) [] [] from
 
-module _ (deck : Deck) (some : 0 < deck.entries) (few : length deck.systems ≤ most_systems) (w : World) (right : IsHistory deck (items w.fixed)) (words_are : w.medium.words ≡ table_words deck.entries (lists (rounds (items w.fixed)))) where
+module _ (deck : Deck) (some : 0 < deck.entries) (few : length deck.systems ≤ most_systems) (w : World)
+    (right : IsHistory deck (items w.fixed))
+    (words_are : w.medium.words ≡ table_words deck.entries (lists (rounds (items w.fixed)))) where
   abbrev T : List RunItem
   T = items w.fixed
 
@@ -107,9 +116,12 @@ module _ (deck : Deck) (some : 0 < deck.entries) (few : length deck.systems ≤ 
       ∙ ap (λ x. Some (part_by_table deck.entries (record { 0 = s }) x)) a.seen.shared))
 
   fits : (s : ℕ) → IsPart deck w.medium.words (lists (items w.fixed)) s (part_at s)
-  fits s = subst (λ ws. IsPart deck ws (lists (items w.fixed)) s (part_at s)) (sym words_are) (part-by deck some t (lists T) (table-is T) within_most s)
+  fits s =
+      subst (λ ws. IsPart deck ws (lists (items w.fixed)) s (part_at s)) (sym words_are)
+      (part-by deck some t (lists T) (table-is T) within_most s)
 
-  member : (s : ℕ) (k : NodeState) → Arrives deck s (items w.fixed) k → IsMember deck w.medium.words (lists (items w.fixed)) s k
+  member : (s : ℕ) (k : NodeState) → Arrives deck s (items w.fixed) k
+      → IsMember deck w.medium.words (lists (items w.fixed)) s k
   unfolding change_to_star
   member s k a = record {
     part = part_at s;
@@ -118,26 +130,36 @@ module _ (deck : Deck) (some : 0 < deck.entries) (few : length deck.systems ≤ 
     fits = fits s;
   }
 
-  system : (s : ℕ) (k : NodeState) → Arrives deck s (items w.fixed) k → (ms : List Mail) → ms ≡ [] → IsSystem deck w.medium.words (items w.fixed) s k ms [] []
-  system s k a ms empty = subst (λ xs. IsSystem deck w.medium.words T s k xs [] []) (sym empty) (subst (λ z. IsSystem deck w.medium.words T s z [] [] []) (sym a.is) (record {
-    at = changed-at deck s T (rounds T) [] a.from a.seen (λ u ls o. refl);
-    late = tt;
-    sent = λ u h. refl;
-    near = refl;
-    coming = λ u home. tt;
-    answered = λ u x home due gave. absurd (cc);
-    fits = tt;
-  }))
+  system : (s : ℕ) (k : NodeState) → Arrives deck s (items w.fixed) k → (ms : List Mail) → ms ≡ []
+      → IsSystem deck w.medium.words (items w.fixed) s k ms [] []
+  system s k a ms empty =
+      subst (λ xs. IsSystem deck w.medium.words T s k xs [] [])
+      (sym empty) (subst (λ z. IsSystem deck w.medium.words T s z [] [] []) (sym a.is) (record {
+        at = changed-at deck s T (rounds T) [] a.from a.seen (λ u ls o. refl);
+        late = tt;
+        sent = λ u h. refl;
+        near = refl;
+        coming = λ u home. tt;
+        answered = λ u x home due gave. absurd (cc);
+        fits = tt;
+      }))
 
-  module _ (view : List NodeState) (count : length view ≡ length deck.systems) (each : (s : ℕ) (k : NodeState) → slice_get view s ≡ Some k → has w.medium.removed s ≡ false → Arrives deck s (items w.fixed) k)
-      (mode : w.medium.star ≡ true) (gone : (s : SysId) → has w.medium.removed s.0 ≡ list_any (removes s) (history (items w.fixed))) (boxes : w.medium.inboxes ≡ replicate (length deck.systems) []) where
+  module _ (view : List NodeState) (count : length view ≡ length deck.systems)
+      (each : (s : ℕ) (k : NodeState) → slice_get view s ≡ Some k → has w.medium.removed s ≡ false
+      → Arrives deck s (items w.fixed) k)
+      (mode : w.medium.star ≡ true)
+      (gone : (s : SysId) → has w.medium.removed s.0 ≡ list_any (removes s) (history (items w.fixed)))
+      (boxes : w.medium.inboxes ≡ replicate (length deck.systems) []) where
     no_box : (s : ℕ) → inbox w.medium s ≡ []
     no_box s = ap (λ (xs : List (List Mail)). slice_index_or xs s []) boxes ∙ no_mail (length deck.systems) s
 
     -- who isn't live has no element of an entry
-    none-there : (e s : ℕ) (b : Bool) → has w.medium.removed s ≡ b → (nat_lt s (length view) && not b) ≡ false → has_elements deck.entries e (rows_of (lists (rounds (items w.fixed)))) s ≡ false
+    none-there : (e s : ℕ) (b : Bool) → has w.medium.removed s ≡ b → (nat_lt s (length view) && not b) ≡ false
+        → has_elements deck.entries e (rows_of (lists (rounds (items w.fixed)))) s ≡ false
     none-there e s true out h = removed-by deck T right e s (sym (gone (record { 0 = s })) ∙ out)
-    none-there e s false live h = past-by deck some t (lists T) (table-is T) within_most (length deck.systems) within e s (subst (λ n. n ≤ s) count (ltb-false s (length view) (sym (and-true (nat_lt s (length view))) ∙ h)))
+    none-there e s false live h =
+        past-by deck some t (lists T) (table-is T) within_most (length deck.systems) within e s
+        (subst (λ n. n ≤ s) count (ltb-false s (length view) (sym (and-true (nat_lt s (length view))) ∙ h)))
 
     roles : IsStar deck (record w { nodes = view })
     roles = record {
@@ -146,14 +168,26 @@ module _ (deck : Deck) (some : 0 < deck.entries) (few : length deck.systems ≤ 
       inboxes = ap (λ (xs : List (List Mail)). length xs) boxes ∙ length-replicate (length deck.systems) [];
       systems = count;
       managed = subst (All IsManaged) (sym words_are) (table-managed deck.entries some t within_most);
-      nobody = λ e s out. subst (λ ws. (is_interested ws e s ≡ false) × (has_manager ws e s ≡ false)) (sym words_are) (nobody-by deck some t (lists T) (table-is T) within_most e s (none-there e s (has w.medium.removed s) refl out));
-      free = λ e none. free-by deck some t (lists T) (table-is T) within_most e (sym (ap (λ ws. manager_at ws e) words_are) ∙ none);
+      nobody = λ e s out.
+          subst (λ ws. (is_interested ws e s ≡ false) × (has_manager ws e s ≡ false)) (sym words_are)
+          (nobody-by deck some t (lists T) (table-is T) within_most e s
+          (none-there e s (has w.medium.removed s) refl out));
+      free = λ e none.
+          free-by deck some t (lists T) (table-is T) within_most e (sym (ap (λ ws. manager_at ws e) words_are) ∙ none);
       node = λ s k f live. member s k (each s k f live);
     }
 
-    hands : (m : ℕ) (k : NodeState) (p : StarPart) → slice_get view m ≡ Some k → has w.medium.removed m ≡ false → k.star ≡ Some p → Hands deck w.medium.words (are_live (record w { nodes = view })) (λ s. []) (λ s. []) m (in_hands p (inbox w.medium m))
-    hands m k p f live is = subst (λ ms. Hands deck w.medium.words (are_live (record w { nodes = view })) (λ s. []) (λ s. []) m (in_hands p ms)) (sym (no_box m))
-        (subst (λ (q : StarPart). Hands deck w.medium.words (are_live (record w { nodes = view })) (λ s. []) (λ s. []) m (in_hands q [])) (same_Some (part_at m) p (sym (part_is m k (each m k f live)) ∙ is)) (record { each = tt; apart = refl }))
+    hands : (m : ℕ) (k : NodeState) (p : StarPart) → slice_get view m ≡ Some k → has w.medium.removed m ≡ false
+        → k.star ≡ Some p
+        → Hands deck w.medium.words (are_live (record w { nodes = view })) (λ s. []) (λ s. []) m
+        (in_hands p (inbox w.medium m))
+    hands m k p f live is =
+        subst (λ ms.
+        Hands deck w.medium.words (are_live (record w { nodes = view })) (λ s. []) (λ s. []) m (in_hands p ms))
+        (sym (no_box m))
+        (subst (λ (q : StarPart).
+        Hands deck w.medium.words (are_live (record w { nodes = view })) (λ s. []) (λ s. []) m (in_hands q []))
+        (same_Some (part_at m) p (sym (part_is m k (each m k f live)) ∙ is)) (record { each = tt; apart = refl }))
 
     pub whole-begun : (h : IsWhole deck (record w { nodes = view })) × ((u : ℕ) → h.out u ≡ [])
     whole-begun = (
@@ -162,7 +196,9 @@ module _ (deck : Deck) (some : 0 < deck.entries) (few : length deck.systems ≤ 
         right = right;
         later = λ s. [];
         out = λ s. [];
-        near = subst (λ ws. AreNear deck ws (lists (items w.fixed))) (sym words_are) (near-by deck some t (lists T) (table-is T) within_most);
+        near =
+            subst (λ ws. AreNear deck ws (lists (items w.fixed))) (sym words_are)
+            (near-by deck some t (lists T) (table-is T) within_most);
         system = λ s k f live. system s k (each s k f live) (inbox w.medium s) (no_box s);
         hands = hands;
       },
@@ -174,19 +210,23 @@ unfoldable all_viewed : Deck → (ℕ → List RunItem) → List NodeState → L
 all_viewed deck due [] = []
 all_viewed deck due (n ∷ ns) = viewed deck n (due 0) ∷ all_viewed deck (λ i. due (suc i)) ns
 
-viewed-count : (deck : Deck) (due : ℕ → List RunItem) (ns : List NodeState) → length (all_viewed deck due ns) ≡ length ns
+viewed-count : (deck : Deck) (due : ℕ → List RunItem) (ns : List NodeState)
+    → length (all_viewed deck due ns) ≡ length ns
 unfolding all_viewed
 viewed-count deck due [] = refl
 viewed-count deck due (n ∷ ns) = ap suc (viewed-count deck (λ i. due (suc i)) ns)
 
-viewed-at : (deck : Deck) (due : ℕ → List RunItem) (ns : List NodeState) (s : ℕ) (n : NodeState) → slice_get ns s ≡ Some n → slice_get (all_viewed deck due ns) s ≡ Some (viewed deck n (due s))
+viewed-at : (deck : Deck) (due : ℕ → List RunItem) (ns : List NodeState) (s : ℕ) (n : NodeState)
+    → slice_get ns s ≡ Some n → slice_get (all_viewed deck due ns) s ≡ Some (viewed deck n (due s))
 unfolding all_viewed
 viewed-at deck due [] s n at = absurd (cc)
 viewed-at deck due (m ∷ ns) zero n at = ap (λ (z : NodeState). Some (viewed deck z (due 0))) (same_Some m n at)
 viewed-at deck due (m ∷ ns) (suc s) n at = viewed-at deck (λ i. due (suc i)) ns s n at
 
 -- and back
-viewed-of : (deck : Deck) (due : ℕ → List RunItem) (ns : List NodeState) (s : ℕ) (k : NodeState) → slice_get (all_viewed deck due ns) s ≡ Some k → (n : NodeState) × (slice_get ns s ≡ Some n) × (k ≡ viewed deck n (due s))
+viewed-of : (deck : Deck) (due : ℕ → List RunItem) (ns : List NodeState) (s : ℕ) (k : NodeState)
+    → slice_get (all_viewed deck due ns) s ≡ Some k
+    → (n : NodeState) × (slice_get ns s ≡ Some n) × (k ≡ viewed deck n (due s))
 unfolding all_viewed
 viewed-of deck due [] s k at = absurd (cc)
 viewed-of deck due (m ∷ ns) zero k at = (m, refl, sym (same_Some (viewed deck m (due 0)) k at))
@@ -199,14 +239,28 @@ all-seen [] [] e b = refl
 all-seen [] (x ∷ xs) e b = elim b [ ]
 all-seen (y ∷ es) xs e b = absurd (cc)
 
-module _ (deck : Deck) (ring_mode : deck.star ≡ false) (some : 0 < deck.entries) (few : length deck.systems ≤ most_systems) (w : World) (ring : IsRing deck w) (right : IsHistory deck (items w.fixed)) (gone : AreTakenOut w) (before later : ℕ → List RunItem)
-    (whole : (s : ℕ) → rounds (items w.fixed) ≡ before s ++ later s) (message : GoodMessage w.medium (message_log (items w.fixed)) (seen_at before)) (systems : GoodSystems deck w before later)
-    (c : SysId) (n : NodeState) (at : slice_get w.nodes c.0 ≡ Some n) (unremoved : has w.medium.removed c.0 ≡ false) (next : next_order deck n ≡ Some orders.Star) (idle : first_number (unseen c w.medium.message.entries) ≡ None) where
+module _ (deck : Deck) (ring_mode : deck.star ≡ false) (some : 0 < deck.entries)
+    (few : length deck.systems ≤ most_systems) (w : World) (ring : IsRing deck w)
+    (right : IsHistory deck (items w.fixed)) (gone : AreTakenOut w) (before later : ℕ → List RunItem)
+    (whole : (s : ℕ) → rounds (items w.fixed) ≡ before s ++ later s)
+    (message : GoodMessage w.medium (message_log (items w.fixed)) (seen_at before))
+    (systems : GoodSystems deck w before later)
+    (c : SysId) (n : NodeState) (at : slice_get w.nodes c.0 ≡ Some n) (unremoved : has w.medium.removed c.0 ≡ false)
+    (next : next_order deck n ≡ Some orders.Star) (idle : first_number (unseen c w.medium.message.entries) ≡ None) where
   abbrev P : List RunItem
   P = items w.fixed
 
   abbrev o : Turnout
-  o = record { medium = record w.medium { star = true; words = own_words deck n; message = closed_by w.medium.message c (live w.medium); rest = awake w.medium c }; step = only (switched deck n) }
+  o = record {
+    medium =
+        record w.medium {
+          star = true;
+          words = own_words deck n;
+          message = closed_by w.medium.message c (live w.medium);
+          rest = awake w.medium c;
+        };
+    step = only (switched deck n);
+  }
 
   abbrev view : List NodeState
   view = set (all_viewed deck later w.nodes) c.0 (switched deck n)
@@ -223,16 +277,22 @@ module _ (deck : Deck) (ring_mode : deck.star ≡ false) (some : 0 < deck.entrie
 
   -- its Turn gave it all
   nothing_later : later c.0 ≡ []
-  nothing_later = all-seen (unseen c w.medium.message.entries) (later c.0) idle (given-later w.medium c before (later c.0) P (whole c.0) lives_here message)
+  nothing_later =
+      all-seen (unseen c w.medium.message.entries) (later c.0) idle
+      (given-later w.medium c before (later c.0) P (whole c.0) lives_here message)
 
   all_before : before c.0 ≡ rounds (items w.fixed)
   all_before = sym (whole c.0 ∙ (ap (λ xs. before c.0 ++ xs) nothing_later ∙ append-nil (before c.0)))
 
   seen_all : Seen deck c.0 (items w.fixed) (rounds (items w.fixed)) [] [] n
-  seen_all = subst (λ xs. Seen deck c.0 P xs [] [] n) all_before (subst (λ xs. Seen deck c.0 P (before c.0) xs (own_requests c.0 xs) n) nothing_later own_seen)
+  seen_all =
+      subst (λ xs. Seen deck c.0 P xs [] [] n) all_before
+      (subst (λ xs. Seen deck c.0 P (before c.0) xs (own_requests c.0 xs) n) nothing_later own_seen)
 
   words_are : own_words deck n ≡ table_words deck.entries (lists (rounds (items w.fixed)))
-  words_are = ap (λ (p : Option StarPart). words_by deck.entries n.shared p) (ring.alone c.0 n at) ∙ ap (table_words deck.entries) seen_all.shared
+  words_are =
+      ap (λ (p : Option StarPart). words_by deck.entries n.shared p) (ring.alone c.0 n at)
+      ∙ ap (table_words deck.entries) seen_all.shared
 
   -- it changes itself
   switched-is : switched deck n ≡ change_to_star deck (desk_told n saids.StarDone)
@@ -240,19 +300,28 @@ module _ (deck : Deck) (ring_mode : deck.star ≡ false) (some : 0 < deck.entrie
 
   own_arrives : Arrives deck c.0 (items w.fixed) (switched deck n)
   unfolding desk_told
-  own_arrives = record { from = desk_told n saids.StarDone; is = switched-is; seen = desk-seen deck c.0 P (rounds P) [] [] n saids.StarDone seen_all }
+  own_arrives = record {
+    from = desk_told n saids.StarDone;
+    is = switched-is;
+    seen = desk-seen deck c.0 P (rounds P) [] [] n saids.StarDone seen_all;
+  }
 
   -- the others wait
-  other_waits : (u : ℕ) (m : NodeState) → slice_get w.nodes u ≡ Some m → has w.medium.removed u ≡ false → Waits deck u (items w.fixed) (before u) (later u) [] m
+  other_waits : (u : ℕ) (m : NodeState) → slice_get w.nodes u ≡ Some m → has w.medium.removed u ≡ false
+      → Waits deck u (items w.fixed) (before u) (later u) [] m
   other_waits u m there live = record {
     alone = ring.alone u m there;
-    seen = subst (λ xs. Seen deck u P (before u) xs (own_requests u (later u)) m) (sym (append-nil (later u))) (systems u m there (live-there deck w ring u m there live));
+    seen =
+        subst (λ xs. Seen deck u P (before u) xs (own_requests u (later u)) m) (sym (append-nil (later u)))
+        (systems u m there (live-there deck w ring u m there live));
     away = λ t home. refl;
   }
 
-  other_arrives : (u : ℕ) (m : NodeState) → slice_get w.nodes u ≡ Some m → has w.medium.removed u ≡ false → Arrives deck u (items w.fixed) (viewed deck m (later u))
+  other_arrives : (u : ℕ) (m : NodeState) → slice_get w.nodes u ≡ Some m → has w.medium.removed u ≡ false
+      → Arrives deck u (items w.fixed) (viewed deck m (later u))
   other_arrives u m there live =
-      let all : rounds P ≡ before u ++ (later u ++ []) = whole u ∙ ap (λ xs. before u ++ xs) (sym (append-nil (later u))) in
+      let all : rounds P ≡ before u ++ (later u ++ []) =
+      whole u ∙ ap (λ xs. before u ++ xs) (sym (append-nil (later u))) in
       let read = view-read deck u P (before u) (later u) [] right all m (other_waits u m there live) in
       record {
         from = read_all m (later u);
@@ -260,23 +329,41 @@ module _ (deck : Deck) (ring_mode : deck.star ≡ false) (some : 0 < deck.entrie
         seen = subst (λ xs. Seen deck u P xs [] [] (read_all m (later u))) (sym (whole u)) read.seen;
       }
 
-  each_arrives : (s : ℕ) (k : NodeState) → slice_get view s ≡ Some k → has w.medium.removed s ≡ false → Arrives deck s (items (w.fixed ++ fixed_by c [])) k
+  each_arrives : (s : ℕ) (k : NodeState) → slice_get view s ≡ Some k → has w.medium.removed s ≡ false
+      → Arrives deck s (items (w.fixed ++ fixed_by c [])) k
   each_arrives s k f live = subst (λ U. Arrives deck s U k) (sym same)
-      (by_node (all_viewed deck later w.nodes) c.0 (viewed deck n (later c.0)) (switched deck n) (viewed-at deck later w.nodes c.0 n at) (λ u z. has w.medium.removed u ≡ false → Arrives deck u P z) (λ l. own_arrives) (λ u z ne there l. let old = viewed-of deck later w.nodes u z there in subst (Arrives deck u P) (sym old.2) (other_arrives u old.0 old.1 l)) s k f live)
+      (by_node (all_viewed deck later w.nodes) c.0 (viewed deck n (later c.0)) (switched deck n)
+      (viewed-at deck later w.nodes c.0 n at) (λ u z. has w.medium.removed u ≡ false → Arrives deck u P z)
+      (λ l. own_arrives) (λ u z ne there l. let old = viewed-of deck later w.nodes u z there in
+      subst (Arrives deck u P) (sym old.2) (other_arrives u old.0 old.1 l))
+      s k f live)
 
   count : length view ≡ length deck.systems
-  count = length-set (all_viewed deck later w.nodes) c.0 (switched deck n) ∙ (viewed-count deck later w.nodes ∙ ring.systems)
+  count =
+      length-set (all_viewed deck later w.nodes) c.0 (switched deck n)
+      ∙ (viewed-count deck later w.nodes ∙ ring.systems)
 
   -- who was removed, by the history
   gone_now : (s : SysId) → has w.medium.removed s.0 ≡ list_any (removes s) (history (items (w.fixed ++ fixed_by c [])))
-  gone_now s = gone s ∙ (sym (removes-fixed w.fixed s) ∙ (sym (ap (list_any (removes s)) (items_are_history w.fixed).0) ∙ sym (ap (λ U. list_any (removes s) (history U)) same)))
+  gone_now s =
+      gone s
+      ∙ (sym (removes-fixed w.fixed s)
+      ∙ (sym (ap (list_any (removes s)) (items_are_history w.fixed).0)
+      ∙ sym (ap (λ U. list_any (removes s) (history U)) same)))
 
   begun : (h : IsWhole deck (record (placed w c n o) { nodes = view })) × ((u : ℕ) → h.out u ≡ [])
   unfolding placed
-  begun = whole-begun deck some few (placed w c n o) (subst (IsHistory deck) (sym same) right) (words_are ∙ ap (λ U. table_words deck.entries (lists (rounds U))) (sym same)) view count each_arrives refl gone_now ring.boxes
+  begun =
+      whole-begun deck some few (placed w c n o) (subst (IsHistory deck) (sym same) right)
+      (words_are ∙ ap (λ U. table_words deck.entries (lists (rounds U))) (sym same)) view count each_arrives refl
+      gone_now ring.boxes
 
   own-told : (switched deck n).tasks.told ≡ n.tasks.told ++ lines.Desk (n.done + 1) saids.StarDone ∷ []
-  own-told = ap (λ (z : NodeState). z.tasks.told) switched-is ∙ (changed-told deck c.0 P (rounds P) [] (desk_told n saids.StarDone) (desk-seen deck c.0 P (rounds P) [] [] n saids.StarDone seen_all) (λ u ls o. refl) ∙ desk-told n saids.StarDone)
+  own-told =
+      ap (λ (z : NodeState). z.tasks.told) switched-is
+      ∙ (changed-told deck c.0 P (rounds P) [] (desk_told n saids.StarDone)
+      (desk-seen deck c.0 P (rounds P) [] [] n saids.StarDone seen_all) (λ u ls o. refl)
+      ∙ desk-told n saids.StarDone)
 
   own-done : (switched deck n).done ≡ n.done + 1
   unfolding desk_told change_to_star
@@ -298,10 +385,27 @@ module _ (deck : Deck) (ring_mode : deck.star ≡ false) (some : 0 < deck.entrie
       closed = refl;
       around = ring.around;
       count = length-set w.nodes c.0 (switched deck n) ∙ ring.systems;
-      shown = by_node w.nodes c.0 n (switched deck n) at (λ u x. has w.medium.removed u ≡ false → (j : NodeState) × (slice_get view u ≡ Some j) × Shown deck u (items (w.fixed ++ fixed_by c [])) (before u) (later u) [] (begun.0.out u) j x)
-          (λ l. (switched deck n, slice_get-set (all_viewed deck later w.nodes) c.0 (viewed deck n (later c.0)) (switched deck n) (viewed-at deck later w.nodes c.0 n at), has_changed nothing_later))
-          (λ u x ne there l. (viewed deck x (later u), slice_get-set_other (all_viewed deck later w.nodes) c.0 u (switched deck n) ne ∙ viewed-at deck later w.nodes u x there, waits_yet x (subst (λ U. Waits deck u U (before u) (later u) [] x) (sym same) (other_waits u x there l)) refl (begun.1 u)));
-      gone = by_node w.nodes c.0 n (switched deck n) at (λ u x. has w.medium.removed u ≡ true → x.star ≡ None) (λ l. no_truth (has w.medium.removed c.0) l unremoved) (λ u x ne there l. ring.alone u x there);
+      shown =
+          by_node w.nodes c.0 n (switched deck n) at (λ u x.
+          has w.medium.removed u ≡ false
+          → (j : NodeState) × (slice_get view u ≡ Some j)
+          × Shown deck u (items (w.fixed ++ fixed_by c [])) (before u) (later u) [] (begun.0.out u) j x)
+          (λ l. (
+            switched deck n,
+            slice_get-set (all_viewed deck later w.nodes) c.0 (viewed deck n (later c.0)) (switched deck n)
+                (viewed-at deck later w.nodes c.0 n at),
+            has_changed nothing_later,
+          ))
+          (λ u x ne there l. (
+            viewed deck x (later u),
+            slice_get-set_other (all_viewed deck later w.nodes) c.0 u (switched deck n) ne
+                ∙ viewed-at deck later w.nodes u x there,
+            waits_yet x (subst (λ U. Waits deck u U (before u) (later u) [] x) (sym same) (other_waits u x there l))
+                refl (begun.1 u),
+          ));
+      gone =
+          by_node w.nodes c.0 n (switched deck n) at (λ u x. has w.medium.removed u ≡ true → x.star ≡ None)
+          (λ l. no_truth (has w.medium.removed c.0) l unremoved) (λ u x ne there l. ring.alone u x there);
     };
     news = tells_done next own-told own-done ring_mode ring.mode refl;
   }

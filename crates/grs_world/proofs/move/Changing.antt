@@ -1,6 +1,8 @@
--- The complex from the change of the medium on. A system that hasn't changed yet is shown as if it had: it has processed what
--- it was given of the message, and its table is its part. By what is shown the world is one in star mode.
-use Rattle.std.proofs.Common.{◌≡◌, [], ◌++◌, Bool, List, None, Some, ap, append-nil, append_assoc, cond, false, length, refl, set, subst, sym, true, ℕ, ◌∙◌, ◌∷◌, ◌≢◌}
+-- The complex from the change of the medium on. A system that hasn't changed yet is shown as if it had: it has
+-- processed what it was given of the message, and its table is its part. By what is shown the world is one in star
+-- mode.
+use Rattle.std.proofs.Common.{◌≡◌, [], ◌++◌, Bool, List, None, Some, ap, append-nil, append_assoc, cond, false, length}
+use Rattle.std.proofs.Common.{refl, set, subst, sym, true, ℕ, ◌∙◌, ◌∷◌, ◌≢◌}
 use Rattle.std.proofs.lemmas.List.Elements.{filter-append}
 use Rattle.std.proofs.lemmas.List.{length-set}
 use Rattle.std.specs.Prelude.{slice_get}
@@ -38,8 +40,8 @@ use Rattle.grs_base.specs.Same.{same_task}
 use Rattle.grs_base.proofs.SameLaws.{same_task-exact, same_task-itself}
 use Rattle.grs_medium.specs.Medium.{live}
 
--- System s hasn't changed. Of what went with the message it has processed `before` and has still to process `due`; of what
--- was fixed since the message is closed nothing is of its tasks.
+-- System s hasn't changed. Of what went with the message it has processed `before` and has still to process `due`; of
+-- what was fixed since the message is closed nothing is of its tasks.
 pub record Waits (deck : Deck) (s : ℕ) (T before due since : List RunItem) (n : NodeState) : Type 0 where
   pub alone : n.star ≡ None
   pub seen : Seen deck s T before (due ++ since) (own_requests s due) n
@@ -50,9 +52,11 @@ abbrev pub viewed : Deck → NodeState → List RunItem → NodeState
 viewed deck n due = change_to_star deck (read_all n due)
 
 -- A system shows itself once it has changed; before that its tasks have sent nothing.
-pub data Shown (deck : Deck) (s : ℕ) (T before due since : List RunItem) (out : List Req) (k : NodeState) : NodeState → Type 0 where
+pub data Shown (deck : Deck) (s : ℕ) (T before due since : List RunItem) (out : List Req) (k : NodeState) : NodeState
+    → Type 0 where
   has_changed : due ≡ [] → Shown deck s T before due since out k k
-  waits_yet : (n : NodeState) → Waits deck s T before due since n → k ≡ viewed deck n due → out ≡ [] → Shown deck s T before due since out k n
+  waits_yet : (n : NodeState) → Waits deck s T before due since n → k ≡ viewed deck n due → out ≡ []
+      → Shown deck s T before due since out k n
 
 -- What holds of the world then.
 pub record IsChanging (deck : Deck) (w : World) : Type 0 where
@@ -69,12 +73,17 @@ pub record IsChanging (deck : Deck) (w : World) : Type 0 where
   pub closed : w.medium.message.closed ≡ true
   pub around : w.medium.message.systems ≡ length deck.systems
   pub count : length w.nodes ≡ length deck.systems
-  pub shown : (s : ℕ) (n : NodeState) → slice_get w.nodes s ≡ Some n → has w.medium.removed s ≡ false → (k : NodeState) × (slice_get view s ≡ Some k) × Shown deck s (items w.fixed) (before s) (due s) since (whole.out s) k n
+  pub shown : (s : ℕ) (n : NodeState) → slice_get w.nodes s ≡ Some n → has w.medium.removed s ≡ false
+      → (k : NodeState) × (slice_get view s ≡ Some k)
+      × Shown deck s (items w.fixed) (before s) (due s) since (whole.out s) k n
   -- who was removed never changes
   pub gone : (s : ℕ) (n : NodeState) → slice_get w.nodes s ≡ Some n → has w.medium.removed s ≡ true → n.star ≡ None
 
 -- ---- a system that has sent nothing has nothing to come
-pub nothing-late : (deck : Deck) (words : List ℕ) (T : List RunItem) (s : ℕ) (n : NodeState) (ms : List Mail) (later : List RunItem) (out : List Req) → IsSystem deck words T s n ms later out → out ≡ [] → later ≡ []
+pub nothing-late :
+    (deck : Deck) (words : List ℕ) (T : List RunItem) (s : ℕ) (n : NodeState) (ms : List Mail) (later : List RunItem)
+    (out : List Req)
+    → IsSystem deck words T s n ms later out → out ≡ [] → later ≡ []
 nothing-late deck words T s n ms [] out h none = refl
 nothing-late deck words T s n ms (x ∷ xs) out h none =
     let t : TaskId = h.late.0.req.task in
@@ -83,7 +92,8 @@ nothing-late deck words T s n ms (x ∷ xs) out h none =
     absurd (let e : x ∷ mine t xs ≡ [] = sym (filter-cons_kept (λ z. is_of t z.fixed) x xs own) ∙ gone in cc)
 
 -- ---- a system that hasn't changed, once it has processed what is due
-module _ (deck : Deck) (s : ℕ) (T before due since : List RunItem) (right : IsHistory deck T) (whole : rounds T ≡ before ++ (due ++ since)) (n : NodeState) (h : Waits deck s T before due since n) where
+module _ (deck : Deck) (s : ℕ) (T before due since : List RunItem) (right : IsHistory deck T)
+    (whole : rounds T ≡ before ++ (due ++ since)) (n : NodeState) (h : Waits deck s T before due since n) where
   pub view-read : ReadTo deck s T right since (before ++ due) n (read_all n due)
   view-read = reading deck s T right since due before n whole h.seen
 
@@ -97,9 +107,11 @@ module _ (deck : Deck) (s : ℕ) (T before due since : List RunItem) (right : Is
   view-told = changed-told deck s T (before ++ due) since (read_all n due) view-read.seen view-away
 
   -- its part is that of the table of all that went with the message
-  pub view-star : (viewed deck n due).star ≡ Some (part_by_table deck.entries (record { 0 = s }) (lists (before ++ due)))
+  pub view-star : (viewed deck n due).star
+      ≡ Some (part_by_table deck.entries (record { 0 = s }) (lists (before ++ due)))
   view-star = star-changed deck (read_all n due)
-      ∙ (ap (λ (i : ℕ). Some (part_by_table deck.entries (record { 0 = i }) (read_all n due).shared)) view-read.seen.good.system
+      ∙ (ap (λ (i : ℕ). Some (part_by_table deck.entries (record { 0 = i }) (read_all n due).shared))
+      view-read.seen.good.system
       ∙ ap (λ t. Some (part_by_table deck.entries (record { 0 = s }) t)) view-read.seen.shared)
 
   -- what it will tell then agrees with the history
@@ -110,10 +122,12 @@ module _ (deck : Deck) (s : ℕ) (T before due since : List RunItem) (right : Is
 pub record Fresh (deck : Deck) (c : ℕ) (out : ℕ → List Req) (T T' : List RunItem) : Type 0 where
   pub new : List RunItem
   pub is : rounds T' ≡ rounds T ++ rounds new
-  pub seen : (u : ℕ) → u ≢ c → out u ≡ [] → (before later : List RunItem) (o : List Req) (n : NodeState) → Seen deck u T before later o n → Seen deck u T' before (later ++ rounds new) o n
+  pub seen : (u : ℕ) → u ≢ c → out u ≡ [] → (before later : List RunItem) (o : List Req) (n : NodeState)
+      → Seen deck u T before later o n → Seen deck u T' before (later ++ rounds new) o n
   pub away : (u : ℕ) → u ≢ c → out u ≡ [] → (t : TaskId) → t.system.0 ≡ u → mine t (rounds new) ≡ []
 
-pub fresh : (deck : Deck) (c : ℕ) (out : ℕ → List Req) (T T' : List RunItem) → Fixes deck c out T T' → Fresh deck c out T T'
+pub fresh : (deck : Deck) (c : ℕ) (out : ℕ → List Req) (T T' : List RunItem) → Fixes deck c out T T'
+    → Fresh deck c out T T'
 fresh deck c out T T' none_fixed = record {
   new = [];
   is = sym (append-nil (rounds T));
@@ -128,14 +142,19 @@ fresh deck c out T T' (one_fixed x a far) = record {
 }
   where
     apart : (u : ℕ) → u ≢ c → out u ≡ [] → (t : TaskId) → t.system.0 ≡ u → is_of t x.fixed ≡ false
-    apart u ne empty t home = ap (is_of t) a.asked ∙ false_by (same_task t a.req.task) (λ e. absurd (far u ne empty (ap (λ (z : TaskId). z.system.0) (sym (same_task-exact t a.req.task e)) ∙ home)))
+    apart u ne empty t home =
+        ap (is_of t) a.asked
+        ∙ false_by (same_task t a.req.task)
+        (λ e. absurd (far u ne empty (ap (λ (z : TaskId). z.system.0) (sym (same_task-exact t a.req.task e)) ∙ home)))
 
     none : (t : TaskId) (b : Bool) → is_of t x.fixed ≡ false → mine t (cond b (x ∷ []) []) ≡ []
     none t true e = filter-cons_left (λ z. is_of t z.fixed) x [] e
     none t false e = refl
 
 -- ---- the world after an event of system c, where k is shown of it then
-module _ (deck : Deck) (w : World) (g : IsChanging deck w) (c : SysId) (n : NodeState) (at : slice_get w.nodes c.0 ≡ Some n) (unremoved : has w.medium.removed c.0 ≡ false) (o : Turnout) (k : NodeState) where
+module _ (deck : Deck) (w : World) (g : IsChanging deck w) (c : SysId) (n : NodeState)
+    (at : slice_get w.nodes c.0 ≡ Some n) (unremoved : has w.medium.removed c.0 ≡ false) (o : Turnout)
+    (k : NodeState) where
   abbrev after : World
   after = record (placed w c n o) { nodes = set g.view c.0 k }
 
@@ -145,20 +164,33 @@ module _ (deck : Deck) (w : World) (g : IsChanging deck w) (c : SysId) (n : Node
   abbrev T' : List RunItem
   T' = items (w.fixed ++ fixed_by c o.step.fixed)
 
-  others-shown : (whole : IsWhole deck after) → ((u : ℕ) → u ≢ c.0 → whole.out u ≡ g.whole.out u) → (f : Fresh deck c.0 g.whole.out T T') → (u : ℕ) (m : NodeState) → u ≢ c.0 → slice_get w.nodes u ≡ Some m → has w.medium.removed u ≡ false →
-      (j : NodeState) × (slice_get (set g.view c.0 k) u ≡ Some j) × Shown deck u T' (g.before u) (g.due u) (g.since ++ rounds f.new) (whole.out u) j m
-  others-shown whole sent f u m ne there live = let old = g.shown u m there live in (old.0, slice_get-set_other g.view c.0 u k ne ∙ old.1, by_shown old.0 m old.2)
+  others-shown : (whole : IsWhole deck after) → ((u : ℕ) → u ≢ c.0 → whole.out u ≡ g.whole.out u)
+      → (f : Fresh deck c.0 g.whole.out T T') → (u : ℕ) (m : NodeState) → u ≢ c.0 → slice_get w.nodes u ≡ Some m
+      → has w.medium.removed u ≡ false →
+      (j : NodeState) × (slice_get (set g.view c.0 k) u ≡ Some j)
+      × Shown deck u T' (g.before u) (g.due u) (g.since ++ rounds f.new) (whole.out u) j m
+  others-shown whole sent f u m ne there live =
+      let old = g.shown u m there live in (old.0, slice_get-set_other g.view c.0 u k ne ∙ old.1, by_shown old.0 m old.2)
     where
-      by_shown : (j m : NodeState) → Shown deck u T (g.before u) (g.due u) g.since (g.whole.out u) j m → Shown deck u T' (g.before u) (g.due u) (g.since ++ rounds f.new) (whole.out u) j m
+      by_shown : (j m : NodeState) → Shown deck u T (g.before u) (g.due u) g.since (g.whole.out u) j m
+          → Shown deck u T' (g.before u) (g.due u) (g.since ++ rounds f.new) (whole.out u) j m
       by_shown j m (has_changed none) = has_changed none
       by_shown j m (waits_yet y h is empty) = waits_yet y (record {
         alone = h.alone;
-        seen = subst (λ xs. Seen deck u T' (g.before u) xs (own_requests u (g.due u)) y) (append_assoc (g.due u) g.since (rounds f.new)) (f.seen u ne empty (g.before u) (g.due u ++ g.since) (own_requests u (g.due u)) y h.seen);
-        away = λ t home. filter-append (λ z. is_of t z.fixed) g.since (rounds f.new) ∙ (ap (λ xs. xs ++ mine t (rounds f.new)) (h.away t home) ∙ f.away u ne empty t home);
+        seen =
+            subst (λ xs. Seen deck u T' (g.before u) xs (own_requests u (g.due u)) y)
+            (append_assoc (g.due u) g.since (rounds f.new))
+            (f.seen u ne empty (g.before u) (g.due u ++ g.since) (own_requests u (g.due u)) y h.seen);
+        away = λ t home.
+            filter-append (λ z. is_of t z.fixed) g.since (rounds f.new)
+            ∙ (ap (λ xs. xs ++ mine t (rounds f.new)) (h.away t home) ∙ f.away u ne empty t home);
       }) is (sent u ne ∙ empty)
 
-  pub moved : (whole : IsWhole deck after) → ((u : ℕ) → u ≢ c.0 → whole.out u ≡ g.whole.out u) → (f : Fresh deck c.0 g.whole.out T T') → o.medium.message ≡ w.medium.message → o.medium.removed ≡ w.medium.removed →
-      Shown deck c.0 T' (g.before c.0) (g.due c.0) (g.since ++ rounds f.new) (whole.out c.0) k o.step.node → IsChanging deck (placed w c n o)
+  pub moved : (whole : IsWhole deck after) → ((u : ℕ) → u ≢ c.0 → whole.out u ≡ g.whole.out u)
+      → (f : Fresh deck c.0 g.whole.out T T') → o.medium.message ≡ w.medium.message
+      → o.medium.removed ≡ w.medium.removed →
+      Shown deck c.0 T' (g.before c.0) (g.due c.0) (g.since ++ rounds f.new) (whole.out c.0) k o.step.node
+      → IsChanging deck (placed w c n o)
   unfolding placed
   moved whole sent f message removed own = record {
     view = set g.view c.0 k;
@@ -169,20 +201,32 @@ module _ (deck : Deck) (w : World) (g : IsChanging deck w) (c : SysId) (n : Node
     before = g.before;
     due = g.due;
     parts = g.parts;
-    message = message-kept w.medium o.medium (fixeds g.log) (seen_at g.before) (ap (λ (z : Message). z.entries) message) (ap (λ (z : Message). z.next) message) alive g.message;
+    message =
+        message-kept w.medium o.medium (fixeds g.log) (seen_at g.before) (ap (λ (z : Message). z.entries) message)
+        (ap (λ (z : Message). z.next) message) alive g.message;
     closed = ap (λ (z : Message). z.closed) message ∙ g.closed;
     around = ap (λ (z : Message). z.systems) message ∙ g.around;
     count = length-set w.nodes c.0 o.step.node ∙ g.count;
-    shown = by_node w.nodes c.0 n o.step.node at (λ u m. has o.medium.removed u ≡ false → (j : NodeState) × (slice_get (set g.view c.0 k) u ≡ Some j) × Shown deck u T' (g.before u) (g.due u) (g.since ++ rounds f.new) (whole.out u) j m)
-        (λ l. (k, slice_get-set g.view c.0 (g.shown c.0 n at unremoved).0 k (g.shown c.0 n at unremoved).1, own)) (λ u m ne there l. others-shown whole sent f u m ne there (sym (ap (λ i. has i u) removed) ∙ l));
+    shown =
+        by_node w.nodes c.0 n o.step.node at (λ u m.
+        has o.medium.removed u ≡ false
+        → (j : NodeState) × (slice_get (set g.view c.0 k) u ≡ Some j)
+        × Shown deck u T' (g.before u) (g.due u) (g.since ++ rounds f.new) (whole.out u) j m)
+        (λ l. (k, slice_get-set g.view c.0 (g.shown c.0 n at unremoved).0 k (g.shown c.0 n at unremoved).1, own))
+        (λ u m ne there l. others-shown whole sent f u m ne there (sym (ap (λ i. has i u) removed) ∙ l));
     gone = by_node w.nodes c.0 n o.step.node at (λ u m. has o.medium.removed u ≡ true → m.star ≡ None)
-        (λ l. no_truth (has w.medium.removed c.0) (sym (ap (λ i. has i c.0) removed) ∙ l) unremoved) (λ u m ne there l. g.gone u m there (sym (ap (λ i. has i u) removed) ∙ l));
+        (λ l. no_truth (has w.medium.removed c.0) (sym (ap (λ i. has i c.0) removed) ∙ l) unremoved)
+        (λ u m ne there l. g.gone u m there (sym (ap (λ i. has i u) removed) ∙ l));
   }
     where
       alive : live o.medium ≡ live w.medium
-      alive = ap (λ i. others i o.medium.removed) (ap (λ (z : Message). z.systems) message) ∙ ap (others w.medium.message.systems) removed
+      alive =
+          ap (λ i. others i o.medium.removed) (ap (λ (z : Message). z.systems) message)
+          ∙ ap (others w.medium.message.systems) removed
 
 -- What an event comes to: the complex goes on to change, and what is told agrees.
 pub record IsMoved (deck : Deck) (w : World) (c : SysId) (n : NodeState) (o : Turnout) : Type 0 where
   pub changing : IsChanging deck (placed w c n o)
-  pub news : EventTells deck c (history (items (w.fixed ++ fixed_by c o.step.fixed))) o.step.fixed n o.step.node w.medium.star o.medium.star
+  pub news :
+      EventTells deck c (history (items (w.fixed ++ fixed_by c o.step.fixed))) o.step.fixed n o.step.node w.medium.star
+      o.medium.star

@@ -17,10 +17,17 @@ use Rattle.grs_world.specs.Decks.{is_star_order, may_be_star, orders_star}
 pub order-may : (deck : Deck) (n : NodeState) → next_order deck n ≡ Some orders.Star → may_be_star deck ≡ true
 order-may deck n next = by_system (slice_get deck.systems n.tasks.system) refl next
   where
-    by_line : (d : SystemDef) → (o : Option Desk) → slice_get d.desk n.done ≡ o → option_map (λ (c : Desk). c.order) o ≡ Some orders.Star → orders_star d.desk ≡ true
+    by_line : (d : SystemDef) → (o : Option Desk) → slice_get d.desk n.done ≡ o
+        → option_map (λ (c : Desk). c.order) o ≡ Some orders.Star → orders_star d.desk ≡ true
     by_line d None at is = absurd (cc)
-    by_line d (Some l) at is = any_passes_from_place (λ (c : Desk). is_star_order c.order) d.desk n.done l at (ap is_star_order (same_Some l.order orders.Star is))
+    by_line d (Some l) at is =
+        any_passes_from_place (λ (c : Desk). is_star_order c.order) d.desk n.done l at
+        (ap is_star_order (same_Some l.order orders.Star is))
 
-    by_system : (o : Option SystemDef) → slice_get deck.systems n.tasks.system ≡ o → option_map (λ (c : Desk). c.order) (slice_get (desk_of o) n.done) ≡ Some orders.Star → may_be_star deck ≡ true
+    by_system : (o : Option SystemDef) → slice_get deck.systems n.tasks.system ≡ o
+        → option_map (λ (c : Desk). c.order) (slice_get (desk_of o) n.done) ≡ Some orders.Star → may_be_star deck ≡ true
     by_system None at is = absurd (cc)
-    by_system (Some d) at is = or_right deck.star (list_any (λ s. orders_star s.desk) deck.systems) (any_passes_from_place (λ (s : SystemDef). orders_star s.desk) deck.systems n.tasks.system d at (by_line d (slice_get d.desk n.done) refl is))
+    by_system (Some d) at is =
+        or_right deck.star (list_any (λ s. orders_star s.desk) deck.systems)
+        (any_passes_from_place (λ (s : SystemDef). orders_star s.desk) deck.systems n.tasks.system d at
+        (by_line d (slice_get d.desk n.done) refl is))

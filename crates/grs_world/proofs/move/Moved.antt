@@ -34,7 +34,11 @@ changing-counted deck w g = record {
   closed = g.closed;
   around = g.around;
   count = g.count;
-  shown = λ s n at l. let old = g.shown s n at l in (old.0, old.1, subst (λ out. Shown deck s (items w.fixed) (g.before s) (g.due s) g.since out old.0 n) (sym (still.1 s)) old.2);
+  shown = λ s n at l. let old = g.shown s n at l in (
+    old.0,
+    old.1,
+    subst (λ out. Shown deck s (items w.fixed) (g.before s) (g.due s) g.since out old.0 n) (sym (still.1 s)) old.2,
+  );
   gone = g.gone;
 }
   where
@@ -42,16 +46,25 @@ changing-counted deck w g = record {
     still = whole-counted deck (record w { nodes = g.view }) g.whole
 
 -- a system of the deck that wasn't removed is live
-pub alive : (deck : Deck) (w : World) (g : IsChanging deck w) (c : SysId) (n : NodeState) → slice_get w.nodes c.0 ≡ Some n → has w.medium.removed c.0 ≡ false → has (live w.medium) c.0 ≡ true
+pub alive : (deck : Deck) (w : World) (g : IsChanging deck w) (c : SysId) (n : NodeState)
+    → slice_get w.nodes c.0 ≡ Some n → has w.medium.removed c.0 ≡ false → has (live w.medium) c.0 ≡ true
 alive deck w g c n at unremoved =
     let here = slice_get_within w.nodes c.0 n at in
-    let below : nat_lt c.0 w.medium.message.systems ≡ true = lt-ltb c.0 w.medium.message.systems (omega (arith, here, g.count, g.around)) in
+    let below : nat_lt c.0 w.medium.message.systems ≡ true =
+    lt-ltb c.0 w.medium.message.systems (omega (arith, here, g.count, g.around)) in
     has-live w.medium.message.systems w.medium.removed c.0 ∙ rw (below, unremoved) refl
 
-module _ (deck : Deck) (some : 0 < deck.entries) (w : World) (g : IsChanging deck w) (c : SysId) (inside : c.0 < most_systems) (n : NodeState) (at : slice_get w.nodes c.0 ≡ Some n) (unremoved : has w.medium.removed c.0 ≡ false) (choice : Choice) where
+module _ (deck : Deck) (some : 0 < deck.entries) (w : World) (g : IsChanging deck w) (c : SysId)
+    (inside : c.0 < most_systems) (n : NodeState) (at : slice_get w.nodes c.0 ≡ Some n)
+    (unremoved : has w.medium.removed c.0 ≡ false) (choice : Choice) where
   pub event-moved : IsMoved deck w c n (chosen deck w.medium c n choice)
-  event-moved = by_shown (g.shown c.0 n at unremoved).0 n at (g.shown c.0 n at unremoved).1 (g.shown c.0 n at unremoved).2
+  event-moved =
+      by_shown (g.shown c.0 n at unremoved).0 n at (g.shown c.0 n at unremoved).1 (g.shown c.0 n at unremoved).2
     where
-      by_shown : (k m : NodeState) → slice_get w.nodes c.0 ≡ Some m → slice_get g.view c.0 ≡ Some k → Shown deck c.0 (items w.fixed) (g.before c.0) (g.due c.0) g.since (g.whole.out c.0) k m → IsMoved deck w c m (chosen deck w.medium c m choice)
+      by_shown : (k m : NodeState) → slice_get w.nodes c.0 ≡ Some m → slice_get g.view c.0 ≡ Some k
+          → Shown deck c.0 (items w.fixed) (g.before c.0) (g.due c.0) g.since (g.whole.out c.0) k m
+          → IsMoved deck w c m (chosen deck w.medium c m choice)
       by_shown k m here there (has_changed none) = star-moved deck some w g c inside k here unremoved there none choice
-      by_shown k m here there (waits_yet x h is empty) = waits-moved deck w g c x here unremoved k there h is empty (alive deck w g c x here unremoved) (chosen deck w.medium c x choice) (came_late deck w g.whole.roles.mode g.closed c x h.alone unremoved choice)
+      by_shown k m here there (waits_yet x h is empty) =
+          waits-moved deck w g c x here unremoved k there h is empty (alive deck w g c x here unremoved)
+          (chosen deck w.medium c x choice) (came_late deck w g.whole.roles.mode g.closed c x h.alone unremoved choice)

@@ -1,6 +1,7 @@
--- In star mode the lock words go with the systems, whether they have changed or not; and each that has changed keeps well what
--- it manages.
-use Rattle.std.proofs.Common.{◌≡◌, ◌&&◌, Bool, List, None, Option, Some, ap, arith, false, length, refl, subst, sym, true, ◌∙◌, ℕ, ◌++◌}
+-- In star mode the lock words go with the systems, whether they have changed or not; and each that has changed keeps
+-- well what it manages.
+use Rattle.std.proofs.Common.{◌≡◌, ◌&&◌, Bool, List, None, Option, Some, ap, arith, false, length, refl, subst, sym}
+use Rattle.std.proofs.Common.{true, ◌∙◌, ℕ, ◌++◌}
 use Rattle.std.specs.Prelude.{slice_get}
 use Rattle.std.proofs.lemmas.Option.{same_Some, slice_get_within}
 use Rattle.grs_base.specs.declared.resource.SysId.{SysId}
@@ -30,22 +31,34 @@ use Rattle.lock_structure.specs.Words.{word_at}
 
 module _ (deck : Deck) (w : World) (g : IsChanging deck w) where
   -- a system's part is the one that is shown
-  part-shown : (s : SysId) (n k : NodeState) → slice_get w.nodes s.0 ≡ Some n → (there : slice_get g.view s.0 ≡ Some k) (unremoved : has w.medium.removed s.0 ≡ false) → Shown deck s.0 (items w.fixed) (g.before s.0) (g.due s.0) g.since (g.whole.out s.0) k n →
+  part-shown : (s : SysId) (n k : NodeState) → slice_get w.nodes s.0 ≡ Some n
+      → (there : slice_get g.view s.0 ≡ Some k) (unremoved : has w.medium.removed s.0 ≡ false)
+      → Shown deck s.0 (items w.fixed) (g.before s.0) (g.due s.0) g.since (g.whole.out s.0) k n →
       part_at deck w s n n.star ≡ (g.whole.roles.node s.0 k there unremoved).part
-  part-shown s n k at there unremoved (has_changed none) = ap (part_at deck w s k) (g.whole.roles.node s.0 k there unremoved).star
+  part-shown s n k at there unremoved (has_changed none) =
+      ap (part_at deck w s k) (g.whole.roles.node s.0 k there unremoved).star
   part-shown s n k at there unremoved (waits_yet z h is empty) =
-      let whole : rounds (items w.fixed) ≡ g.before s.0 ++ (g.due s.0 ++ g.since) = whole_now deck w g s z at unremoved k there h is empty in
-      let now : part_at deck w s z z.star ≡ part_by_table deck.entries s (lists (g.before s.0 ++ g.due s.0)) = ap (part_at deck w s z) h.alone
-      ∙ (ap (λ (m : NodeState). part_by_table deck.entries s m.shared) (reads deck w g s z at unremoved k there h is empty (alive deck w g s z at unremoved))
-      ∙ ap (part_by_table deck.entries s) (view-read deck s.0 (items w.fixed) (g.before s.0) (g.due s.0) g.since g.whole.right whole z h).seen.shared) in
-      now ∙ same_Some (part_by_table deck.entries s (lists (g.before s.0 ++ g.due s.0))) (g.whole.roles.node s.0 k there unremoved).part
-      (sym (ap (λ (m : NodeState). m.star) is ∙ view-star deck s.0 (items w.fixed) (g.before s.0) (g.due s.0) g.since g.whole.right whole z h) ∙ (g.whole.roles.node s.0 k there unremoved).star)
+      let whole : rounds (items w.fixed) ≡ g.before s.0 ++ (g.due s.0 ++ g.since) =
+      whole_now deck w g s z at unremoved k there h is empty in
+      let now : part_at deck w s z z.star ≡ part_by_table deck.entries s (lists (g.before s.0 ++ g.due s.0)) =
+      ap (part_at deck w s z) h.alone
+      ∙ (ap (λ (m : NodeState). part_by_table deck.entries s m.shared)
+      (reads deck w g s z at unremoved k there h is empty (alive deck w g s z at unremoved))
+      ∙ ap (part_by_table deck.entries s)
+      (view-read deck s.0 (items w.fixed) (g.before s.0) (g.due s.0) g.since g.whole.right whole z h).seen.shared) in
+      now
+      ∙ same_Some (part_by_table deck.entries s (lists (g.before s.0 ++ g.due s.0)))
+      (g.whole.roles.node s.0 k there unremoved).part
+      (sym (ap (λ (m : NodeState). m.star) is
+      ∙ view-star deck s.0 (items w.fixed) (g.before s.0) (g.due s.0) g.since g.whole.right whole z h)
+      ∙ (g.whole.roles.node s.0 k there unremoved).star)
 
   -- who isn't live has no interest and manages nothing
   none-there : (s : ℕ) → is_live w (record { 0 = s }) ≡ false → lives (length g.view) w.medium.removed s ≡ false
   none-there s out = ap (λ i. lives i w.medium.removed s) (g.whole.roles.systems ∙ sym g.count) ∙ out
 
-  word_interest : (e : ℕ) (s : SysId) (b : Bool) → is_live w s ≡ b → (o : Option NodeState) → slice_get w.nodes s.0 ≡ o → is_interested w.medium.words e s.0 ≡ (b && interest_at deck w s o e)
+  word_interest : (e : ℕ) (s : SysId) (b : Bool) → is_live w s ≡ b → (o : Option NodeState) → slice_get w.nodes s.0 ≡ o
+      → is_interested w.medium.words e s.0 ≡ (b && interest_at deck w s o e)
   word_interest e s false out o at = (g.whole.roles.nobody e s.0 (none-there s.0 out)).0
   word_interest e s true there None at =
       let past = slice_get-past w.nodes s.0 at in
@@ -54,9 +67,11 @@ module _ (deck : Deck) (w : World) (g : IsChanging deck w) where
   word_interest e s true there (Some n) at =
       let unremoved = (live-below w s.0 there).1 in
       let old = g.shown s.0 n at unremoved in
-      sym (ap (λ p. has_interest p e) (part-shown s n old.0 at old.1 unremoved old.2) ∙ (g.whole.roles.node s.0 old.0 old.1 unremoved).fits.interest e)
+      sym (ap (λ p. has_interest p e) (part-shown s n old.0 at old.1 unremoved old.2)
+      ∙ (g.whole.roles.node s.0 old.0 old.1 unremoved).fits.interest e)
 
-  word_manages : (e : ℕ) (s : SysId) (b : Bool) → is_live w s ≡ b → (o : Option NodeState) → slice_get w.nodes s.0 ≡ o → (b && manages_at deck w s o e) ≡ has_manager w.medium.words e s.0
+  word_manages : (e : ℕ) (s : SysId) (b : Bool) → is_live w s ≡ b → (o : Option NodeState) → slice_get w.nodes s.0 ≡ o
+      → (b && manages_at deck w s o e) ≡ has_manager w.medium.words e s.0
   word_manages e s false out o at = sym (g.whole.roles.nobody e s.0 (none-there s.0 out)).1
   word_manages e s true there None at =
       let past = slice_get-past w.nodes s.0 at in
@@ -65,32 +80,41 @@ module _ (deck : Deck) (w : World) (g : IsChanging deck w) where
   word_manages e s true there (Some n) at =
       let unremoved = (live-below w s.0 there).1 in
       let old = g.shown s.0 n at unremoved in
-      ap (λ p. manages p e) (part-shown s n old.0 at old.1 unremoved old.2) ∙ (g.whole.roles.node s.0 old.0 old.1 unremoved).fits.roles e
+      ap (λ p. manages p e) (part-shown s n old.0 at old.1 unremoved old.2)
+      ∙ (g.whole.roles.node s.0 old.0 old.1 unremoved).fits.roles e
 
   word_managed : (e : ℕ) (o : Option ℕ) → slice_get w.medium.words e ≡ o → IsManaged (word_at w.medium.words e)
   word_managed e (Some x) h = g.whole.roles.managed e 0 (slice_get_within w.medium.words e x h)
-  word_managed e None h = subst IsManaged (sym (word_past w.medium.words e (slice_get-past w.medium.words e h))) empty_is_managed
+  word_managed e None h =
+      subst IsManaged (sym (word_past w.medium.words e (slice_get-past w.medium.words e h))) empty_is_managed
 
   -- who has changed is as it is shown
-  kept_well : (s : ℕ) (n k : NodeState) (p : StarPart) → slice_get g.view s ≡ Some k → has w.medium.removed s ≡ false → n.star ≡ Some p → Shown deck s (items w.fixed) (g.before s) (g.due s) g.since (g.whole.out s) k n → IsKeptBy s p
+  kept_well : (s : ℕ) (n k : NodeState) (p : StarPart) → slice_get g.view s ≡ Some k → has w.medium.removed s ≡ false
+      → n.star ≡ Some p → Shown deck s (items w.fixed) (g.before s) (g.due s) g.since (g.whole.out s) k n → IsKeptBy s p
   kept_well s n k p there unremoved is (has_changed none) =
       let me = g.whole.roles.node s k there unremoved in
       subst (IsKeptBy s) (same_Some me.part p (sym me.star ∙ is)) (record { home = me.fits.home; well = me.fits.well })
-  kept_well s n k p there unremoved is (waits_yet z h shows empty) = absurd (let e : None ≡ Some p = sym h.alone ∙ is in cc)
+  kept_well s n k p there unremoved is (waits_yet z h shows empty) =
+      absurd (let e : None ≡ Some p = sym h.alone ∙ is in cc)
 
 -- ---- after every list of events
-pub every_word : (deck : Deck) → (may_be_star deck ≡ true → FitsStar deck) → (es : List Event) → (run deck es).medium.star ≡ true → WordsGoWithSystems deck es
+pub every_word : (deck : Deck) → (may_be_star deck ≡ true → FitsStar deck) → (es : List Event)
+    → (run deck es).medium.star ≡ true → WordsGoWithSystems deck es
 every_word deck fits es mode = by_run (every_run deck fits es)
   where
     by_run : GoodRun deck es (run deck es) → WordsGoWithSystems deck es
     by_run (in_ring begins ring g d) = absurd (let e : false ≡ true = sym ring.mode ∙ mode in cc)
     by_run (in_star f g told d) = record {
-      interest = λ e s. word_interest deck (run deck es) g e s (is_live (run deck es) s) refl (slice_get (run deck es).nodes s.0) refl;
-      manages = λ e s. word_manages deck (run deck es) g e s (is_live (run deck es) s) refl (slice_get (run deck es).nodes s.0) refl;
+      interest = λ e s.
+          word_interest deck (run deck es) g e s (is_live (run deck es) s) refl (slice_get (run deck es).nodes s.0)
+          refl;
+      manages = λ e s.
+          word_manages deck (run deck es) g e s (is_live (run deck es) s) refl (slice_get (run deck es).nodes s.0) refl;
       managed = λ e. word_managed deck (run deck es) g e (slice_get (run deck es).medium.words e) refl;
     }
 
-pub every_part : (deck : Deck) → (may_be_star deck ≡ true → FitsStar deck) → (es : List Event) → ManagersKeepWell deck es
+pub every_part : (deck : Deck) → (may_be_star deck ≡ true → FitsStar deck) → (es : List Event)
+    → ManagersKeepWell deck es
 every_part deck fits es s n p at is = by_run (every_run deck fits es)
   where
     by_run : GoodRun deck es (run deck es) → IsKeptBy s p
@@ -99,4 +123,5 @@ every_part deck fits es s n p at is = by_run (every_run deck fits es)
       where
         by_live : (b : Bool) → has (run deck es).medium.removed s ≡ b → IsKeptBy s p
         by_live true out = absurd (let e : None ≡ Some p = sym (g.gone s n at out) ∙ is in cc)
-        by_live false live = let old = g.shown s n at live in kept_well deck (run deck es) g s n old.0 p old.1 live is old.2
+        by_live false live =
+            let old = g.shown s n at live in kept_well deck (run deck es) g s n old.0 p old.1 live is old.2

@@ -1,5 +1,6 @@
 -- Every run is sound, in either mode and where it changes from ring to star mode.
-use Rattle.std.proofs.Common.{◌≡◌, ◌<◌, ◌++◌, [], ◌∷◌, Bool, List, Some, ap, arith, false, not, refl, true, ℕ, cond, length}
+use Rattle.std.proofs.Common.{◌≡◌, ◌<◌, ◌++◌, [], ◌∷◌, Bool, List, Some, ap, arith, false, not, refl, true, ℕ, cond}
+use Rattle.std.proofs.Common.{length}
 use Rattle.std.specs.Prelude.{◌&&◌, slice_get}
 use Rattle.std.specs.List.{list_any}
 use Rattle.std.proofs.lemmas.Bool.{or_left}
@@ -23,10 +24,12 @@ use Rattle.grs_world.proofs.move.Decks.{order-may}
 use Rattle.grs_world.proofs.move.Moved.{changing-counted, event-moved}
 use Rattle.grs_world.proofs.run.Desks.{GoodDesks, desk-agrees, desks-after, desks-counted}
 use Rattle.grs_world.proofs.run.Each.{each_live, each_run}
-use Rattle.grs_world.proofs.run.InRing.{Came, IsRing, changed, count_first, each_came, first_ring, informed, live-there, no_such, nothing, removes_one, ring-counted, ring-placed, turn, went_on}
+use Rattle.grs_world.proofs.run.InRing.{Came, IsRing, changed, count_first, each_came, first_ring, informed, live-there}
+use Rattle.grs_world.proofs.run.InRing.{no_such, nothing, removes_one, ring-counted, ring-placed, turn, went_on}
 use Rattle.grs_world.proofs.run.Removals.{taken_out}
 use Rattle.grs_world.proofs.run.Runs.{GoodTold, GoodWorld, told-after, told-counted}
-use Rattle.grs_world.proofs.run.Sound.{came_tells, first_good, first_good_told, first_message, good_came, good_counted, sound-of}
+use Rattle.grs_world.proofs.run.Sound.{came_tells, first_good, first_good_told, first_message, good_came, good_counted}
+use Rattle.grs_world.proofs.run.Sound.{sound-of}
 use Rattle.grs_world.proofs.star.Sound.{first_whole}
 use Rattle.grs_world.specs.Agree.{Sound}
 use Rattle.grs_world.specs.Decks.{FitsStar, may_be_star, orders_star}
@@ -40,10 +43,12 @@ pub data GoodRun (deck : Deck) (es : List Event) (w : World) : Type 0 where
 
 -- ---- one event
 -- a system shows its number
-home-shown : (deck : Deck) (w : World) (g : IsChanging deck w) (s : ℕ) (n : NodeState) → slice_get w.nodes s ≡ Some n → has w.medium.removed s ≡ false → n.tasks.system ≡ s
+home-shown : (deck : Deck) (w : World) (g : IsChanging deck w) (s : ℕ) (n : NodeState) → slice_get w.nodes s ≡ Some n
+    → has w.medium.removed s ≡ false → n.tasks.system ≡ s
 home-shown deck w g s n at alive = by_shown (g.shown s n at alive).0 n (g.shown s n at alive).1 (g.shown s n at alive).2
   where
-    by_shown : (k m : NodeState) → slice_get g.view s ≡ Some k → Shown deck s (items w.fixed) (g.before s) (g.due s) g.since (g.whole.out s) k m → m.tasks.system ≡ s
+    by_shown : (k m : NodeState) → slice_get g.view s ≡ Some k
+        → Shown deck s (items w.fixed) (g.before s) (g.due s) g.since (g.whole.out s) k m → m.tasks.system ≡ s
     by_shown k m there (has_changed none) = (g.whole.system s k there alive).at.good.system
     by_shown k m there (waits_yet x h is empty) = h.seen.good.system
 
@@ -58,33 +63,47 @@ module _ (deck : Deck) (fits : may_be_star deck ≡ true → FitsStar deck) (es 
   Good x = GoodRun deck (es ++ e ∷ []) x
 
   module _ (n : NodeState) (at : slice_get (run deck es).nodes e.system.0 ≡ Some n) where
-    came : (o : Turnout) → items (placed (run deck es) e.system n o).fixed ≡ items ((run deck es).fixed ++ fixed_by e.system o.step.fixed)
+    came : (o : Turnout)
+        → items (placed (run deck es) e.system n o).fixed
+        ≡ items ((run deck es).fixed ++ fixed_by e.system o.step.fixed)
     unfolding placed
     came o = refl
 
     -- the medium is in star mode behind it
-    to_star : FitsStar deck → GoodTold deck es (run deck es) → GoodDesks deck (run deck es) → n.tasks.system ≡ e.system.0 → (o : Turnout) → IsMoved deck (run deck es) e.system n o → happens deck (run deck es) e ≡ placed (run deck es) e.system n o → Good (placed (run deck es) e.system n o)
+    to_star : FitsStar deck → GoodTold deck es (run deck es) → GoodDesks deck (run deck es)
+        → n.tasks.system ≡ e.system.0 → (o : Turnout) → IsMoved deck (run deck es) e.system n o
+        → happens deck (run deck es) e ≡ placed (run deck es) e.system n o → Good (placed (run deck es) e.system n o)
     to_star f told d home o moved is = in_star f moved.changing
-        (told-after deck es e n at told o (items (w.fixed ++ fixed_by c o.step.fixed)) (came o) is (desk-agrees deck es w told d c n at home (history (items (w.fixed ++ fixed_by c o.step.fixed))) o.step.fixed o.step.node o.medium.star moved.news))
+        (told-after deck es e n at told o (items (w.fixed ++ fixed_by c o.step.fixed)) (came o) is
+        (desk-agrees deck es w told d c n at home (history (items (w.fixed ++ fixed_by c o.step.fixed))) o.step.fixed
+        o.step.node o.medium.star moved.news))
         (desks-after deck w d c n at o (history (items (w.fixed ++ fixed_by c o.step.fixed))) moved.news)
 
   -- in ring mode
-  module _ (begins : deck.star ≡ false) (ring : IsRing deck (run deck es)) (g : GoodWorld deck es (run deck es)) (d : GoodDesks deck (run deck es)) where
-    module _ (n : NodeState) (at : slice_get (run deck es).nodes e.system.0 ≡ Some n) (alive : has (run deck es).medium.removed e.system.0 ≡ false) where
+  module _ (begins : deck.star ≡ false) (ring : IsRing deck (run deck es)) (g : GoodWorld deck es (run deck es))
+      (d : GoodDesks deck (run deck es)) where
+    module _ (n : NodeState) (at : slice_get (run deck es).nodes e.system.0 ≡ Some n)
+        (alive : has (run deck es).medium.removed e.system.0 ≡ false) where
       here : has (live (run deck es).medium) e.system.0 ≡ true
       here = live-there deck w ring c.0 n at alive
 
       home : n.tasks.system ≡ e.system.0
       home = (g.systems c.0 n at here).good.system
 
-      stays_ring : (o : Turnout) → Came deck (run deck es) e.system n o → o.medium.star ≡ false → happens deck (run deck es) e ≡ placed (run deck es) e.system n o → Good (placed (run deck es) e.system n o)
+      stays_ring : (o : Turnout) → Came deck (run deck es) e.system n o → o.medium.star ≡ false
+          → happens deck (run deck es) e ≡ placed (run deck es) e.system n o → Good (placed (run deck es) e.system n o)
       stays_ring o h mode is =
           let tells = came_tells deck es e ring g n at alive o h mode in
-          let told = told-after deck es e n at g.told o (items (w.fixed ++ fixed_by c o.step.fixed)) (came n at o) is (desk-agrees deck es w g.told d c n at home (history (items (w.fixed ++ fixed_by c o.step.fixed))) o.step.fixed o.step.node o.medium.star tells) in
-          in_ring begins (ring-placed deck w ring c n at o h mode) (good_came deck es e ring g n at alive o h mode told is)
+          let told =
+          told-after deck es e n at g.told o (items (w.fixed ++ fixed_by c o.step.fixed)) (came n at o) is
+          (desk-agrees deck es w g.told d c n at home (history (items (w.fixed ++ fixed_by c o.step.fixed)))
+          o.step.fixed o.step.node o.medium.star tells) in
+          in_ring begins (ring-placed deck w ring c n at o h mode)
+          (good_came deck es e ring g n at alive o h mode told is)
           (desks-after deck w d c n at o (history (items (w.fixed ++ fixed_by c o.step.fixed))) tells)
 
-      comes : (o : Turnout) → Came deck (run deck es) e.system n o → happens deck (run deck es) e ≡ placed (run deck es) e.system n o → Good (placed (run deck es) e.system n o)
+      comes : (o : Turnout) → Came deck (run deck es) e.system n o
+          → happens deck (run deck es) e ≡ placed (run deck es) e.system n o → Good (placed (run deck es) e.system n o)
       comes o (nothing flags) is = stays_ring _ (nothing flags) ring.mode is
       comes o (went_on t may) is = stays_ring _ (went_on t may) ring.mode is
       comes o (turn flags here) is = stays_ring _ (turn flags here) ring.mode is
@@ -93,20 +112,34 @@ module _ (deck : Deck) (fits : may_be_star deck ≡ true → FitsStar deck) (es 
       comes o (no_such target next out) is = stays_ring _ (no_such target next out) ring.mode is
       comes o (changed next idle) is =
           let f : FitsStar deck = fits (order-may deck n next) in
-          to_star n at f g.told d home _ (switch-moved deck begins (entries_some deck.entries f.entries) f.few w ring g.history (taken_out deck es) g.before g.later g.whole g.message g.systems c n at alive next idle) is
+          to_star n at f g.told d home _ (switch-moved deck begins (entries_some deck.entries f.entries) f.few w ring
+          g.history (taken_out deck es) g.before g.later g.whole g.message g.systems c n at alive next idle)
+          is
 
     from_ring : Good (happens deck (run deck es) e)
-    from_ring = each_came deck w e (λ x. happens deck w e ≡ x → Good x) ring (λ is. in_ring begins (ring-counted deck w ring) (good_counted deck es e ring g) (desks-counted deck w d)) (λ n o at alive h is. comes n at alive o h is) refl
+    from_ring =
+        each_came deck w e (λ x. happens deck w e ≡ x → Good x) ring
+        (λ is. in_ring begins (ring-counted deck w ring) (good_counted deck es e ring g) (desks-counted deck w d))
+        (λ n o at alive h is. comes n at alive o h is) refl
 
   -- in star mode
-  from_star : FitsStar deck → IsChanging deck (run deck es) → GoodTold deck es (run deck es) → GoodDesks deck (run deck es) → Good (happens deck (run deck es) e)
-  from_star f g told d = each_live deck w e (λ x. happens deck w e ≡ x → Good x) (λ is. in_star f (changing-counted deck w g) (told-counted deck es e w told) (desks-counted deck w d)) comes_star refl
+  from_star : FitsStar deck → IsChanging deck (run deck es) → GoodTold deck es (run deck es)
+      → GoodDesks deck (run deck es) → Good (happens deck (run deck es) e)
+  from_star f g told d =
+      each_live deck w e (λ x. happens deck w e ≡ x → Good x)
+      (λ is. in_star f (changing-counted deck w g) (told-counted deck es e w told) (desks-counted deck w d)) comes_star
+      refl
     where
-      comes_star : (n : NodeState) → slice_get (run deck es).nodes e.system.0 ≡ Some n → has (run deck es).medium.removed e.system.0 ≡ false → happens deck (run deck es) e ≡ placed (run deck es) e.system n (chosen deck (run deck es).medium e.system n e.choice) → Good (placed (run deck es) e.system n (chosen deck (run deck es).medium e.system n e.choice))
+      comes_star : (n : NodeState) → slice_get (run deck es).nodes e.system.0 ≡ Some n
+          → has (run deck es).medium.removed e.system.0 ≡ false
+          → happens deck (run deck es) e
+          ≡ placed (run deck es) e.system n (chosen deck (run deck es).medium e.system n e.choice)
+          → Good (placed (run deck es) e.system n (chosen deck (run deck es).medium e.system n e.choice))
       comes_star n at alive is =
           let here = slice_get_within w.nodes c.0 n at in
           let inside : c.0 < most_systems = omega (arith, here, g.count, f.few) in
-          to_star n at f told d (home-shown deck w g c.0 n at alive) (chosen deck w.medium c n e.choice) (event-moved deck (entries_some deck.entries f.entries) w g c inside n at alive e.choice) is
+          to_star n at f told d (home-shown deck w g c.0 n at alive) (chosen deck w.medium c n e.choice)
+          (event-moved deck (entries_some deck.entries f.entries) w g c inside n at alive e.choice) is
 
   next_good : GoodRun deck es (run deck es) → Good (happens deck (run deck es) e)
   next_good (in_ring begins ring g d) = from_ring begins ring g d
@@ -126,7 +159,9 @@ first_changing deck star = record {
   parts = λ u. refl;
   message = first_message deck;
   closed = ap (λ b. (cond b (never_opened (length deck.systems)) (opened (length deck.systems))).closed) star;
-  around = by_test (λ (m : Message). m.systems ≡ length deck.systems) deck.star (never_opened (length deck.systems)) (opened (length deck.systems)) (λ e. refl) (λ e. refl);
+  around =
+      by_test (λ (m : Message). m.systems ≡ length deck.systems) deck.star (never_opened (length deck.systems))
+      (opened (length deck.systems)) (λ e. refl) (λ e. refl);
   count = count_first deck 0 deck.systems;
   shown = λ s n at alive. (n, at, has_changed refl);
   gone = λ s n at out. no_truth (has 0 s) out (has-zero s);
@@ -145,10 +180,13 @@ first_run deck fits = go deck.star refl
   where
     go : (b : Bool) → deck.star ≡ b → GoodRun deck [] (first_world deck)
     go false is = in_ring is (first_ring deck is) (first_good deck) (first_desks deck)
-    go true is = in_star (fits (or_left deck.star (list_any (λ s. orders_star s.desk) deck.systems) is)) (first_changing deck is) (first_good_told deck) (first_desks deck)
+    go true is =
+        in_star (fits (or_left deck.star (list_any (λ s. orders_star s.desk) deck.systems) is)) (first_changing deck is)
+        (first_good_told deck) (first_desks deck)
 
 -- ---- every list of events
-pub every_run : (deck : Deck) → (may_be_star deck ≡ true → FitsStar deck) → (es : List Event) → GoodRun deck es (run deck es)
+pub every_run : (deck : Deck) → (may_be_star deck ≡ true → FitsStar deck) → (es : List Event)
+    → GoodRun deck es (run deck es)
 every_run deck fits = each_run deck (GoodRun deck) (first_run deck fits) (λ es e g. next_good deck fits es e g)
 
 pub good_history : (deck : Deck) (es : List Event) (w : World) → GoodRun deck es w → IsHistory deck (items w.fixed)
@@ -160,12 +198,16 @@ good_told deck es w (in_ring begins ring g d) = g.told
 good_told deck es w (in_star f g told d) = told
 
 -- a live system shows its number
-pub home-run : (deck : Deck) (es : List Event) (w : World) → GoodRun deck es w → (s : ℕ) (n : NodeState) → slice_get w.nodes s ≡ Some n → has w.medium.removed s ≡ false → n.tasks.system ≡ s
-home-run deck es w (in_ring begins ring g d) s n at alive = (g.systems s n at (live-there deck w ring s n at alive)).good.system
+pub home-run : (deck : Deck) (es : List Event) (w : World) → GoodRun deck es w → (s : ℕ) (n : NodeState)
+    → slice_get w.nodes s ≡ Some n → has w.medium.removed s ≡ false → n.tasks.system ≡ s
+home-run deck es w (in_ring begins ring g d) s n at alive =
+    (g.systems s n at (live-there deck w ring s n at alive)).good.system
 home-run deck es w (in_star f g told d) s n at alive = home-shown deck w g s n at alive
 
 -- ---- so every run is sound, where no desk's command is of its own system or of one that isn't there
-pub every_sound : (deck : Deck) → (may_be_star deck ≡ true → FitsStar deck) → OrdersFit deck → (es : List Event) → Sound deck es
+pub every_sound : (deck : Deck) → (may_be_star deck ≡ true → FitsStar deck) → OrdersFit deck → (es : List Event)
+    → Sound deck es
 every_sound deck fits fit es =
     let here = every_run deck fits es in
-    sound-of deck fit (λ us. home-run deck us (run deck us) (every_run deck fits us)) es (good_history deck es (run deck es) here) (good_told deck es (run deck es) here)
+    sound-of deck fit (λ us. home-run deck us (run deck us) (every_run deck fits us)) es
+    (good_history deck es (run deck es) here) (good_told deck es (run deck es) here)

@@ -15,7 +15,9 @@ use Rattle.grs_base.specs.declared.resource.SysId.{SysId}
 use Rattle.grs_base.specs.Limits.{most_systems}
 use Rattle.grs_known.specs.Items.{items}
 
-module _ (deck : Deck) (some : 0 < deck.entries) (w : World) (g : IsChanging deck w) (c : SysId) (inside : c.0 < most_systems) (n : NodeState) (at : slice_get w.nodes c.0 ≡ Some n) (unremoved : has w.medium.removed c.0 ≡ false) (there : slice_get g.view c.0 ≡ Some n) (none : g.due c.0 ≡ []) where
+module _ (deck : Deck) (some : 0 < deck.entries) (w : World) (g : IsChanging deck w) (c : SysId)
+    (inside : c.0 < most_systems) (n : NodeState) (at : slice_get w.nodes c.0 ≡ Some n)
+    (unremoved : has w.medium.removed c.0 ≡ false) (there : slice_get g.view c.0 ≡ Some n) (none : g.due c.0 ≡ []) where
   abbrev shown : World
   shown = record w { nodes = g.view }
 
@@ -27,9 +29,13 @@ module _ (deck : Deck) (some : 0 < deck.entries) (w : World) (g : IsChanging dec
   }
     where
       step : IsStep deck (record w { nodes = g.view }) c n (chosen deck w.medium c n choice)
-      step = good_choice deck some (record w { nodes = g.view }) c inside n there unremoved g.whole.roles (g.whole.roles.node c.0 n there unremoved) choice
+      step =
+          good_choice deck some (record w { nodes = g.view }) c inside n there unremoved g.whole.roles
+          (g.whole.roles.node c.0 n there unremoved) choice
 
-      goes : IsOutcome deck (record w { nodes = g.view }) g.whole c n (chosen deck w.medium c n choice) → IsChanging deck (placed w c n (chosen deck w.medium c n choice))
+      goes : IsOutcome deck (record w { nodes = g.view }) g.whole c n (chosen deck w.medium c n choice)
+          → IsChanging deck (placed w c n (chosen deck w.medium c n choice))
       goes h =
           let f = fresh deck c.0 g.whole.out (items w.fixed) _ h.stays.fixes in
-          moved deck w g c n at unremoved (chosen deck w.medium c n choice) (chosen deck w.medium c n choice).step.node h.stays.whole h.stays.sent f step.message step.removed (has_changed none)
+          moved deck w g c n at unremoved (chosen deck w.medium c n choice) (chosen deck w.medium c n choice).step.node
+          h.stays.whole h.stays.sent f step.message step.removed (has_changed none)

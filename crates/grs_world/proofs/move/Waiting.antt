@@ -1,5 +1,6 @@
 -- An event of a system that hasn't changed: what is shown of it is what it then comes to.
-use Rattle.std.proofs.Common.{◌≡◌, [], ◌+◌, ◌++◌, List, Some, ap, append-nil, append_assoc, arith, false, length, length-append, refl, set, subst, sym, true, ℕ, ◌∙◌, ◌∷◌, ◌≢◌, None}
+use Rattle.std.proofs.Common.{◌≡◌, [], ◌+◌, ◌++◌, List, Some, ap, append-nil, append_assoc, arith, false, length}
+use Rattle.std.proofs.Common.{length-append, refl, set, subst, sym, true, ℕ, ◌∙◌, ◌∷◌, ◌≢◌, None}
 use Rattle.std.proofs.lemmas.Bool.{and_parts, eqb-true}
 use Rattle.std.proofs.lemmas.List.Elements.{filter-append}
 use Rattle.std.proofs.lemmas.List.{length-set}
@@ -19,9 +20,12 @@ use Rattle.grs_known.specs.Parts.{put_at}
 use Rattle.grs_known.proofs.lists.Placed.{put_each, put_both, put_here}
 use Rattle.grs_world.proofs.star.Elements.{AreNear}
 use Rattle.grs_world.proofs.message.Stands.{Bodies}
-use Rattle.grs_world.proofs.star.Worlds.{Fixes, Hands, IsWhole, are_live, fixes-own, in_hands, items-none, items-one, near-local, none_fixed, others-item, under-local, whole-still}
-use Rattle.grs_world.proofs.move.Late.{CameLate, desk_late, informed_late, nothing_late, task_late, turn_late, vary_late}
-use Rattle.grs_world.proofs.move.Changing.{IsChanging, IsMoved, Waits, fresh, moved, nothing-late, view-at, view-news, view-star, viewed, waits_yet, has_changed, Shown}
+use Rattle.grs_world.proofs.star.Worlds.{Fixes, Hands, IsWhole, are_live, fixes-own, in_hands, items-none, items-one}
+use Rattle.grs_world.proofs.star.Worlds.{near-local, none_fixed, others-item, under-local, whole-still}
+use Rattle.grs_world.proofs.move.Late.{CameLate, desk_late, informed_late, nothing_late, task_late, turn_late}
+use Rattle.grs_world.proofs.move.Late.{vary_late}
+use Rattle.grs_world.proofs.move.Changing.{IsChanging, IsMoved, Waits, fresh, moved, nothing-late, view-at, view-news}
+use Rattle.grs_world.proofs.move.Changing.{view-star, viewed, waits_yet, has_changed, Shown}
 use Rattle.grs_world.proofs.star.Members.{IsMember, IsStar, IsStep, all_lists, framed, lists-grown, lists_after}
 use Rattle.grs_world.proofs.star.Systems.{IsSystem, is_late, news_of}
 use Rattle.grs_world.proofs.system.AtNode.{QuietStep, Seen, keeps, fixes, seen-known}
@@ -45,7 +49,8 @@ use Rattle.grs_wire.specs.declared.deck.Order.TheVariants as orders
 use Rattle.grs_wire.specs.declared.told.Said.TheVariants as saids
 use Rattle.grs_wire.specs.declared.deck.Choice.TheVariants as choices
 use Rattle.grs_wire.specs.declared.request.Fixed.TheVariants as fixing
-use Rattle.grs_node.specs.Node.{NodeState, Step, change_to_star, desk_told, finish_quiet, may_go, next_order, only, read_entries, task_step}
+use Rattle.grs_node.specs.Node.{NodeState, Step, change_to_star, desk_told, finish_quiet, may_go, next_order, only}
+use Rattle.grs_node.specs.Node.{read_entries, task_step}
 use Rattle.grs_node.specs.Star.{StarPart}
 use Rattle.grs_node.proofs.Keeping.{Stays, stays-entries, stays-task}
 use Rattle.grs_base.specs.declared.resource.SysId.{SysId}
@@ -61,7 +66,10 @@ nothing-behind : {X : Type 0} (xs ys : List X) → xs ++ ys ≡ xs → ys ≡ []
 nothing-behind xs [] h = refl
 nothing-behind xs (y ∷ ys) h = absurd (omega (arith, ap length h, length-append xs (y ∷ ys)))
 
-module _ (deck : Deck) (w : World) (g : IsChanging deck w) (c : SysId) (n : NodeState) (at : slice_get w.nodes c.0 ≡ Some n) (unremoved : has w.medium.removed c.0 ≡ false) (k : NodeState) (there : slice_get g.view c.0 ≡ Some k) (h : Waits deck c.0 (items w.fixed) (g.before c.0) (g.due c.0) g.since n) (is : k ≡ viewed deck n (g.due c.0)) (empty : g.whole.out c.0 ≡ []) where
+module _ (deck : Deck) (w : World) (g : IsChanging deck w) (c : SysId) (n : NodeState)
+    (at : slice_get w.nodes c.0 ≡ Some n) (unremoved : has w.medium.removed c.0 ≡ false) (k : NodeState)
+    (there : slice_get g.view c.0 ≡ Some k) (h : Waits deck c.0 (items w.fixed) (g.before c.0) (g.due c.0) g.since n)
+    (is : k ≡ viewed deck n (g.due c.0)) (empty : g.whole.out c.0 ≡ []) where
   abbrev shown : World
   shown = record w { nodes = g.view }
 
@@ -74,18 +82,25 @@ module _ (deck : Deck) (w : World) (g : IsChanging deck w) (c : SysId) (n : Node
   abbrev me : IsMember deck w.medium.words (all_lists (record w { nodes = g.view })) c.0 k
   me = g.whole.roles.node c.0 k there unremoved
 
-  abbrev sys : IsSystem deck w.medium.words (items w.fixed) c.0 k (inbox w.medium c.0) (g.whole.later c.0) (g.whole.out c.0)
+  abbrev sys :
+      IsSystem deck w.medium.words (items w.fixed) c.0 k (inbox w.medium c.0) (g.whole.later c.0) (g.whole.out c.0)
   sys = g.whole.system c.0 k there unremoved
 
   late-none : g.whole.later c.0 ≡ []
-  late-none = nothing-late deck w.medium.words T c.0 k (inbox w.medium c.0) (g.whole.later c.0) (g.whole.out c.0) sys empty
+  late-none =
+      nothing-late deck w.medium.words T c.0 k (inbox w.medium c.0) (g.whole.later c.0) (g.whole.out c.0) sys empty
 
   -- ---- the system becomes n', and fixes this, which is none of the whole complex
-  module _ (n' : NodeState) (fs : List Fixed) (T' : List RunItem) (grown : items (w.fixed ++ fixed_by c fs) ≡ T') (right : IsHistory deck T') (fixes : Fixes deck c.0 g.whole.out (items w.fixed) T')
-      (local : (e : ℕ) → under deck.entries e (lists T') ≡ under deck.entries e (lists (items w.fixed))) (near : AreNear deck w.medium.words (lists T'))
-      (waits : Waits deck c.0 T' (g.before c.0) (g.due c.0) g.since n') (rounds_now : rounds T' ≡ rounds (items w.fixed))
+  module _ (n' : NodeState) (fs : List Fixed) (T' : List RunItem) (grown : items (w.fixed ++ fixed_by c fs) ≡ T')
+      (right : IsHistory deck T') (fixes : Fixes deck c.0 g.whole.out (items w.fixed) T')
+      (local : (e : ℕ) → under deck.entries e (lists T') ≡ under deck.entries e (lists (items w.fixed)))
+      (near : AreNear deck w.medium.words (lists T'))
+      (waits : Waits deck c.0 T' (g.before c.0) (g.due c.0) g.since n')
+      (rounds_now : rounds T' ≡ rounds (items w.fixed))
       (coming : (t : TaskId) → is_home_at deck c.0 t ≡ true → Coming t (blank false) T' (news_of (inbox w.medium c.0)))
-      (others : (s : ℕ) (j : NodeState) → s ≢ c.0 → slice_get g.view s ≡ Some j → has w.medium.removed s ≡ false → IsSystem deck w.medium.words T' s j (inbox w.medium s) (g.whole.later s) (g.whole.out s)) (flags : ℕ) where
+      (others : (s : ℕ) (j : NodeState) → s ≢ c.0 → slice_get g.view s ≡ Some j → has w.medium.removed s ≡ false
+      → IsSystem deck w.medium.words T' s j (inbox w.medium s) (g.whole.later s) (g.whole.out s))
+      (flags : ℕ) where
     abbrev k' : NodeState
     k' = viewed deck n' (g.due c.0)
 
@@ -94,13 +109,19 @@ module _ (deck : Deck) (w : World) (g : IsChanging deck w) (c : SysId) (n : Node
     o = record { medium = record w.medium { rest = flags }; step = record { node = n'; fixed = fs } }
 
     abbrev o_shown : Turnout
-    o_shown = record { medium = record w.medium { rest = flags }; step = record { node = viewed deck n' (g.due c.0); fixed = fs } }
+    o_shown = record {
+      medium = record w.medium { rest = flags };
+      step = record { node = viewed deck n' (g.due c.0); fixed = fs };
+    }
 
     whole_then : rounds T' ≡ g.before c.0 ++ (g.due c.0 ++ g.since)
     whole_then = rounds_now ∙ whole_now
 
     same-star : (viewed deck n' (g.due c.0)).star ≡ k.star
-    same-star = view-star deck c.0 T' (g.before c.0) (g.due c.0) g.since right whole_then n' waits ∙ sym (ap (λ (z : NodeState). z.star) is ∙ view-star deck c.0 T (g.before c.0) (g.due c.0) g.since g.whole.right whole_now n h)
+    same-star =
+        view-star deck c.0 T' (g.before c.0) (g.due c.0) g.since right whole_then n' waits
+        ∙ sym (ap (λ (z : NodeState). z.star) is
+        ∙ view-star deck c.0 T (g.before c.0) (g.due c.0) g.since g.whole.right whole_now n h)
 
     lists-then : lists_after (lists (items w.fixed)) fs ≡ lists T'
     lists-then = sym (lists-grown w.fixed c fs) ∙ ap lists grown
@@ -130,13 +151,17 @@ module _ (deck : Deck) (w : World) (g : IsChanging deck w) (c : SysId) (n : Node
           interests = me.fits.interests;
           roles = me.fits.roles;
           interest = me.fits.interest;
-          lists = λ e a. subst (Alike (plain (items_of (managed_at me.part.manager e)))) (sym (ap (under deck.entries e) lists-then ∙ local e)) (me.fits.lists e a);
+          lists = λ e a.
+              subst (Alike (plain (items_of (managed_at me.part.manager e))))
+              (sym (ap (under deck.entries e) lists-then ∙ local e)) (me.fits.lists e a);
           well = me.fits.well;
         };
       };
     }
 
-    own : IsSystem deck w.medium.words T' c.0 (viewed deck n' (g.due c.0)) (inbox w.medium c.0) (g.whole.later c.0) (g.whole.out c.0)
+    own :
+        IsSystem deck w.medium.words T' c.0 (viewed deck n' (g.due c.0)) (inbox w.medium c.0) (g.whole.later c.0)
+        (g.whole.out c.0)
     own = subst (λ xs. IsSystem deck w.medium.words T' c.0 k' (inbox w.medium c.0) xs (g.whole.out c.0)) (sym late-none)
         (subst (λ qs. IsSystem deck w.medium.words T' c.0 k' (inbox w.medium c.0) [] qs) (sym empty) (record {
           at = view-at deck c.0 T' (g.before c.0) (g.due c.0) g.since right whole_then n' waits;
@@ -155,16 +180,45 @@ module _ (deck : Deck) (w : World) (g : IsChanging deck w) (c : SysId) (n : Node
     unfolding placed
     roles-now =
         let f = framed deck shown c k there unremoved g.whole.roles o_shown step in
-        record { mode = f.mode; words = f.words; inboxes = f.inboxes; systems = f.systems; managed = f.managed; nobody = f.nobody; free = f.free; node = f.node }
+        record {
+          mode = f.mode;
+          words = f.words;
+          inboxes = f.inboxes;
+          systems = f.systems;
+          managed = f.managed;
+          nobody = f.nobody;
+          free = f.free;
+          node = f.node;
+        }
 
-    system-now : (s : ℕ) (j : NodeState) → slice_get (set g.view c.0 (viewed deck n' (g.due c.0))) s ≡ Some j → has w.medium.removed s ≡ false → IsSystem deck w.medium.words (items (w.fixed ++ fixed_by c fs)) s j (inbox w.medium s) (g.whole.later s) (g.whole.out s)
-    system-now s j found live = subst (λ U. IsSystem deck w.medium.words U s j (inbox w.medium s) (g.whole.later s) (g.whole.out s)) (sym grown)
-        (by_node g.view c.0 k k' there (λ u z. has w.medium.removed u ≡ false → IsSystem deck w.medium.words T' u z (inbox w.medium u) (g.whole.later u) (g.whole.out u)) (λ l. own) (λ u z ne f l. others u z ne f l) s j found live)
+    system-now : (s : ℕ) (j : NodeState) → slice_get (set g.view c.0 (viewed deck n' (g.due c.0))) s ≡ Some j
+        → has w.medium.removed s ≡ false
+        → IsSystem deck w.medium.words (items (w.fixed ++ fixed_by c fs)) s j (inbox w.medium s) (g.whole.later s)
+        (g.whole.out s)
+    system-now s j found live =
+        subst (λ U. IsSystem deck w.medium.words U s j (inbox w.medium s) (g.whole.later s) (g.whole.out s)) (sym grown)
+        (by_node g.view c.0 k k' there (λ u z.
+        has w.medium.removed u ≡ false
+        → IsSystem deck w.medium.words T' u z (inbox w.medium u) (g.whole.later u) (g.whole.out u))
+        (λ l. own) (λ u z ne f l. others u z ne f l) s j found live)
 
-    hands-now : (m : ℕ) (j : NodeState) (p : StarPart) → slice_get (set g.view c.0 (viewed deck n' (g.due c.0))) m ≡ Some j → has w.medium.removed m ≡ false → j.star ≡ Some p → Hands deck w.medium.words (λ s. lives (length (set g.view c.0 (viewed deck n' (g.due c.0)))) w.medium.removed s) g.whole.later g.whole.out m (in_hands p (inbox w.medium m))
-    hands-now m j p found live star = subst (λ (count : ℕ). Hands deck w.medium.words (λ s. lives count w.medium.removed s) g.whole.later g.whole.out m (in_hands p (inbox w.medium m))) (sym (length-set g.view c.0 k'))
-        (by_node g.view c.0 k k' there (λ u z. has w.medium.removed u ≡ false → (q : StarPart) → z.star ≡ Some q → Hands deck w.medium.words (are_live (record w { nodes = g.view })) g.whole.later g.whole.out u (in_hands q (inbox w.medium u)))
-        (λ l q e. g.whole.hands c.0 k q there l (sym same-star ∙ e)) (λ u z ne f l q e. g.whole.hands u z q f l e) m j found live p star)
+    hands-now : (m : ℕ) (j : NodeState) (p : StarPart)
+        → slice_get (set g.view c.0 (viewed deck n' (g.due c.0))) m ≡ Some j → has w.medium.removed m ≡ false
+        → j.star ≡ Some p
+        → Hands deck w.medium.words
+        (λ s. lives (length (set g.view c.0 (viewed deck n' (g.due c.0)))) w.medium.removed s) g.whole.later g.whole.out
+        m (in_hands p (inbox w.medium m))
+    hands-now m j p found live star =
+        subst (λ (count : ℕ).
+        Hands deck w.medium.words (λ s. lives count w.medium.removed s) g.whole.later g.whole.out m
+        (in_hands p (inbox w.medium m)))
+        (sym (length-set g.view c.0 k'))
+        (by_node g.view c.0 k k' there (λ u z.
+        has w.medium.removed u ≡ false → (q : StarPart) → z.star ≡ Some q
+        → Hands deck w.medium.words (are_live (record w { nodes = g.view })) g.whole.later g.whole.out u
+        (in_hands q (inbox w.medium u)))
+        (λ l q e. g.whole.hands c.0 k q there l (sym same-star ∙ e)) (λ u z ne f l q e. g.whole.hands u z q f l e) m j
+        found live p star)
 
     pub waiting-moved : IsChanging deck (placed w c n o)
     unfolding placed
@@ -178,48 +232,84 @@ module _ (deck : Deck) (w : World) (g : IsChanging deck w) (c : SysId) (n : Node
           system = system-now;
           hands = hands-now;
         } in
-        let f = fresh deck c.0 g.whole.out T (items (w.fixed ++ fixed_by c fs)) (subst (Fixes deck c.0 g.whole.out T) (sym grown) fixes) in
-        let none : rounds f.new ≡ [] = nothing-behind (rounds T) (rounds f.new) (sym f.is ∙ (ap rounds grown ∙ rounds_now)) in
+        let f =
+        fresh deck c.0 g.whole.out T (items (w.fixed ++ fixed_by c fs))
+        (subst (Fixes deck c.0 g.whole.out T) (sym grown) fixes) in
+        let none : rounds f.new ≡ [] =
+        nothing-behind (rounds T) (rounds f.new) (sym f.is ∙ (ap rounds grown ∙ rounds_now)) in
         let same : g.since ++ rounds f.new ≡ g.since = ap (λ zs. g.since ++ zs) none ∙ append-nil g.since in
         moved deck w g c n at unremoved o k' whole (λ u ne. refl) f refl refl (waits_yet n' (record {
           alone = waits.alone;
-          seen = subst (λ U. Seen deck c.0 U (g.before c.0) (g.due c.0 ++ (g.since ++ rounds f.new)) (own_requests c.0 (g.due c.0)) n') (sym grown)
-              (subst (λ xs. Seen deck c.0 T' (g.before c.0) (g.due c.0 ++ xs) (own_requests c.0 (g.due c.0)) n') (sym same) waits.seen);
+          seen =
+              subst (λ U.
+              Seen deck c.0 U (g.before c.0) (g.due c.0 ++ (g.since ++ rounds f.new)) (own_requests c.0 (g.due c.0)) n')
+              (sym grown)
+              (subst (λ xs. Seen deck c.0 T' (g.before c.0) (g.due c.0 ++ xs) (own_requests c.0 (g.due c.0)) n')
+              (sym same) waits.seen);
           away = λ t home. ap (mine t) same ∙ waits.away t home;
         }) refl empty)
 
   -- what comes is what came
-  coming-now : (t : TaskId) → is_home_at deck c.0 t ≡ true → Coming t (blank false) (items w.fixed) (news_of (inbox w.medium c.0))
-  coming-now t home = subst (λ xs. Coming t (blank (is_late t xs)) T (news_of (inbox w.medium c.0))) late-none (sys.coming t home)
+  coming-now : (t : TaskId) → is_home_at deck c.0 t ≡ true
+      → Coming t (blank false) (items w.fixed) (news_of (inbox w.medium c.0))
+  coming-now t home =
+      subst (λ xs. Coming t (blank (is_late t xs)) T (news_of (inbox w.medium c.0))) late-none (sys.coming t home)
 
   -- the system becomes n', and fixes nothing
-  same-moved : (n' : NodeState) (flags : ℕ) → Waits deck c.0 (items w.fixed) (g.before c.0) (g.due c.0) g.since n' → (fs : List Fixed) → fs ≡ [] → IsChanging deck (placed w c n (record { medium = record w.medium { rest = flags }; step = record { node = n'; fixed = fs } }))
-  same-moved n' flags waits fs none = waiting-moved n' fs T (ap (λ zs. items (w.fixed ++ fixed_by c zs)) none ∙ items-none w.fixed c) g.whole.right none_fixed (λ e. refl) g.whole.near waits refl coming-now (λ s j ne found live. g.whole.system s j found live) flags
+  same-moved : (n' : NodeState) (flags : ℕ) → Waits deck c.0 (items w.fixed) (g.before c.0) (g.due c.0) g.since n'
+      → (fs : List Fixed) → fs ≡ []
+      → IsChanging deck
+      (placed w c n (record { medium = record w.medium { rest = flags }; step = record { node = n'; fixed = fs } }))
+  same-moved n' flags waits fs none =
+      waiting-moved n' fs T (ap (λ zs. items (w.fixed ++ fixed_by c zs)) none ∙ items-none w.fixed c) g.whole.right
+      none_fixed (λ e. refl) g.whole.near waits refl coming-now (λ s j ne found live. g.whole.system s j found live)
+      flags
 
   -- ---- nothing happens but to a flag of rest
-  pub nothing-moved : (flags : ℕ) → IsMoved deck w c n (record { medium = record w.medium { rest = flags }; step = only n })
-  nothing-moved flags = record { changing = same-moved n flags h [] refl; news = tells_tasks (still-told refl) refl refl }
+  pub nothing-moved : (flags : ℕ)
+      → IsMoved deck w c n (record { medium = record w.medium { rest = flags }; step = only n })
+  nothing-moved
+      flags = record { changing = same-moved n flags h [] refl; news = tells_tasks (still-told refl) refl refl }
 
   -- ---- it is told which systems were removed
-  pub known-moved : IsMoved deck w c n (record { medium = w.medium; step = only (record n { known = w.medium.removed }) })
+  pub known-moved :
+      IsMoved deck w c n (record { medium = w.medium; step = only (record n { known = w.medium.removed }) })
   known-moved = record {
-    changing = same-moved (record n { known = w.medium.removed }) w.medium.rest (record { alone = h.alone; seen = seen-known deck c.0 T (g.before c.0) (g.due c.0 ++ g.since) (own_requests c.0 (g.due c.0)) n w.medium.removed h.seen; away = h.away }) [] refl;
+    changing =
+        same-moved (record n { known = w.medium.removed }) w.medium.rest
+        (record {
+          alone = h.alone;
+          seen =
+              seen-known deck c.0 T (g.before c.0) (g.due c.0 ++ g.since) (own_requests c.0 (g.due c.0)) n
+              w.medium.removed h.seen;
+          away = h.away;
+        })
+        [] refl;
     news = tells_tasks (still-told refl) refl refl;
   }
 
   -- ---- its desk is told
-  desk-changing : (said : Said) → IsChanging deck (placed w c n (record { medium = w.medium; step = only (desk_told n said) }))
+  desk-changing : (said : Said)
+      → IsChanging deck (placed w c n (record { medium = w.medium; step = only (desk_told n said) }))
   unfolding desk_told
-  desk-changing said = same-moved (desk_told n said) w.medium.rest (record { alone = h.alone; seen = desk-seen deck c.0 T (g.before c.0) (g.due c.0 ++ g.since) (own_requests c.0 (g.due c.0)) n said h.seen; away = h.away }) [] refl
+  desk-changing said =
+      same-moved (desk_told n said) w.medium.rest (record {
+        alone = h.alone;
+        seen = desk-seen deck c.0 T (g.before c.0) (g.due c.0 ++ g.since) (own_requests c.0 (g.due c.0)) n said h.seen;
+        away = h.away;
+      })
+      [] refl
 
-  pub desk-moved : next_order deck n ≡ Some orders.Star → IsMoved deck w c n (record { medium = w.medium; step = only (desk_told n saids.StarAlready) })
+  pub desk-moved : next_order deck n ≡ Some orders.Star
+      → IsMoved deck w c n (record { medium = w.medium; step = only (desk_told n saids.StarAlready) })
   unfolding desk_told
   desk-moved next = record {
     changing = desk-changing saids.StarAlready;
     news = tells_already next (desk-told n saids.StarAlready) refl g.whole.roles.mode g.whole.roles.mode;
   }
 
-  pub vary-moved : (target : SysId) → next_order deck n ≡ Some (orders.Vary target) → IsMoved deck w c n (record { medium = w.medium; step = only (desk_told n saids.VaryInStar) })
+  pub vary-moved : (target : SysId) → next_order deck n ≡ Some (orders.Vary target)
+      → IsMoved deck w c n (record { medium = w.medium; step = only (desk_told n saids.VaryInStar) })
   unfolding desk_told
   vary-moved target next = record {
     changing = desk-changing saids.VaryInStar;
@@ -227,9 +317,12 @@ module _ (deck : Deck) (w : World) (g : IsChanging deck w) (c : SysId) (n : Node
   }
 
   -- ---- a task goes on
-  pub task-moved : (t : TaskId) → may_go deck n t ≡ true → IsMoved deck w c n (record { medium = w.medium; step = finish_quiet deck n (choices.Task t) })
+  pub task-moved : (t : TaskId) → may_go deck n t ≡ true
+      → IsMoved deck w c n (record { medium = w.medium; step = finish_quiet deck n (choices.Task t) })
   unfolding finish_quiet
-  task-moved t may = by_step (quiet deck c.0 c T (g.before c.0) (g.due c.0 ++ g.since) (own_requests c.0 (g.due c.0)) n t h.alone g.whole.right h.seen may)
+  task-moved t may =
+      by_step (quiet deck c.0 c T (g.before c.0) (g.due c.0 ++ g.since) (own_requests c.0 (g.due c.0)) n t h.alone
+      g.whole.right h.seen may)
     where
       st : Step
       st = task_step deck.limit n t (lines_of deck t)
@@ -237,25 +330,50 @@ module _ (deck : Deck) (w : World) (g : IsChanging deck w) (c : SysId) (n : Node
       kept : Stays n (task_step deck.limit n t (lines_of deck t)).node
       kept = stays-task deck.limit n t (lines_of deck t)
 
-      by_step : QuietStep deck c.0 c (items w.fixed) (g.before c.0) (g.due c.0 ++ g.since) (own_requests c.0 (g.due c.0)) n (task_step deck.limit n t (lines_of deck t)) → IsMoved deck w c n (record { medium = w.medium; step = task_step deck.limit n t (lines_of deck t) })
+      by_step :
+          QuietStep deck c.0 c (items w.fixed) (g.before c.0) (g.due c.0 ++ g.since) (own_requests c.0 (g.due c.0)) n
+          (task_step deck.limit n t (lines_of deck t))
+          → IsMoved deck w c n (record { medium = w.medium; step = task_step deck.limit n t (lines_of deck t) })
       by_step (keeps none seen told) = record {
-        changing = same-moved (task_step deck.limit n t (lines_of deck t)).node w.medium.rest (record { alone = kept.star ∙ h.alone; seen = seen; away = h.away }) (task_step deck.limit n t (lines_of deck t)).fixed none;
-        news = tells_tasks (subst (λ U. ToldNews deck c.0 (history U) n.tasks.told (task_step deck.limit n t (lines_of deck t)).node.tasks.told) (sym (ap (λ zs. items (w.fixed ++ fixed_by c zs)) none ∙ items-none w.fixed c)) (told-news told)) kept.done refl;
+        changing =
+            same-moved (task_step deck.limit n t (lines_of deck t)).node w.medium.rest
+            (record { alone = kept.star ∙ h.alone; seen = seen; away = h.away })
+            (task_step deck.limit n t (lines_of deck t)).fixed none;
+        news =
+            tells_tasks (subst (λ U.
+            ToldNews deck c.0 (history U) n.tasks.told (task_step deck.limit n t (lines_of deck t)).node.tasks.told)
+            (sym (ap (λ zs. items (w.fixed ++ fixed_by c zs)) none ∙ items-none w.fixed c)) (told-news told))
+            kept.done refl;
       }
       by_step (fixes q one home alone follow seen told) =
           let item : RunItem = made_item c T (fixing.Asked q) in
           let T' : List RunItem = T ++ item ∷ [] in
           let mine_q : q.task.system.0 ≡ c.0 = eqb-true q.task.system.0 c.0 home in
-          let grown : items (w.fixed ++ fixed_by c (task_step deck.limit n t (lines_of deck t)).fixed) ≡ T' = ap (λ zs. items (w.fixed ++ fixed_by c zs)) one ∙ items-one w.fixed c (fixing.Asked q) in
-          let around : rounds T' ≡ rounds T = filter-append (λ z. goes_round z.fixed) T (item ∷ []) ∙ (ap (λ zs. rounds T ++ zs) (filter-cons_left (λ z. goes_round z.fixed) item [] alone) ∙ append-nil (rounds T)) in
+          let grown : items (w.fixed ++ fixed_by c (task_step deck.limit n t (lines_of deck t)).fixed) ≡ T' =
+          ap (λ zs. items (w.fixed ++ fixed_by c zs)) one ∙ items-one w.fixed c (fixing.Asked q) in
+          let around : rounds T' ≡ rounds T =
+          filter-append (λ z. goes_round z.fixed) T (item ∷ [])
+          ∙ (ap (λ zs. rounds T ++ zs) (filter-cons_left (λ z. goes_round z.fixed) item [] alone)
+          ∙ append-nil (rounds T)) in
           record {
-            changing = waiting-moved (task_step deck.limit n t (lines_of deck t)).node (task_step deck.limit n t (lines_of deck t)).fixed T' grown (follows deck T item g.whole.right follow) (fixes-own deck c g.whole.out T q follow mine_q)
+            changing =
+                waiting-moved (task_step deck.limit n t (lines_of deck t)).node
+                (task_step deck.limit n t (lines_of deck t)).fixed T' grown (follows deck T item g.whole.right follow)
+                (fixes-own deck c g.whole.out T q follow mine_q)
                 (under-local deck T c q alone) (near-local deck w.medium.words T c q alone g.whole.near)
                 (record { alone = kept.star ∙ h.alone; seen = seen; away = h.away }) around
                 (λ u home_u. subst (λ xs. Coming u (blank (is_late u xs)) T' (news_of (inbox w.medium c.0))) late-none
-                (coming-own deck w.medium.words T g.whole.right c.0 k (inbox w.medium c.0) (g.whole.later c.0) (g.whole.out c.0) sys c q home (λ e f. absurd (want-round deck q.want e alone f)) (ap (is_late q.task) late-none) u home_u))
-                (λ s j ne found live. others-item deck shown g.whole c k there unremoved q follow mine_q s j ne found live) w.medium.rest;
-            news = tells_tasks (subst (λ U. ToldNews deck c.0 (history U) n.tasks.told (task_step deck.limit n t (lines_of deck t)).node.tasks.told) (sym grown) (told-news told)) kept.done refl;
+                (coming-own deck w.medium.words T g.whole.right c.0 k (inbox w.medium c.0) (g.whole.later c.0)
+                (g.whole.out c.0) sys c q home (λ e f. absurd (want-round deck q.want e alone f))
+                (ap (is_late q.task) late-none) u home_u))
+                (λ s j ne found live.
+                others-item deck shown g.whole c k there unremoved q follow mine_q s j ne found live)
+                w.medium.rest;
+            news =
+                tells_tasks (subst (λ U.
+                ToldNews deck c.0 (history U) n.tasks.told (task_step deck.limit n t (lines_of deck t)).node.tasks.told)
+                (sym grown) (told-news told))
+                kept.done refl;
           }
 
   -- ---- its Turn at the closed message: it comes to what was shown of it
@@ -263,17 +381,24 @@ module _ (deck : Deck) (w : World) (g : IsChanging deck w) (c : SysId) (n : Node
   given alive = given-due w.medium c g.before (g.due c.0) g.log (g.parts c.0) alive g.message
 
   asked-due : AllAsk deck (g.due c.0)
-  asked-due = asks-front deck (g.due c.0) g.since (asks-behind deck (g.before c.0) (g.due c.0 ++ g.since) (subst (AllAsk deck) whole_now (asks-rounds deck T g.whole.right.asks)))
+  asked-due =
+      asks-front deck (g.due c.0) g.since (asks-behind deck (g.before c.0) (g.due c.0 ++ g.since)
+      (subst (AllAsk deck) whole_now (asks-rounds deck T g.whole.right.asks)))
 
   round-due : list_all (λ x. goes_round x.fixed) (g.due c.0) ≡ true
   round-due =
-      let all : list_all (λ x. goes_round x.fixed) (g.due c.0 ++ g.since) ≡ true = all-behind (λ x. goes_round x.fixed) (g.before c.0) (g.due c.0 ++ g.since) (ap (list_all (λ x. goes_round x.fixed)) (sym whole_now) ∙ all-rounds T) in
-      (and_parts (list_all (λ x. goes_round x.fixed) (g.due c.0)) (list_all (λ x. goes_round x.fixed) g.since) (sym (list_all-append (λ x. goes_round x.fixed) (g.due c.0) g.since) ∙ all)).0
+      let all : list_all (λ x. goes_round x.fixed) (g.due c.0 ++ g.since) ≡ true =
+      all-behind (λ x. goes_round x.fixed) (g.before c.0) (g.due c.0 ++ g.since)
+      (ap (list_all (λ x. goes_round x.fixed)) (sym whole_now) ∙ all-rounds T) in
+      (and_parts (list_all (λ x. goes_round x.fixed) (g.due c.0)) (list_all (λ x. goes_round x.fixed) g.since)
+      (sym (list_all-append (λ x. goes_round x.fixed) (g.due c.0) g.since) ∙ all)).0
 
-  pub reads : has (live w.medium) c.0 ≡ true → read_entries deck n (unseen c w.medium.message.entries) ≡ read_all n (g.due c.0)
+  pub reads : has (live w.medium) c.0 ≡ true
+      → read_entries deck n (unseen c w.medium.message.entries) ≡ read_all n (g.due c.0)
   reads alive = read-entries deck n (g.due c.0) (unseen c w.medium.message.entries) asked-due round-due (given alive)
 
-  pub comes-to : has (live w.medium) c.0 ≡ true → change_to_star deck (read_entries deck n (unseen c w.medium.message.entries)) ≡ k
+  pub comes-to : has (live w.medium) c.0 ≡ true
+      → change_to_star deck (read_entries deck n (unseen c w.medium.message.entries)) ≡ k
   comes-to alive = ap (change_to_star deck) (reads alive) ∙ sym is
 
   turn-done : (change_to_star deck (read_entries deck n (unseen c w.medium.message.entries))).done ≡ n.done
@@ -283,22 +408,35 @@ module _ (deck : Deck) (w : World) (g : IsChanging deck w) (c : SysId) (n : Node
   -- what its Turn leaves
   module _ (flags : ℕ) (m : NodeState) (same : m ≡ k) where
     abbrev turned : Turnout
-    turned = record { medium = record w.medium { message = turned_closed w.medium.message c; rest = flags }; step = only m }
+    turned = record {
+      medium = record w.medium { message = turned_closed w.medium.message c; rest = flags };
+      step = only m;
+    }
 
     still : (x : IsWhole deck (record (placed w c n turned) { nodes = g.view })) × ((u : ℕ) → x.out u ≡ g.whole.out u)
     unfolding placed
-    still = whole-still deck shown g.whole (turned_closed w.medium.message c) flags (w.events + 1) (w.fixed ++ fixed_by c []) (w.told ++ told_by (w.events + 1) c (told_in n (only m))) (items-none w.fixed c)
+    still =
+        whole-still deck shown g.whole (turned_closed w.medium.message c) flags (w.events + 1)
+        (w.fixed ++ fixed_by c []) (w.told ++ told_by (w.events + 1) c (told_in n (only m))) (items-none w.fixed c)
 
     -- the others are shown as they were
-    stays-shown : (u : ℕ) (j x : NodeState) → u ≢ c.0 → Shown deck u (items w.fixed) (g.before u) (g.due u) g.since (g.whole.out u) j x →
-        Shown deck u (items (w.fixed ++ fixed_by c [])) (put_at g.before c.0 g.log u) (put_at g.due c.0 [] u) g.since (still.0.out u) j x
-    stays-shown u j x ne old = put_both g.before g.due c.0 u g.log [] (λ b d. Shown deck u (items (w.fixed ++ fixed_by c [])) b d g.since (still.0.out u) j x) (λ e. absurd (ne e)) (λ z. go j x old)
+    stays-shown : (u : ℕ) (j x : NodeState) → u ≢ c.0
+        → Shown deck u (items w.fixed) (g.before u) (g.due u) g.since (g.whole.out u) j x →
+        Shown deck u (items (w.fixed ++ fixed_by c [])) (put_at g.before c.0 g.log u) (put_at g.due c.0 [] u) g.since
+        (still.0.out u) j x
+    stays-shown u j x ne old =
+        put_both g.before g.due c.0 u g.log []
+        (λ b d. Shown deck u (items (w.fixed ++ fixed_by c [])) b d g.since (still.0.out u) j x) (λ e. absurd (ne e))
+        (λ z. go j x old)
       where
-        go : (j x : NodeState) → Shown deck u (items w.fixed) (g.before u) (g.due u) g.since (g.whole.out u) j x → Shown deck u (items (w.fixed ++ fixed_by c [])) (g.before u) (g.due u) g.since (still.0.out u) j x
+        go : (j x : NodeState) → Shown deck u (items w.fixed) (g.before u) (g.due u) g.since (g.whole.out u) j x
+            → Shown deck u (items (w.fixed ++ fixed_by c [])) (g.before u) (g.due u) g.since (still.0.out u) j x
         go j x (has_changed none) = has_changed none
         go j x (waits_yet y z shows none) = waits_yet y (record {
           alone = z.alone;
-          seen = subst (λ U. Seen deck u U (g.before u) (g.due u ++ g.since) (own_requests u (g.due u)) y) (sym (items-none w.fixed c)) z.seen;
+          seen =
+              subst (λ U. Seen deck u U (g.before u) (g.due u ++ g.since) (own_requests u (g.due u)) y)
+              (sym (items-none w.fixed c)) z.seen;
           away = z.away;
         }) shows (still.1 u ∙ none)
 
@@ -312,23 +450,55 @@ module _ (deck : Deck) (w : World) (g : IsChanging deck w) (c : SysId) (n : Node
       rounds_are = ap rounds (items-none w.fixed c) ∙ g.rounds_are;
       before = put_at g.before c.0 g.log;
       due = put_at g.due c.0 [];
-      parts = put_each g.before g.due c.0 g.log [] (λ u b d. g.log ≡ b ++ d) (sym (append-nil g.log)) (λ u ne. g.parts u);
+      parts =
+          put_each g.before g.due c.0 g.log [] (λ u b d. g.log ≡ b ++ d) (sym (append-nil g.log)) (λ u ne. g.parts u);
       message = message-closed w.medium turned.medium c g.before g.due g.log g.parts refl refl refl g.message;
       closed = g.closed;
       around = g.around;
       count = length-set w.nodes c.0 m ∙ g.count;
-      shown = by_node w.nodes c.0 n m at (λ u x. has w.medium.removed u ≡ false → (j : NodeState) × (slice_get g.view u ≡ Some j) × Shown deck u (items (w.fixed ++ fixed_by c [])) (put_at g.before c.0 g.log u) (put_at g.due c.0 [] u) g.since (still.0.out u) j x)
-          (λ l. (k, there, subst (λ x. Shown deck c.0 (items (w.fixed ++ fixed_by c [])) (put_at g.before c.0 g.log c.0) (put_at g.due c.0 [] c.0) g.since (still.0.out c.0) k x) (sym same) (has_changed (put_here g.due c.0 []))))
+      shown =
+          by_node w.nodes c.0 n m at (λ u x.
+          has w.medium.removed u ≡ false
+          → (j : NodeState) × (slice_get g.view u ≡ Some j)
+          × Shown deck u (items (w.fixed ++ fixed_by c [])) (put_at g.before c.0 g.log u) (put_at g.due c.0 [] u)
+          g.since (still.0.out u) j x)
+          (λ l. (
+            k,
+            there,
+            subst (λ x.
+                Shown deck c.0 (items (w.fixed ++ fixed_by c [])) (put_at g.before c.0 g.log c.0)
+                (put_at g.due c.0 [] c.0) g.since (still.0.out c.0) k x)
+                (sym same) (has_changed (put_here g.due c.0 [])),
+          ))
           (λ u x ne f l. let old = g.shown u x f l in (old.0, old.1, stays-shown u old.0 x ne old.2));
-      gone = by_node w.nodes c.0 n m at (λ u x. has w.medium.removed u ≡ true → x.star ≡ None) (λ l. no_truth (has w.medium.removed c.0) l unremoved) (λ u x ne f l. g.gone u x f l);
+      gone =
+          by_node w.nodes c.0 n m at (λ u x. has w.medium.removed u ≡ true → x.star ≡ None)
+          (λ l. no_truth (has w.medium.removed c.0) l unremoved) (λ u x ne f l. g.gone u x f l);
     }
 
-  pub turn-moved : (flags : ℕ) → has (live w.medium) c.0 ≡ true → IsMoved deck w c n (record { medium = record w.medium { message = turned_closed w.medium.message c; rest = flags }; step = only (change_to_star deck (read_entries deck n (unseen c w.medium.message.entries))) })
-  turn-moved flags alive = record { changing = goes flags (change_to_star deck (read_entries deck n (unseen c w.medium.message.entries))) (comes-to alive) alive; news = tells_tasks tells turn-done refl }
+  pub turn-moved : (flags : ℕ) → has (live w.medium) c.0 ≡ true
+      → IsMoved deck w c n (record {
+        medium = record w.medium { message = turned_closed w.medium.message c; rest = flags };
+        step = only (change_to_star deck (read_entries deck n (unseen c w.medium.message.entries)));
+      })
+  turn-moved flags alive = record {
+    changing =
+        goes flags (change_to_star deck (read_entries deck n (unseen c w.medium.message.entries))) (comes-to alive)
+        alive;
+    news = tells_tasks tells turn-done refl;
+  }
     where
-      tells : ToldNews deck c.0 (history (items (w.fixed ++ fixed_by c []))) n.tasks.told (change_to_star deck (read_entries deck n (unseen c w.medium.message.entries))).tasks.told
-      tells = subst (λ U. ToldNews deck c.0 (history U) n.tasks.told (change_to_star deck (read_entries deck n (unseen c w.medium.message.entries))).tasks.told) (sym (items-none w.fixed c))
-          (subst (λ (z : NodeState). ToldNews deck c.0 (history T) n.tasks.told z.tasks.told) (sym (comes-to alive ∙ is)) (view-news deck c.0 T (g.before c.0) (g.due c.0) g.since g.whole.right whole_now n h))
+      tells :
+          ToldNews deck c.0 (history (items (w.fixed ++ fixed_by c []))) n.tasks.told
+          (change_to_star deck (read_entries deck n (unseen c w.medium.message.entries))).tasks.told
+      tells =
+          subst (λ U.
+          ToldNews deck c.0 (history U) n.tasks.told
+          (change_to_star deck (read_entries deck n (unseen c w.medium.message.entries))).tasks.told)
+          (sym (items-none w.fixed c))
+          (subst (λ (z : NodeState). ToldNews deck c.0 (history T) n.tasks.told z.tasks.told)
+          (sym (comes-to alive ∙ is))
+          (view-news deck c.0 T (g.before c.0) (g.due c.0) g.since g.whole.right whole_now n h))
 
   -- whatever came of it
   pub waits-moved : has (live w.medium) c.0 ≡ true → (o : Turnout) → CameLate deck w c n o → IsMoved deck w c n o

@@ -25,7 +25,8 @@ pub record IsBack (deck : Deck) (w : World) (s : ℕ) (k' : NodeState) : Type 0 
   pub node : NodeState
   pub at : slice_get w.nodes s ≡ Some node
   pub star : k'.star ≡ node.star
-  pub has : (t : TaskId) (r : Res) → is_home_at deck s t ≡ true → is_systems r ≡ true → has_res r (state_of k'.tasks t).records ≡ has_res r (state_of node.tasks t).records
+  pub has : (t : TaskId) (r : Res) → is_home_at deck s t ≡ true → is_systems r ≡ true
+      → has_res r (state_of k'.tasks t).records ≡ has_res r (state_of node.tasks t).records
 
 -- the same system, with the same part
 pub record IsForth (w' : World) (s : ℕ) (k : NodeState) : Type 0 where
@@ -35,7 +36,8 @@ pub record IsForth (w' : World) (s : ℕ) (k : NodeState) : Type 0 where
 
 pub record SameShown (deck : Deck) (w w' : World) : Type 0 where
   pub removed : w'.medium.removed ≡ w.medium.removed
-  pub back : (s : ℕ) (k' : NodeState) → slice_get w'.nodes s ≡ Some k' → has w.medium.removed s ≡ false → IsBack deck w s k'
+  pub back : (s : ℕ) (k' : NodeState) → slice_get w'.nodes s ≡ Some k' → has w.medium.removed s ≡ false
+      → IsBack deck w s k'
   pub forth : (s : ℕ) (k : NodeState) → slice_get w.nodes s ≡ Some k → has w.medium.removed s ≡ false → IsForth w' s k
   pub boxes : (s : ℕ) → inbox w'.medium s ≡ inbox w.medium s
   pub lists : (r : Res) → is_systems r ≡ true → list_of (all_lists w') r ≡ list_of (all_lists w) r
@@ -45,48 +47,88 @@ module _ (deck : Deck) (w w' : World) (z : SameShown deck w w') where
   hands-alike : (t : TaskId) → IsInHands w t → IsInHands w' t
   hands-alike t i =
       let f = z.forth i.system i.node i.at i.live in
-      record { system = i.system; node = f.node; part = i.part; at = f.at; live = ap (λ m. has m i.system) z.removed ∙ i.live; star = f.star ∙ i.star; among = ap (λ ms. is_among t (askers (in_hands i.part ms))) (z.boxes i.system) ∙ i.among }
+      record {
+        system = i.system;
+        node = f.node;
+        part = i.part;
+        at = f.at;
+        live = ap (λ m. has m i.system) z.removed ∙ i.live;
+        star = f.star ∙ i.star;
+        among = ap (λ ms. is_among t (askers (in_hands i.part ms))) (z.boxes i.system) ∙ i.among;
+      }
 
   untold-alike : (s : ℕ) (t : TaskId) (r : Res) → IsUntold w s t r → IsUntold w' s t r
   untold-alike s t r i =
       let f = z.forth i.system i.node i.at i.live in
-      record { system = i.system; node = f.node; part = i.part; at = f.at; live = ap (λ m. has m i.system) z.removed ∙ i.live; star = f.star ∙ i.star; apart = i.apart; untold = i.untold }
+      record {
+        system = i.system;
+        node = f.node;
+        part = i.part;
+        at = f.at;
+        live = ap (λ m. has m i.system) z.removed ∙ i.live;
+        star = f.star ∙ i.star;
+        apart = i.apart;
+        untold = i.untold;
+      }
 
   pub heard-alike : (sent sent' : ℕ → TaskId → Bool) (had had' : ℕ → TaskId → Res → Bool) →
-      ((s : ℕ) (t : TaskId) → has w.medium.removed s ≡ false → is_home_at deck s t ≡ true → sent' s t ≡ true → sent s t ≡ true) →
-      ((s : ℕ) (k' : NodeState) (t : TaskId) (r : Res) → slice_get w'.nodes s ≡ Some k' → has w.medium.removed s ≡ false → is_home_at deck s t ≡ true → is_systems r ≡ true → had s t r ≡ true → had' s t r ≡ true) →
+      ((s : ℕ) (t : TaskId) → has w.medium.removed s ≡ false → is_home_at deck s t ≡ true → sent' s t ≡ true
+      → sent s t ≡ true)
+      →
+      ((s : ℕ) (k' : NodeState) (t : TaskId) (r : Res) → slice_get w'.nodes s ≡ Some k' → has w.medium.removed s ≡ false
+      → is_home_at deck s t ≡ true → is_systems r ≡ true → had s t r ≡ true → had' s t r ≡ true)
+      →
       IsHeard deck w sent had → IsHeard deck w' sent' had'
   heard-alike sent sent' had had' less more h = record {
-    requests = λ s k' t at live home e. let l = was s live in let b = z.back s k' at l in by-request s t (h.requests s b.node t b.at l home (less s t l home e));
+    requests = λ s k' t at live home e. let l = was s live in
+        let b = z.back s k' at l in
+        by-request s t (h.requests s b.node t b.at l home (less s t l home e));
     owners = λ s k' t r at live home wide own. let l = was s live in let b = z.back s k' at l in
-        by-owner s k' t r b home wide (λ e. more s k' t r at l home wide e) (h.owners s b.node t r b.at l home wide (ap (λ es. owns es t) (sym (z.lists r wide)) ∙ own));
+        by-owner s k' t r b home wide (λ e. more s k' t r at l home wide e)
+        (h.owners s b.node t r b.at l home wide (ap (λ es. owns es t) (sym (z.lists r wide)) ∙ own));
     recorded = λ s k' t r at live home wide has_it. let l = was s live in let b = z.back s k' at l in
-        by-record s k' t r b home wide (h.recorded s b.node t r b.at l home wide (ap (λ es. has_task es t) (sym (z.lists r wide)) ∙ has_it));
+        by-record s k' t r b home wide
+        (h.recorded s b.node t r b.at l home wide (ap (λ es. has_task es t) (sym (z.lists r wide)) ∙ has_it));
     mails = λ s. subst (AreAddressed deck) (sym (z.boxes s)) (h.mails s);
-    ranks = λ m k' p e x at live star managed. let l = was m live in let b = z.back m k' at l in let low = h.ranks m b.node p e x b.at l (sym b.star ∙ star) managed in let more = z.count in omega (arith, low, more);
+    ranks = λ m k' p e x at live star managed. let l = was m live in
+        let b = z.back m k' at l in
+        let low = h.ranks m b.node p e x b.at l (sym b.star ∙ star) managed in
+        let more = z.count in
+        omega (arith, low, more);
   }
     where
       was : (s : ℕ) → has w'.medium.removed s ≡ false → has w.medium.removed s ≡ false
       was s live = sym (ap (λ m. has m s) z.removed) ∙ live
 
-      by-request : (s : ℕ) (t : TaskId) → IsInHands w t ⊎ (list_any (is_timely t) (inbox w.medium s) ≡ true) → IsInHands w' t ⊎ (list_any (is_timely t) (inbox w'.medium s) ≡ true)
+      by-request : (s : ℕ) (t : TaskId) → IsInHands w t ⊎ (list_any (is_timely t) (inbox w.medium s) ≡ true)
+          → IsInHands w' t ⊎ (list_any (is_timely t) (inbox w'.medium s) ≡ true)
       by-request s t (inl i) = inl (hands-alike t i)
       by-request s t (inr e) = inr (ap (list_any (is_timely t)) (z.boxes s) ∙ e)
 
-      by-owner : (s : ℕ) (k' : NodeState) (t : TaskId) (r : Res) (b : IsBack deck w s k') → is_home_at deck s t ≡ true → is_systems r ≡ true → (had s t r ≡ true → had' s t r ≡ true) →
-          (had s t r ≡ true) ⊎ ((hears t r (has_res r (state_of b.node.tasks t).records) (inbox w.medium s) ≡ true) ⊎ IsUntold w s t r) →
-          (had' s t r ≡ true) ⊎ ((hears t r (has_res r (state_of k'.tasks t).records) (inbox w'.medium s) ≡ true) ⊎ IsUntold w' s t r)
+      by-owner : (s : ℕ) (k' : NodeState) (t : TaskId) (r : Res) (b : IsBack deck w s k') → is_home_at deck s t ≡ true
+          → is_systems r ≡ true → (had s t r ≡ true → had' s t r ≡ true) →
+          (had s t r ≡ true)
+          ⊎ ((hears t r (has_res r (state_of b.node.tasks t).records) (inbox w.medium s) ≡ true) ⊎ IsUntold w s t r)
+          →
+          (had' s t r ≡ true)
+          ⊎ ((hears t r (has_res r (state_of k'.tasks t).records) (inbox w'.medium s) ≡ true) ⊎ IsUntold w' s t r)
       by-owner s k' t r b home wide keep (inl e) = inl (keep e)
-      by-owner s k' t r b home wide keep (inr (inl e)) = inr (inl (ap (hears t r (has_res r (state_of k'.tasks t).records)) (z.boxes s) ∙ (ap (λ c. hears t r c (inbox w.medium s)) (b.has t r home wide) ∙ e)))
+      by-owner s k' t r b home wide keep (inr (inl e)) =
+          inr (inl (ap (hears t r (has_res r (state_of k'.tasks t).records)) (z.boxes s)
+          ∙ (ap (λ c. hears t r c (inbox w.medium s)) (b.has t r home wide) ∙ e)))
       by-owner s k' t r b home wide keep (inr (inr i)) = inr (inr (untold-alike s t r i))
 
-      by-record : (s : ℕ) (k' : NodeState) (t : TaskId) (r : Res) (b : IsBack deck w s k') → is_home_at deck s t ≡ true → is_systems r ≡ true →
-          (has_res r (state_of b.node.tasks t).records ≡ true) ⊎ (list_any (is_timely t) (inbox w.medium s) ≡ true) → (has_res r (state_of k'.tasks t).records ≡ true) ⊎ (list_any (is_timely t) (inbox w'.medium s) ≡ true)
+      by-record : (s : ℕ) (k' : NodeState) (t : TaskId) (r : Res) (b : IsBack deck w s k') → is_home_at deck s t ≡ true
+          → is_systems r ≡ true →
+          (has_res r (state_of b.node.tasks t).records ≡ true) ⊎ (list_any (is_timely t) (inbox w.medium s) ≡ true)
+          → (has_res r (state_of k'.tasks t).records ≡ true) ⊎ (list_any (is_timely t) (inbox w'.medium s) ≡ true)
       by-record s k' t r b home wide (inl e) = inl (b.has t r home wide ∙ e)
       by-record s k' t r b home wide (inr e) = inr (ap (list_any (is_timely t)) (z.boxes s) ∙ e)
 
 -- the same live systems stand there
-pub same-nodes : (deck : Deck) (w w' : World) → w'.medium.removed ≡ w.medium.removed → ((s : ℕ) → has w.medium.removed s ≡ false → slice_get w'.nodes s ≡ slice_get w.nodes s) → ((s : ℕ) → inbox w'.medium s ≡ inbox w.medium s) → items w'.fixed ≡ items w.fixed → SameShown deck w w'
+pub same-nodes : (deck : Deck) (w w' : World) → w'.medium.removed ≡ w.medium.removed
+    → ((s : ℕ) → has w.medium.removed s ≡ false → slice_get w'.nodes s ≡ slice_get w.nodes s)
+    → ((s : ℕ) → inbox w'.medium s ≡ inbox w.medium s) → items w'.fixed ≡ items w.fixed → SameShown deck w w'
 same-nodes deck w w' removed nodes boxes same = record {
   removed = removed;
   back = λ s k' at live. record { node = k'; at = sym (nodes s live) ∙ at; star = refl; has = λ t r home wide. refl };

@@ -40,50 +40,74 @@ same-none : (v : TasksView) → SameBut v v
 same-none v = record { here = λ t. refl; phase = λ t. refl; has = λ t r. refl; marks = λ t r. refl }
 
 same-then : (v w z : TasksView) → SameBut v w → SameBut w z → SameBut v z
-same-then v w z a b = record { here = λ t. b.here t ∙ a.here t; phase = λ t. b.phase t ∙ a.phase t; has = λ t r. b.has t r ∙ a.has t r; marks = λ t r. b.marks t r ∙ a.marks t r }
+same-then v w z a b = record {
+  here = λ t. b.here t ∙ a.here t;
+  phase = λ t. b.phase t ∙ a.phase t;
+  has = λ t r. b.has t r ∙ a.has t r;
+  marks = λ t r. b.marks t r ∙ a.marks t r;
+}
 
 same-rank : (v : TasksView) (u : TaskId) (r : Res) (k : ℕ) → is_task v u ≡ true → SameBut v (with_rank v u r k)
 same-rank v u r k here = record {
   here = did.changed.here;
   phase = λ t. by_place t (λ (a b : TaskState). b.phase ≡ a.phase) refl (λ e. ap (λ (y : TaskState). y.phase) e);
-  has = λ t q. by_place t (λ (a b : TaskState). has_res q b.records ≡ has_res q a.records) (has-on (ranked k) (λ z. refl) q r (state_of v u).records) (λ e. ap (λ (y : TaskState). has_res q y.records) e);
-  marks = λ t q. by_place t (λ (a b : TaskState). is_marked q b.records ≡ is_marked q a.records) (marked-on (ranked k) (λ z. refl) (λ z. refl) q r (state_of v u).records) (λ e. ap (λ (y : TaskState). is_marked q y.records) e);
+  has = λ t q.
+      by_place t (λ (a b : TaskState). has_res q b.records ≡ has_res q a.records)
+      (has-on (ranked k) (λ z. refl) q r (state_of v u).records) (λ e. ap (λ (y : TaskState). has_res q y.records) e);
+  marks = λ t q.
+      by_place t (λ (a b : TaskState). is_marked q b.records ≡ is_marked q a.records)
+      (marked-on (ranked k) (λ z. refl) (λ z. refl) q r (state_of v u).records)
+      (λ e. ap (λ (y : TaskState). is_marked q y.records) e);
 }
   where
-    did : Did v (with_rank v u r k) u (record (state_of v u) { records = on_record r (ranked k) (state_of v u).records }) v.told
+    did :
+        Did v (with_rank v u r k) u (record (state_of v u) { records = on_record r (ranked k) (state_of v u).records })
+        v.told
     did = did-rank v u r k here
 
-    by_place : (t : TaskId) (P : TaskState → TaskState → Type 0) → P (state_of v u) (record (state_of v u) { records = on_record r (ranked k) (state_of v u).records }) → (state_of (with_rank v u r k) t ≡ state_of v t → P (state_of v t) (state_of (with_rank v u r k) t)) → P (state_of v t) (state_of (with_rank v u r k) t)
+    by_place : (t : TaskId) (P : TaskState → TaskState → Type 0)
+        → P (state_of v u) (record (state_of v u) { records = on_record r (ranked k) (state_of v u).records })
+        → (state_of (with_rank v u r k) t ≡ state_of v t → P (state_of v t) (state_of (with_rank v u r k) t))
+        → P (state_of v t) (state_of (with_rank v u r k) t)
     by_place t P own other = go (t.task == u.task) refl
       where
         go : (b : Bool) → (t.task == u.task) ≡ b → P (state_of v t) (state_of (with_rank v u r k) t)
         go true e =
             let same : t.task ≡ u.task = eqb-true t.task u.task e in
-            subst (λ y. P y (state_of (with_rank v u r k) t)) (sym (at-place v u t same)) (subst (P (state_of v u)) (sym (at-place (with_rank v u r k) u t same ∙ did.state)) own)
+            subst (λ y. P y (state_of (with_rank v u r k) t)) (sym (at-place v u t same))
+            (subst (P (state_of v u)) (sym (at-place (with_rank v u r k) u t same ∙ did.state)) own)
         go false e = other (did.changed.others t (eqb-false t.task u.task e))
 
 same-by : (v : TasksView) (r : Res) (u : TaskId) (k : ℕ) → SameBut v (with_rank_by v r u k)
-same-by v r u k = by_test (SameBut v) (is_task v u) (with_rank v u r k) v (λ here. same-rank v u r k here) (λ away. same-none v)
+same-by v r u k =
+    by_test (SameBut v) (is_task v u) (with_rank v u r k) v (λ here. same-rank v u r k here) (λ away. same-none v)
 
 same-list : (v : TasksView) (r : Res) (es : List Elem) (ns : List ℕ) → SameBut v (with_list_ranks v r es ns)
 same-list v r [] ns = same-none v
 same-list v r (e ∷ es) [] = same-none v
-same-list v r (e ∷ es) (n ∷ ns) = same-then v (with_rank_by v r e.task n) (with_list_ranks (with_rank_by v r e.task n) r es ns) (same-by v r e.task n) (same-list (with_rank_by v r e.task n) r es ns)
+same-list v r (e ∷ es) (n ∷ ns) =
+    same-then v (with_rank_by v r e.task n) (with_list_ranks (with_rank_by v r e.task n) r es ns) (same-by v r e.task n)
+    (same-list (with_rank_by v r e.task n) r es ns)
 
 same-ranks : (v : TasksView) (xs : List RankedRow) → SameBut v (with_ranks v xs)
 same-ranks v [] = same-none v
-same-ranks v (x ∷ xs) = same-then v (with_list_ranks v x.0.res x.0.elems x.1) (with_ranks (with_list_ranks v x.0.res x.0.elems x.1) xs) (same-list v x.0.res x.0.elems x.1) (same-ranks (with_list_ranks v x.0.res x.0.elems x.1) xs)
+same-ranks v (x ∷ xs) =
+    same-then v (with_list_ranks v x.0.res x.0.elems x.1) (with_ranks (with_list_ranks v x.0.res x.0.elems x.1) xs)
+    (same-list v x.0.res x.0.elems x.1) (same-ranks (with_list_ranks v x.0.res x.0.elems x.1) xs)
 
 -- ---- the change
 -- System s, whose outbox has no looks, has processed all.
 module _ (deck : Deck) (s : ℕ) (m : NodeState) (box : one_by_one m.tasks m.outbox ≡ m.tasks) where
   pub change-same : SameBut m.tasks (change_to_star deck m).tasks
   unfolding change_to_star
-  change-same = subst (λ (v : TasksView). SameBut v (with_ranks (one_by_one m.tasks m.outbox) (ranked_by deck.entries m.shared))) box (same-ranks (one_by_one m.tasks m.outbox) (ranked_by deck.entries m.shared))
+  change-same =
+      subst (λ (v : TasksView). SameBut v (with_ranks (one_by_one m.tasks m.outbox) (ranked_by deck.entries m.shared)))
+      box (same-ranks (one_by_one m.tasks m.outbox) (ranked_by deck.entries m.shared))
 
   change-date : AllDate deck m.tasks → AllDate deck (change_to_star deck m).tasks
   unfolding change_to_star
-  change-date h = date-ranks deck (ranked_by deck.entries m.shared) (one_by_one m.tasks m.outbox) (subst (AllDate deck) (sym box) h)
+  change-date h =
+      date-ranks deck (ranked_by deck.entries m.shared) (one_by_one m.tasks m.outbox) (subst (AllDate deck) (sym box) h)
 
   change-own : (change_to_star deck m).own ≡ m.own
   unfolding change_to_star
@@ -91,18 +115,24 @@ module _ (deck : Deck) (s : ℕ) (m : NodeState) (box : one_by_one m.tasks m.out
 
   module _ (h : IsRead deck s m []) where
     pub change-dated : IsDated deck s (change_to_star deck m)
-    change-dated = dated-by deck s m (change_to_star deck m) change-own (record { date = h.date; own = h.own }) (record {
-      date = change-date h.date;
-      here = change-same.here;
-      local = λ t r l. (change-same.has t r, λ k. change-same.marks t r ∙ k);
-    })
+    change-dated =
+        dated-by deck s m (change_to_star deck m) change-own (record { date = h.date; own = h.own }) (record {
+          date = change-date h.date;
+          here = change-same.here;
+          local = λ t r l. (change-same.has t r, λ k. change-same.marks t r ∙ k);
+        })
 
     -- nothing is outstanding
-    pub change-unsent : (t : TaskId) (ls : List Meaning) → IsOurs deck s m.tasks t ls → is_sent (state_of (change_to_star deck m).tasks t).phase ≡ false
-    change-unsent t ls ours = false_by (is_sent (state_of (change_to_star deck m).tasks t).phase) (λ e. absurd (let no : false ≡ true = h.sent t ls ours (ap is_sent (sym (change-same.phase t)) ∙ e) in cc))
+    pub change-unsent : (t : TaskId) (ls : List Meaning) → IsOurs deck s m.tasks t ls
+        → is_sent (state_of (change_to_star deck m).tasks t).phase ≡ false
+    change-unsent t ls ours =
+        false_by (is_sent (state_of (change_to_star deck m).tasks t).phase)
+        (λ e. absurd (let no : false ≡ true = h.sent t ls ours (ap is_sent (sym (change-same.phase t)) ∙ e) in cc))
 
-    pub change-has : (t : TaskId) (ls : List Meaning) (r : Res) → IsOurs deck s m.tasks t ls → is_systems r ≡ true → has_res r (state_of (change_to_star deck m).tasks t).records ≡ has_task (list_of m.shared r) t
+    pub change-has : (t : TaskId) (ls : List Meaning) (r : Res) → IsOurs deck s m.tasks t ls → is_systems r ≡ true
+        → has_res r (state_of (change_to_star deck m).tasks t).records ≡ has_task (list_of m.shared r) t
     change-has t ls r ours wide = change-same.has t r ∙ (h.shared t ls ours).same r wide
 
-    pub change-had : (t : TaskId) (ls : List Meaning) (r : Res) → IsOurs deck s m.tasks t ls → is_systems r ≡ true → owns (list_of m.shared r) t ≡ true → is_marked r (state_of (change_to_star deck m).tasks t).records ≡ true
+    pub change-had : (t : TaskId) (ls : List Meaning) (r : Res) → IsOurs deck s m.tasks t ls → is_systems r ≡ true
+        → owns (list_of m.shared r) t ≡ true → is_marked r (state_of (change_to_star deck m).tasks t).records ≡ true
     change-had t ls r ours wide own = change-same.marks t r ∙ (h.shared t ls ours).told r wide own

@@ -28,10 +28,12 @@ module _ (deck : Deck) (is_deck : IsDeck deck) (es : List Event) (rest : at_rest
   fits h = record { few = is_deck.fits.few; entries = is_deck.entries }
 
   -- each live system, in either mode
-  pub all-still : (s : ℕ) (n : NodeState) → slice_get (run deck es).nodes s ≡ Some n → has (run deck es).medium.removed s ≡ false → IsStill deck s (items (run deck es).fixed) n
+  pub all-still : (s : ℕ) (n : NodeState) → slice_get (run deck es).nodes s ≡ Some n
+      → has (run deck es).medium.removed s ≡ false → IsStill deck s (items (run deck es).fixed) n
   all-still = go (every_run deck fits es)
     where
-      go : GoodRun deck es (run deck es) → (s : ℕ) (n : NodeState) → slice_get (run deck es).nodes s ≡ Some n → has (run deck es).medium.removed s ≡ false → IsStill deck s (items (run deck es).fixed) n
+      go : GoodRun deck es (run deck es) → (s : ℕ) (n : NodeState) → slice_get (run deck es).nodes s ≡ Some n
+          → has (run deck es).medium.removed s ≡ false → IsStill deck s (items (run deck es).fixed) n
       go (in_ring begins ring g d) = still-ring deck es (run deck es) ring g (ring_read deck fits es ring.mode) rest
       go (in_star f g told d) = still-star deck (run deck es) g (restful_run deck is_deck es g.whole.roles.mode) rest
 
@@ -55,4 +57,9 @@ module _ (deck : Deck) (is_deck : IsDeck deck) (es : List Event) (rest : at_rest
 
 -- so nothing is lost
 pub rests : (deck : Deck) → IsDeck deck → (es : List Event) → RestsInTheEnd deck es
-rests deck is_deck es rest = record { owners = owners-at-rest deck is_deck es rest; replies = replies-at-rest deck is_deck es rest; tasks = tasks-at-rest deck is_deck es rest; units = units-at-rest deck is_deck es rest }
+rests deck is_deck es rest = record {
+  owners = owners-at-rest deck is_deck es rest;
+  replies = replies-at-rest deck is_deck es rest;
+  tasks = tasks-at-rest deck is_deck es rest;
+  units = units-at-rest deck is_deck es rest;
+}

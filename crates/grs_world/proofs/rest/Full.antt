@@ -1,5 +1,6 @@
 -- As many tasks as there are of a system there are of it in the deck, in every run: no event makes or ends one.
-use Rattle.std.proofs.Common.{◌≡◌, ℕ, zero, suc, Bool, true, false, cond, List, [], ◌∷◌, length, take, Option, Some, None, refl, ap, ◌∙◌}
+use Rattle.std.proofs.Common.{◌≡◌, ℕ, zero, suc, Bool, true, false, cond, List, [], ◌∷◌, length, take, Option, Some}
+use Rattle.std.proofs.Common.{None, refl, ap, ◌∙◌}
 use Rattle.std.specs.Prelude.{is_none, slice_get}
 use Rattle.grs_base.specs.declared.decision.Code.{Code}
 use Rattle.grs_base.specs.declared.decision.Code.TheVariants.{C00, C04, C08, C14, C18, Wait, End}
@@ -10,7 +11,9 @@ use Rattle.grs_base.specs.declared.resource.TaskId.{TaskId}
 use Rattle.grs_legal.specs.Asks.{lines_of, scripts_of}
 use Rattle.grs_medium.specs.Apply.{reply_to}
 use Rattle.grs_medium.specs.Medium.{MediumState}
-use Rattle.grs_node.specs.Star.{StarPart, answer_for, begin_at, begun, decide_own, entry_asked, first_held, fixing_none, leave_step, own_step, owners_by, rank_of, request_of, send_step, sent_to, serves, settle_step, settled_by, settled_first, tell_step, took_mail}
+use Rattle.grs_node.specs.Star.{StarPart, answer_for, begin_at, begun, decide_own, entry_asked, first_held, fixing_none}
+use Rattle.grs_node.specs.Star.{leave_step, own_step, owners_by, rank_of, request_of, send_step, sent_to, serves}
+use Rattle.grs_node.specs.Star.{settle_step, settled_by, settled_first, tell_step, took_mail}
 use Rattle.grs_node.specs.declared.prepared.Prepared.{Prepared}
 use Rattle.grs_node.specs.declared.prepared.Prepared.TheVariants.{Call, Nothing, Quiet}
 use Rattle.grs_wire.specs.declared.deck.Choice.{Choice}
@@ -29,7 +32,10 @@ use Rattle.grs_world.specs.World.{Turnout, World, carry_out, chosen, placed, run
 use Rattle.grs_legal.specs.declared.meaning.Meaning.{Meaning}
 use Rattle.grs_legal.specs.declared.meaning.Meaning.TheVariants as lines
 use Rattle.grs_node.specs.Change.{one_by_one, with_first_look, with_list_ranks, with_rank_by, with_ranks}
-use Rattle.grs_node.specs.Node.{NodeState, Step, all_sent, ask, change_to_star, decide, desk_told, end_step, finish, finish_call, finish_quiet, finish_star, first_node, is_for_deck, is_of_deck, phase_step, post, prepare, put_in, read_entries, read_entry, ready_step, send_own, star_step, switched, take_line, take_step, task_step, turned, wait, with_side, with_tasks, purged}
+use Rattle.grs_node.specs.Node.{NodeState, Step, all_sent, ask, change_to_star, decide, desk_told, end_step, finish}
+use Rattle.grs_node.specs.Node.{finish_call, finish_quiet, finish_star, first_node, is_for_deck, is_of_deck, phase_step}
+use Rattle.grs_node.specs.Node.{post, prepare, put_in, read_entries, read_entry, ready_step, send_own, star_step}
+use Rattle.grs_node.specs.Node.{switched, take_line, take_step, task_step, turned, wait, with_side, with_tasks, purged}
 use Rattle.grs_wire.specs.Wants.{answer_to, new_owners, res_wanted}
 use Rattle.grs_wire.specs.declared.deck.Deck.{Deck}
 use Rattle.grs_wire.specs.declared.medium.RingBody.{RingBody}
@@ -46,15 +52,20 @@ use Rattle.grs_wire.specs.declared.told.Verb.TheVariants as verbs
 use Rattle.lock_structure.specs.RankedRows.{RankedRow}
 use Rattle.mode_migrate.specs.Migrate.{ranked_by}
 use Rattle.ring_mode.specs.Ring.{answer_own, is_for_all, process, process_entry, side_of}
-use Rattle.star_client.specs.Client.{after_mail, has_effect, tell_answer_any_ranked, tell_answer_ranked, unrecorded, with_rank_of}
-use Rattle.task_state.specs.Replies.{after_code, is_granted, is_held_for, is_leaving, passes_wait, phase_after, recalled, record_enq, replied, tell_all, tell_answer, tell_answer_any, tell_code, tell_control, tell_line, tell_new, tell_untold}
-use Rattle.task_state.specs.View.{TasksView, is_task, new_tasks, record_of, state_of, telling, with_line, with_phase, with_rank, with_told, without_record}
+use Rattle.star_client.specs.Client.{after_mail, has_effect, tell_answer_any_ranked, tell_answer_ranked, unrecorded}
+use Rattle.star_client.specs.Client.{with_rank_of}
+use Rattle.task_state.specs.Replies.{after_code, is_granted, is_held_for, is_leaving, passes_wait, phase_after}
+use Rattle.task_state.specs.Replies.{recalled, record_enq, replied, tell_all, tell_answer, tell_answer_any, tell_code}
+use Rattle.task_state.specs.Replies.{tell_control, tell_line, tell_new, tell_untold}
+use Rattle.task_state.specs.View.{TasksView, is_task, new_tasks, record_of, state_of, telling, with_line, with_phase}
+use Rattle.task_state.specs.View.{with_rank, with_told, without_record}
 use Rattle.task_state.specs.declared.state.Asked.{Asked}
 use Rattle.task_state.specs.declared.state.Phase.{Phase}
 use Rattle.task_state.specs.declared.state.Phase.TheVariants as phases
 use Rattle.task_state.specs.declared.state.Rec.{Rec}
 use Rattle.task_state.proofs.Keeps.{count-enq}
-use Rattle.task_state.proofs.Stays.{count-line, count-outstanding, count-phase, count-rank, count-telling, count-told, count-without}
+use Rattle.task_state.proofs.Stays.{count-line, count-outstanding, count-phase, count-rank, count-telling, count-told}
+use Rattle.task_state.proofs.Stays.{count-without}
 use Rattle.grs_base.specs.Rows.{rows_of}
 use Rattle.grs_base.specs.declared.resource.Row.{Row}
 use Rattle.system_purge.specs.Purge.{freed, tell_freed}
@@ -78,36 +89,51 @@ size-code v t verb C14 = count-telling v _
 size-code v t verb C18 = count-telling v _
 size-code v t verb (End n) = count-telling v _
 
-size-after : (v : TasksView) (t : TaskId) (w : Want) (unit : Option ℕ) (code : Code) → size (after_code v t w unit code) ≡ size v
+size-after : (v : TasksView) (t : TaskId) (w : Want) (unit : Option ℕ) (code : Code)
+    → size (after_code v t w unit code) ≡ size v
 unfolding after_code
-size-after v t (Enq r c ret full) unit code = size-code (with_phase (record_enq v t r c unit ret code) t (phase_after code)) t verbs.Enq code ∙ (count-phase (record_enq v t r c unit ret code) t (phase_after code) ∙ count-enq v t r c unit ret code)
-size-after v t (Deq r have) unit code = size-code (with_phase (cond (is_granted code) (without_record v t r) v) t (phase_after code)) t verbs.Deq code ∙ (count-phase (cond (is_granted code) (without_record v t r) v) t (phase_after code) ∙ by_both (is_granted code) (without_record v t r) v (size v) (count-without v t r) refl)
+size-after v t (Enq r c ret full) unit code =
+    size-code (with_phase (record_enq v t r c unit ret code) t (phase_after code)) t verbs.Enq code
+    ∙ (count-phase (record_enq v t r c unit ret code) t (phase_after code) ∙ count-enq v t r c unit ret code)
+size-after v t (Deq r have) unit code =
+    size-code (with_phase (cond (is_granted code) (without_record v t r) v) t (phase_after code)) t verbs.Deq code
+    ∙ (count-phase (cond (is_granted code) (without_record v t r) v) t (phase_after code)
+    ∙ by_both (is_granted code) (without_record v t r) v (size v) (count-without v t r) refl)
 size-after v t (Release r) unit code = count-without v t r
 size-after v t (Look first count filter) unit code = refl
 
-size-replied : (v : TasksView) (t : TaskId) (w : Want) (unit : Option ℕ) (a : Answer) → size (replied v t w unit a) ≡ size v
+size-replied : (v : TasksView) (t : TaskId) (w : Want) (unit : Option ℕ) (a : Answer)
+    → size (replied v t w unit a) ≡ size v
 unfolding replied
 size-replied v t w unit (Coded code) = size-after v t w unit code
 size-replied v t w unit (Rows rows) = refl
 
 size-pass : (v : TasksView) (t : TaskId) (r : Res) → size (passes_wait v t r) ≡ size v
 unfolding passes_wait
-size-pass v t r = by_both (is_held_for r (state_of v t).phase) (telling (with_phase v t phases.Ready) _) v (size v) (count-telling (with_phase v t phases.Ready) _ ∙ count-phase v t phases.Ready) refl
+size-pass v t r =
+    by_both (is_held_for r (state_of v t).phase) (telling (with_phase v t phases.Ready) _) v (size v)
+    (count-telling (with_phase v t phases.Ready) _ ∙ count-phase v t phases.Ready) refl
 
 size-line : (v : TasksView) (t : TaskId) (r : Res) (k : ℕ) → size (tell_line v t r k) ≡ size v
 unfolding tell_line
 size-line v t r k = by_both _ _ _ (size v)
-    (count-telling (with_phase (with_told v t r) t phases.Ready) _ ∙ (count-phase (with_told v t r) t phases.Ready ∙ count-told v t r))
-    (size-pass (telling (with_told v t r) (told.Post t k)) t r ∙ (count-telling (with_told v t r) (told.Post t k) ∙ count-told v t r))
+    (count-telling (with_phase (with_told v t r) t phases.Ready) _
+    ∙ (count-phase (with_told v t r) t phases.Ready ∙ count-told v t r))
+    (size-pass (telling (with_told v t r) (told.Post t k)) t r
+    ∙ (count-telling (with_told v t r) (told.Post t k) ∙ count-told v t r))
 
 size-untold : (v : TasksView) (t : TaskId) (r : Res) (o : Option Rec) → size (tell_untold v t r o) ≡ size v
 unfolding tell_untold
 size-untold v t r None = refl
-size-untold v t r (Some x) = by_both x.told v _ (size v) refl (by_both (is_leaving r (state_of v t).outstanding) (with_told v t r) (tell_line v t r x.line) (size v) (count-told v t r) (size-line v t r x.line))
+size-untold v t r (Some x) =
+    by_both x.told v _ (size v) refl (by_both (is_leaving r (state_of v t).outstanding) (with_told v t r)
+    (tell_line v t r x.line) (size v) (count-told v t r) (size-line v t r x.line))
 
 size-control : (v : TasksView) (r : Res) (t : TaskId) → size (tell_control v r t) ≡ size v
 unfolding tell_control
-size-control v r t = by_both (is_task v t) (tell_untold v t r (record_of (state_of v t).records r)) v (size v) (size-untold v t r (record_of (state_of v t).records r)) refl
+size-control v r t =
+    by_both (is_task v t) (tell_untold v t r (record_of (state_of v t).records r)) v (size v)
+    (size-untold v t r (record_of (state_of v t).records r)) refl
 
 size-all : (r : Res) (ts : List TaskId) (v : TasksView) → size (tell_all v r ts) ≡ size v
 unfolding tell_all
@@ -121,7 +147,9 @@ size-new v (Some r) ts = size-all r ts v
 
 size-answer : (v : TasksView) (t : TaskId) (a : Asked) (answer : Answer) → size (tell_answer v t a answer) ≡ size v
 unfolding tell_answer recalled
-size-answer v t a answer = size-replied (recalled v t a.req.want) t a.req.want a.unit answer ∙ (count-outstanding (with_phase v t _) t None ∙ count-phase v t _)
+size-answer v t a answer =
+    size-replied (recalled v t a.req.want) t a.req.want a.unit answer
+    ∙ (count-outstanding (with_phase v t _) t None ∙ count-phase v t _)
 
 size-own : (v : TasksView) (q : Req) (answer : Answer) → size (answer_own v q answer) ≡ size v
 unfolding answer_own tell_answer_any
@@ -131,7 +159,8 @@ size-own v q answer = by_both _ _ v (size v) (go (state_of v q.task).outstanding
     go None = refl
     go (Some a) = size-answer v q.task a answer
 
-size-ranked : (v : TasksView) (t : TaskId) (a : Asked) (answer : Answer) (rank : ℕ) → size (tell_answer_ranked v t a answer rank) ≡ size v
+size-ranked : (v : TasksView) (t : TaskId) (a : Asked) (answer : Answer) (rank : ℕ)
+    → size (tell_answer_ranked v t a answer rank) ≡ size v
 unfolding tell_answer_ranked
 size-ranked v t a answer rank = go (unrecorded v t (res_wanted a.req.want))
   where
@@ -142,7 +171,9 @@ size-ranked v t a answer rank = go (unrecorded v t (res_wanted a.req.want))
 size-mail : (v : TasksView) (m : Mail) → size (after_mail v m) ≡ size v
 unfolding after_mail
 size-mail v (RequestMail e from q) = refl
-size-mail v (AnsweredMail t answer rank) = by_both (has_effect v t answer rank) (tell_answer_any_ranked v t answer rank (state_of v t).outstanding) v (size v) (go (state_of v t).outstanding) refl
+size-mail v (AnsweredMail t answer rank) =
+    by_both (has_effect v t answer rank) (tell_answer_any_ranked v t answer rank (state_of v t).outstanding) v (size v)
+    (go (state_of v t).outstanding) refl
   where
     go : (o : Option Asked) → size (tell_answer_any_ranked v t answer rank o) ≡ size v
     go None = refl
@@ -158,7 +189,9 @@ size-sent (q ∷ qs) v = size-sent qs (with_phase v q.task phases.Sent) ∙ coun
 size-list : (r : Res) (es : List Elem) (ns : List ℕ) (v : TasksView) → size (with_list_ranks v r es ns) ≡ size v
 size-list r [] ns v = refl
 size-list r (e ∷ es) [] v = refl
-size-list r (e ∷ es) (n ∷ ns) v = size-list r es ns (with_rank_by v r e.task n) ∙ by_both (is_task v e.task) (with_rank v e.task r n) v (size v) (count-rank v e.task r n) refl
+size-list r (e ∷ es) (n ∷ ns) v =
+    size-list r es ns (with_rank_by v r e.task n)
+    ∙ by_both (is_task v e.task) (with_rank v e.task r n) v (size v) (count-rank v e.task r n) refl
 
 size-ranks : (xs : List RankedRow) (v : TasksView) → size (with_ranks v xs) ≡ size v
 size-ranks [] v = refl
@@ -176,16 +209,21 @@ size-looks (q ∷ qs) v = size-looks qs (with_first_look v q.task q.want) ∙ si
 
 size-changed : (deck : Deck) (n : NodeState) → size (change_to_star deck n).tasks ≡ size n.tasks
 unfolding change_to_star
-size-changed deck n = size-ranks (ranked_by deck.entries n.shared) (one_by_one n.tasks n.outbox) ∙ size-looks n.outbox n.tasks
+size-changed deck n =
+    size-ranks (ranked_by deck.entries n.shared) (one_by_one n.tasks n.outbox) ∙ size-looks n.outbox n.tasks
 
 -- ---- a task goes on
-step_both : (b : Bool) (x y : Step) (k : ℕ) → size x.node.tasks ≡ k → size y.node.tasks ≡ k → size (cond b x y).node.tasks ≡ k
+step_both : (b : Bool) (x y : Step) (k : ℕ) → size x.node.tasks ≡ k → size y.node.tasks ≡ k
+    → size (cond b x y).node.tasks ≡ k
 step_both true x y k f g = f
 step_both false x y k f g = g
 
-size-decide : (n : NodeState) (t : TaskId) (w : Want) (unit : Option ℕ) → size (decide n t w unit).node.tasks ≡ size n.tasks
+size-decide : (n : NodeState) (t : TaskId) (w : Want) (unit : Option ℕ)
+    → size (decide n t w unit).node.tasks ≡ size n.tasks
 unfolding decide
-size-decide n t w unit = size-new (replied n.tasks t w unit (answer_to n.own t w)) (res_wanted w) (new_owners n.own t w) ∙ size-replied n.tasks t w unit (answer_to n.own t w)
+size-decide n t w unit =
+    size-new (replied n.tasks t w unit (answer_to n.own t w)) (res_wanted w) (new_owners n.own t w)
+    ∙ size-replied n.tasks t w unit (answer_to n.own t w)
 
 size-post : (n : NodeState) (t : TaskId) (w : Want) (unit : Option ℕ) → size (post n t w unit).node.tasks ≡ size n.tasks
 unfolding post
@@ -193,14 +231,19 @@ size-post n t w unit = count-outstanding (with_phase n.tasks t phases.ToSend) t 
 
 size-ask : (n : NodeState) (t : TaskId) (w : Want) (unit : Option ℕ) → size (ask n t w unit).node.tasks ≡ size n.tasks
 unfolding ask
-size-ask n t w unit = step_both (is_for_all (res_wanted w)) (post n t w unit) (decide n t w unit) (size n.tasks) (size-post n t w unit) (size-decide n t w unit)
+size-ask n t w unit =
+    step_both (is_for_all (res_wanted w)) (post n t w unit) (decide n t w unit) (size n.tasks) (size-post n t w unit)
+    (size-decide n t w unit)
 
 size-wait : (v : TasksView) (t : TaskId) (r : Res) (o : Option Rec) → size (wait v t r o) ≡ size v
 unfolding wait
 size-wait v t r None = size-code v t verbs.Wait C08
-size-wait v t r (Some x) = by_both x.told (tell_code v t verbs.Wait C00) (with_phase v t (phases.HeldLine r)) (size v) (size-code v t verbs.Wait C00) (count-phase v t (phases.HeldLine r))
+size-wait v t r (Some x) =
+    by_both x.told (tell_code v t verbs.Wait C00) (with_phase v t (phases.HeldLine r)) (size v)
+    (size-code v t verbs.Wait C00) (count-phase v t (phases.HeldLine r))
 
-size-take : (limit : ℕ) (n : NodeState) (t : TaskId) (l : Meaning) → size (take_line limit n t l).node.tasks ≡ size n.tasks
+size-take : (limit : ℕ) (n : NodeState) (t : TaskId) (l : Meaning)
+    → size (take_line limit n t l).node.tasks ≡ size n.tasks
 unfolding take_line
 size-take limit n t (lines.Enq r c ret unit) = size-ask n t _ unit
 size-take limit n t (lines.Deq r have) = size-ask n t (Deq r have) None
@@ -212,12 +255,17 @@ unfolding end_step
 size-end n t c [] = count-telling (with_phase n.tasks t phases.Ended) _ ∙ count-phase n.tasks t phases.Ended
 size-end n t c (x ∷ xs) = size-ask n t (Release x.res) None
 
-size-ready : (limit : ℕ) (n : NodeState) (t : TaskId) (o : Option Meaning) → size (ready_step limit n t o).node.tasks ≡ size n.tasks
+size-ready : (limit : ℕ) (n : NodeState) (t : TaskId) (o : Option Meaning)
+    → size (ready_step limit n t o).node.tasks ≡ size n.tasks
 unfolding ready_step
-size-ready limit n t None = size-end (with_tasks n (with_phase n.tasks t (phases.Ending 0))) t 0 (state_of (with_phase n.tasks t (phases.Ending 0)) t).records ∙ count-phase n.tasks t (phases.Ending 0)
+size-ready limit n t None =
+    size-end (with_tasks n (with_phase n.tasks t (phases.Ending 0))) t 0
+    (state_of (with_phase n.tasks t (phases.Ending 0)) t).records
+    ∙ count-phase n.tasks t (phases.Ending 0)
 size-ready limit n t (Some l) = size-take limit (with_tasks n (with_line n.tasks t)) t l ∙ count-line n.tasks t
 
-size-phase : (limit : ℕ) (n : NodeState) (t : TaskId) (ls : List Meaning) (p : Phase) → size (phase_step limit n t ls p).node.tasks ≡ size n.tasks
+size-phase : (limit : ℕ) (n : NodeState) (t : TaskId) (ls : List Meaning) (p : Phase)
+    → size (phase_step limit n t ls p).node.tasks ≡ size n.tasks
 unfolding phase_step
 size-phase limit n t ls phases.Ready = size-ready limit n t (slice_get ls (state_of n.tasks t).line)
 size-phase limit n t ls (phases.Ending c) = size-end n t c (state_of n.tasks t).records
@@ -227,7 +275,8 @@ size-phase limit n t ls phases.ToSend = refl
 size-phase limit n t ls phases.Sent = refl
 size-phase limit n t ls phases.Ended = refl
 
-size-step : (limit : ℕ) (n : NodeState) (t : TaskId) (o : Option (List Meaning)) → size (task_step limit n t o).node.tasks ≡ size n.tasks
+size-step : (limit : ℕ) (n : NodeState) (t : TaskId) (o : Option (List Meaning))
+    → size (task_step limit n t o).node.tasks ≡ size n.tasks
 size-step limit n t None = refl
 size-step limit n t (Some ls) = size-phase limit n t ls (state_of n.tasks t).phase
 
@@ -235,18 +284,24 @@ size-step limit n t (Some ls) = size-phase limit n t ls (state_of n.tasks t).pha
 size-freed : (s : ℕ) (rows : List Row) (v : TasksView) → size (tell_freed v s rows) ≡ size v
 unfolding tell_freed
 size-freed s [] v = refl
-size-freed s (x ∷ xs) v = size-freed s xs (tell_new v (Some x.res) (freed s x.res x.elems)) ∙ size-new v (Some x.res) (freed s x.res x.elems)
+size-freed s (x ∷ xs) v =
+    size-freed s xs (tell_new v (Some x.res) (freed s x.res x.elems)) ∙ size-new v (Some x.res) (freed s x.res x.elems)
 
 size-process : (n : NodeState) (q : Req) → size (process (side_of n.tasks n.shared) q).tasks ≡ size n.tasks
 unfolding process
-size-process n q = size-new (answer_own n.tasks q (answer_to n.shared q.task q.want)) (res_wanted q.want) (new_owners n.shared q.task q.want) ∙ size-own n.tasks q (answer_to n.shared q.task q.want)
+size-process n q =
+    size-new (answer_own n.tasks q (answer_to n.shared q.task q.want)) (res_wanted q.want)
+    (new_owners n.shared q.task q.want)
+    ∙ size-own n.tasks q (answer_to n.shared q.task q.want)
 
 size-entry : (deck : Deck) (n : NodeState) (b : RingBody) → size (read_entry deck n b).tasks ≡ size n.tasks
 unfolding process_entry
 size-entry deck n (Remove target) = size-freed target.0 (rows_of n.shared) n.tasks
 size-entry deck n (Request q) = go (is_of_deck deck q.task) (is_for_all (res_wanted q.want))
   where
-    go : (a b : Bool) → size (cond a (with_side n (cond b (process (side_of n.tasks n.shared) q) (side_of n.tasks n.shared))) n).tasks ≡ size n.tasks
+    go : (a b : Bool)
+        → size (cond a (with_side n (cond b (process (side_of n.tasks n.shared) q) (side_of n.tasks n.shared))) n).tasks
+        ≡ size n.tasks
     go true true = size-process n q
     go true false = refl
     go false b = refl
@@ -260,10 +315,13 @@ size-put : (n : NodeState) (taken : ℕ) → size (put_in n taken).node.tasks �
 unfolding put_in
 size-put n taken = size-sent (take taken n.outbox) n.tasks
 
-size-turned : (deck : Deck) (n : NodeState) (es : List RingEntry) (taken : ℕ) (closed : Bool) → size (turned deck n es taken closed).node.tasks ≡ size n.tasks
+size-turned : (deck : Deck) (n : NodeState) (es : List RingEntry) (taken : ℕ) (closed : Bool)
+    → size (turned deck n es taken closed).node.tasks ≡ size n.tasks
 unfolding turned
 size-turned deck n es taken closed = step_both _ _ (put_in (read_entries deck n es) taken) (size n.tasks)
-    (size-changed deck (put_in (read_entries deck n es) taken).node ∙ (size-put (read_entries deck n es) taken ∙ size-entries deck es n)) (size-put (read_entries deck n es) taken ∙ size-entries deck es n)
+    (size-changed deck (put_in (read_entries deck n es) taken).node
+    ∙ (size-put (read_entries deck n es) taken ∙ size-entries deck es n))
+    (size-put (read_entries deck n es) taken ∙ size-entries deck es n)
 
 size-desk : (n : NodeState) (said : Said) → size (desk_told n said).tasks ≡ size n.tasks
 unfolding desk_told
@@ -281,9 +339,13 @@ size-switched deck n = go (is_none n.star)
 size-own_step : (v : TasksView) (p : StarPart) (t : TaskId) (o : Option Asked) → size (own_step v p t o).tasks ≡ size v
 unfolding decide_own
 size-own_step v p t None = refl
-size-own_step v p t (Some a) = size-new (tell_answer_ranked v t a (answer_for p (request_of t a)) (rank_of p (request_of t a))) (res_wanted a.req.want) (owners_by p (request_of t a)) ∙ size-ranked v t a (answer_for p (request_of t a)) (rank_of p (request_of t a))
+size-own_step v p t (Some a) =
+    size-new (tell_answer_ranked v t a (answer_for p (request_of t a)) (rank_of p (request_of t a)))
+    (res_wanted a.req.want) (owners_by p (request_of t a))
+    ∙ size-ranked v t a (answer_for p (request_of t a)) (rank_of p (request_of t a))
 
-size-begin : (v : TasksView) (p : StarPart) (t : TaskId) (asked : Option Asked) (o : Option ℕ) → size (begin_at v p t asked o).tasks ≡ size v
+size-begin : (v : TasksView) (p : StarPart) (t : TaskId) (asked : Option Asked) (o : Option ℕ)
+    → size (begin_at v p t asked o).tasks ≡ size v
 size-begin v p t asked None = refl
 size-begin v p t asked (Some e) = size-own_step v (begun p e) t asked
 
@@ -416,7 +478,8 @@ size-leave v p e replies.Over = refl
 size-leave v p e (replies.Stale set) = refl
 size-leave v p e replies.Removed = refl
 
-size-starred : (deck : Deck) (v : TasksView) (p : StarPart) (choice : Choice) (r : Reply) → size (star_step deck v p choice r).tasks ≡ size v
+size-starred : (deck : Deck) (v : TasksView) (p : StarPart) (choice : Choice) (r : Reply)
+    → size (star_step deck v p choice r).tasks ≡ size v
 size-starred deck v p (choices.Send t) r = size-send v p t r
 size-starred deck v p choices.Take r = size-took deck v p r
 size-starred deck v p choices.Settle r = size-settle v p r
@@ -428,13 +491,15 @@ size-starred deck v p choices.Rest r = refl
 size-starred deck v p choices.Switch r = refl
 size-starred deck v p (choices.Purge target) r = refl
 
-size-star : (deck : Deck) (n : NodeState) (o : Option StarPart) (choice : Choice) (r : Reply) → size (finish_star deck n o choice r).node.tasks ≡ size n.tasks
+size-star : (deck : Deck) (n : NodeState) (o : Option StarPart) (choice : Choice) (r : Reply)
+    → size (finish_star deck n o choice r).node.tasks ≡ size n.tasks
 unfolding finish_star
 size-star deck n None choice r = refl
 size-star deck n (Some p) choice r = size-starred deck n.tasks p choice r
 
 -- ---- any event
-size-call : (deck : Deck) (n : NodeState) (choice : Choice) (r : Reply) → size (finish_call deck n choice r).node.tasks ≡ size n.tasks
+size-call : (deck : Deck) (n : NodeState) (choice : Choice) (r : Reply)
+    → size (finish_call deck n choice r).node.tasks ≡ size n.tasks
 unfolding finish_call purged
 size-call deck n choice (replies.Turned es taken closed) = size-turned deck n es taken closed
 size-call deck n choice (replies.Stale set) = refl
@@ -461,7 +526,8 @@ size-send_own : (n : NodeState) (t : TaskId) (o : Option StarPart) → size (sen
 size-send_own n t None = refl
 size-send_own n t (Some p) = size-own_step n.tasks p t (state_of n.tasks t).outstanding
 
-size-quiet : (deck : Deck) (n : NodeState) (choice : Choice) → size (finish_quiet deck n choice).node.tasks ≡ size n.tasks
+size-quiet : (deck : Deck) (n : NodeState) (choice : Choice)
+    → size (finish_quiet deck n choice).node.tasks ≡ size n.tasks
 unfolding finish_quiet
 size-quiet deck n (choices.Task t) = size-step deck.limit n t (lines_of deck t)
 size-quiet deck n (choices.Send t) = size-send_own n t n.star
@@ -474,24 +540,28 @@ size-quiet deck n (choices.Leave e) = refl
 size-quiet deck n choices.Switch = refl
 size-quiet deck n (choices.Purge target) = refl
 
-size-finish : (deck : Deck) (n : NodeState) (choice : Choice) (o : Option Reply) → size (finish deck n choice o).node.tasks ≡ size n.tasks
+size-finish : (deck : Deck) (n : NodeState) (choice : Choice) (o : Option Reply)
+    → size (finish deck n choice o).node.tasks ≡ size n.tasks
 unfolding finish
 size-finish deck n choice None = size-quiet deck n choice
 size-finish deck n choice (Some r) = size-call deck n choice r
 
-size-carry : (deck : Deck) (m : MediumState) (s : SysId) (n : NodeState) (choice : Choice) (p : Prepared) → size (carry_out deck m s n choice p).step.node.tasks ≡ size n.tasks
+size-carry : (deck : Deck) (m : MediumState) (s : SysId) (n : NodeState) (choice : Choice) (p : Prepared)
+    → size (carry_out deck m s n choice p).step.node.tasks ≡ size n.tasks
 unfolding carry_out
 size-carry deck m s n choice Nothing = refl
 size-carry deck m s n choice Quiet = size-finish deck n choice None
 size-carry deck m s n choice (Call call) = size-finish deck n choice (Some (reply_to m s call))
 
-size-chosen : (deck : Deck) (m : MediumState) (s : SysId) (n : NodeState) (choice : Choice) → size (chosen deck m s n choice).step.node.tasks ≡ size n.tasks
+size-chosen : (deck : Deck) (m : MediumState) (s : SysId) (n : NodeState) (choice : Choice)
+    → size (chosen deck m s n choice).step.node.tasks ≡ size n.tasks
 unfolding chosen
 size-chosen deck m s n choice = size-carry deck m s n choice (prepare deck n choice)
 
 -- ---- so in every run
 abbrev pub AreFull : Deck → World → Type 0
-AreFull deck w = (s : ℕ) (n : NodeState) → slice_get w.nodes s ≡ Some n → length n.tasks.tasks ≡ length (scripts_of deck s)
+AreFull deck w =
+    (s : ℕ) (n : NodeState) → slice_get w.nodes s ≡ Some n → length n.tasks.tasks ≡ length (scripts_of deck s)
 
 length-new : (k : ℕ) → length (new_tasks k) ≡ k
 length-new zero = refl
@@ -501,10 +571,19 @@ first-size : (deck : Deck) (s : ℕ) → size (first_node deck s).tasks ≡ leng
 unfolding first_node
 first-size deck s = length-new (length (scripts_of deck s))
 
-full-placed : (deck : Deck) (w : World) (c : SysId) (n : NodeState) (at : slice_get w.nodes c.0 ≡ Some n) (o : Turnout) → size o.step.node.tasks ≡ size n.tasks → AreFull deck w → AreFull deck (placed w c n o)
+full-placed : (deck : Deck) (w : World) (c : SysId) (n : NodeState) (at : slice_get w.nodes c.0 ≡ Some n) (o : Turnout)
+    → size o.step.node.tasks ≡ size n.tasks → AreFull deck w → AreFull deck (placed w c n o)
 unfolding placed
-full-placed deck w c n at o same h = by_node w.nodes c.0 n o.step.node at (λ s k. length k.tasks.tasks ≡ length (scripts_of deck s)) (same ∙ h c.0 n at) (λ s k ne f. h s k f)
+full-placed deck w c n at o same h =
+    by_node w.nodes c.0 n o.step.node at (λ s k. length k.tasks.tasks ≡ length (scripts_of deck s)) (same ∙ h c.0 n at)
+    (λ s k ne f. h s k f)
 
 pub full_run : (deck : Deck) (es : List Event) → AreFull deck (run deck es)
-full_run deck = each_run deck (λ es (w : World). AreFull deck w) (λ s n at. ap (λ (k : NodeState). size k.tasks) (first_of deck s n at) ∙ first-size deck s)
-    (λ es e h. each_event deck (run deck es) e (AreFull deck) (λ s n at. h s n at) (λ n at. full-placed deck (run deck es) e.system n at (chosen deck (run deck es).medium e.system n e.choice) (size-chosen deck (run deck es).medium e.system n e.choice) h))
+full_run deck =
+    each_run deck (λ es (w : World). AreFull deck w)
+    (λ s n at. ap (λ (k : NodeState). size k.tasks) (first_of deck s n at) ∙ first-size deck s)
+    (λ es e h.
+    each_event deck (run deck es) e (AreFull deck) (λ s n at. h s n at)
+    (λ n at.
+    full-placed deck (run deck es) e.system n at (chosen deck (run deck es).medium e.system n e.choice)
+    (size-chosen deck (run deck es).medium e.system n e.choice) h))

@@ -1,6 +1,7 @@
--- What a system comes to by what it has still to process: its table goes by the table that it had, and what others process of the
--- message leaves it.
-use Rattle.std.proofs.Common.{◌≡◌, ◌≢◌, ℕ, Bool, true, false, cond, not, List, [], ◌∷◌, ◌++◌, map, Some, None, refl, ap, sym, ◌∙◌, subst}
+-- What a system comes to by what it has still to process: its table goes by the table that it had, and what others
+-- process of the message leaves it.
+use Rattle.std.proofs.Common.{◌≡◌, ◌≢◌, ℕ, Bool, true, false, cond, not, List, [], ◌∷◌, ◌++◌, map, Some, None, refl, ap}
+use Rattle.std.proofs.Common.{sym, ◌∙◌, subst}
 use Rattle.std.specs.Prelude.{◌==◌, filter, slice_get}
 use Rattle.std.proofs.lemmas.Bool.{eqb-true}
 use Rattle.grs_base.specs.declared.resource.SysId.{SysId}
@@ -37,26 +38,34 @@ use Rattle.grs_world.specs.World.{World}
 use Rattle.grs_base.specs.State.{remove_state}
 
 -- ---- the table
-shared-entry : (deck : Deck) (n m : NodeState) (b : RingBody) → m.shared ≡ n.shared → (read_entry deck m b).shared ≡ (read_entry deck n b).shared
+shared-entry : (deck : Deck) (n m : NodeState) (b : RingBody) → m.shared ≡ n.shared
+    → (read_entry deck m b).shared ≡ (read_entry deck n b).shared
 unfolding process_entry process
 shared-entry deck n m (Remove target) e = ap (λ s. remove_state s target.0) e
 shared-entry deck n m (Request q) e = go (is_of_deck deck q.task) (is_for_all (res_wanted q.want))
   where
-    by_all : (b : Bool) → (cond b (process (side_of m.tasks m.shared) q) (side_of m.tasks m.shared)).shared ≡ (cond b (process (side_of n.tasks n.shared) q) (side_of n.tasks n.shared)).shared
+    by_all : (b : Bool)
+        → (cond b (process (side_of m.tasks m.shared) q) (side_of m.tasks m.shared)).shared
+        ≡ (cond b (process (side_of n.tasks n.shared) q) (side_of n.tasks n.shared)).shared
     by_all true = ap (λ s. after_want s q.task q.want) e
     by_all false = e
 
-    go : (a b : Bool) → (cond a (with_side m (cond b (process (side_of m.tasks m.shared) q) (side_of m.tasks m.shared))) m).shared ≡ (cond a (with_side n (cond b (process (side_of n.tasks n.shared) q) (side_of n.tasks n.shared))) n).shared
+    go : (a b : Bool)
+        → (cond a (with_side m (cond b (process (side_of m.tasks m.shared) q) (side_of m.tasks m.shared))) m).shared
+        ≡ (cond a (with_side n (cond b (process (side_of n.tasks n.shared) q) (side_of n.tasks n.shared))) n).shared
     go true b = by_all b
     go false b = e
 
-pub shared-read : (deck : Deck) (es : List RingEntry) (n m : NodeState) → m.shared ≡ n.shared → (read_entries deck m es).shared ≡ (read_entries deck n es).shared
+pub shared-read : (deck : Deck) (es : List RingEntry) (n m : NodeState) → m.shared ≡ n.shared
+    → (read_entries deck m es).shared ≡ (read_entries deck n es).shared
 unfolding read_entries
 shared-read deck [] n m e = e
-shared-read deck (x ∷ es) n m e = shared-read deck es (read_entry deck n x.body) (read_entry deck m x.body) (shared-entry deck n m x.body e)
+shared-read deck (x ∷ es) n m e =
+    shared-read deck es (read_entry deck n x.body) (read_entry deck m x.body) (shared-entry deck n m x.body e)
 
 -- ---- what another system processes
-pub read-cleared : (deck : Deck) (c s : SysId) → s.0 ≢ c.0 → (es : List RingEntry) (n : NodeState) → read_entries deck n (unseen s (cleared c es)) ≡ read_entries deck n (unseen s es)
+pub read-cleared : (deck : Deck) (c s : SysId) → s.0 ≢ c.0 → (es : List RingEntry) (n : NodeState)
+    → read_entries deck n (unseen s (cleared c es)) ≡ read_entries deck n (unseen s es)
 unfolding unseen cleared read_entries
 read-cleared deck c s ne [] n = refl
 read-cleared deck c s ne (e ∷ es) n = go (has e.mask s.0) refl (e.mask == only c.0) refl (read-cleared deck c s ne es)
@@ -65,19 +74,35 @@ read-cleared deck c s ne (e ∷ es) n = go (has e.mask s.0) refl (e.mask == only
     left = has-without_other e.mask c.0 s.0 ne
 
     go : (b : Bool) → has e.mask s.0 ≡ b → (d : Bool) → (e.mask == only c.0) ≡ d →
-        ((m : NodeState) → read_entries deck m (filter (is_unseen s) (map (left_by c) (filter (λ f. not (f.mask == only c.0)) es))) ≡ read_entries deck m (filter (is_unseen s) es)) →
-        read_entries deck n (filter (is_unseen s) (map (left_by c) (cond (not d) (e ∷ filter (λ f. not (f.mask == only c.0)) es) (filter (λ f. not (f.mask == only c.0)) es)))) ≡ read_entries deck n (cond b (e ∷ filter (is_unseen s) es) (filter (is_unseen s) es))
+        ((m : NodeState)
+        → read_entries deck m (filter (is_unseen s) (map (left_by c) (filter (λ f. not (f.mask == only c.0)) es)))
+        ≡ read_entries deck m (filter (is_unseen s) es))
+        →
+        read_entries deck n (filter (is_unseen s) (map (left_by c)
+        (cond (not d) (e ∷ filter (λ f. not (f.mask == only c.0)) es) (filter (λ f. not (f.mask == only c.0)) es))))
+        ≡ read_entries deck n (cond b (e ∷ filter (is_unseen s) es) (filter (is_unseen s) es))
     go false f true g more = more n
     go false f false g more =
-        ap (λ b. read_entries deck n (cond b (left_by c e ∷ filter (is_unseen s) (map (left_by c) (filter (λ i. not (i.mask == only c.0)) es))) (filter (is_unseen s) (map (left_by c) (filter (λ i. not (i.mask == only c.0)) es))))) (left ∙ f)
+        ap (λ b.
+        read_entries deck n (cond b
+        (left_by c e ∷ filter (is_unseen s) (map (left_by c) (filter (λ i. not (i.mask == only c.0)) es)))
+        (filter (is_unseen s) (map (left_by c) (filter (λ i. not (i.mask == only c.0)) es)))))
+        (left ∙ f)
         ∙ more n
-    go true f true g more = absurd (no_truth (has e.mask s.0) f (ap (λ m. has m s.0) (eqb-true e.mask (only c.0) g) ∙ (has-with_other 0 c.0 s.0 ne ∙ has-zero s.0)))
+    go true f true g more =
+        absurd (no_truth (has e.mask s.0) f
+        (ap (λ m. has m s.0) (eqb-true e.mask (only c.0) g) ∙ (has-with_other 0 c.0 s.0 ne ∙ has-zero s.0)))
     go true f false g more =
-        ap (λ b. read_entries deck n (cond b (left_by c e ∷ filter (is_unseen s) (map (left_by c) (filter (λ i. not (i.mask == only c.0)) es))) (filter (is_unseen s) (map (left_by c) (filter (λ i. not (i.mask == only c.0)) es))))) (left ∙ f)
+        ap (λ b.
+        read_entries deck n (cond b
+        (left_by c e ∷ filter (is_unseen s) (map (left_by c) (filter (λ i. not (i.mask == only c.0)) es)))
+        (filter (is_unseen s) (map (left_by c) (filter (λ i. not (i.mask == only c.0)) es)))))
+        (left ∙ f)
         ∙ more (read_entry deck n e.body)
 
 -- ---- a system that waits to change
-module _ (deck : Deck) (w : World) (g : IsChanging deck w) (s : ℕ) (n : NodeState) (at : slice_get w.nodes s ≡ Some n) (alive : has w.medium.removed s ≡ false) (alone : n.star ≡ None) where
+module _ (deck : Deck) (w : World) (g : IsChanging deck w) (s : ℕ) (n : NodeState) (at : slice_get w.nodes s ≡ Some n)
+    (alive : has w.medium.removed s ≡ false) (alone : n.star ≡ None) where
   abbrev entries : List RingEntry
   entries = w.medium.message.entries
 
@@ -88,18 +113,37 @@ module _ (deck : Deck) (w : World) (g : IsChanging deck w) (s : ℕ) (n : NodeSt
   whole = whole_now deck w g (system_of s) n at alive z.shows z.there z.waits z.is z.empty
 
   read-is : read_by deck w.medium.message.entries s n ≡ read_all n (g.due s)
-  read-is = reads deck w g (system_of s) n at alive z.shows z.there z.waits z.is z.empty (lives-on deck w g (system_of s) n at alive)
+  read-is =
+      reads deck w g (system_of s) n at alive z.shows z.there z.waits z.is z.empty
+      (lives-on deck w g (system_of s) n at alive)
 
-  pub read-seen : Seen deck s (items w.fixed) (g.before s ++ g.due s) g.since [] (read_by deck w.medium.message.entries s n)
-  read-seen = subst (Seen deck s (items w.fixed) (g.before s ++ g.due s) g.since []) (sym read-is) (view-read deck s (items w.fixed) (g.before s) (g.due s) g.since g.whole.right whole n z.waits).seen
+  pub read-seen :
+      Seen deck s (items w.fixed) (g.before s ++ g.due s) g.since [] (read_by deck w.medium.message.entries s n)
+  read-seen =
+      subst (Seen deck s (items w.fixed) (g.before s ++ g.due s) g.since []) (sym read-is)
+      (view-read deck s (items w.fixed) (g.before s) (g.due s) g.since g.whole.right whole n z.waits).seen
 
-  pub read-box : one_by_one (read_by deck w.medium.message.entries s n).tasks (read_by deck w.medium.message.entries s n).outbox ≡ (read_by deck w.medium.message.entries s n).tasks
+  pub read-box :
+      one_by_one (read_by deck w.medium.message.entries s n).tasks (read_by deck w.medium.message.entries s n).outbox
+      ≡ (read_by deck w.medium.message.entries s n).tasks
   read-box = box-none deck s (items w.fixed) (g.before s ++ g.due s) g.since [] (read_by deck entries s n) read-seen
 
-  pub read-home : (t : TaskId) → is_home_at deck s t ≡ true → (ls : List Meaning) × IsOurs deck s (read_by deck w.medium.message.entries s n).tasks t ls
-  read-home t home = home-task deck s (opens_of g.since [] (read_by deck entries s n)) (items w.fixed) (read_by deck entries s n).tasks t read-seen.good home
+  pub read-home : (t : TaskId) → is_home_at deck s t ≡ true
+      → (ls : List Meaning) × IsOurs deck s (read_by deck w.medium.message.entries s n).tasks t ls
+  read-home t home =
+      home-task deck s (opens_of g.since [] (read_by deck entries s n)) (items w.fixed) (read_by deck entries s n).tasks
+      t read-seen.good home
 
   -- so its records go by its table then, and nothing that it sent is outstanding
-  pub read-due : IsRead deck s n (still_of s w.medium.message.entries) → IsRead deck s (read_by deck w.medium.message.entries s n) []
-  read-due h = subst (λ k. IsRead deck s k []) (sym read-is) (kept-all deck s (items w.fixed) g.whole.right g.since (g.due s) (g.before s) n whole z.waits.seen
-      (read-more deck s n (still_of s entries) (own_requests s (g.due s)) (λ t home k. own-among s t home (g.due s) (unseen (system_of s) entries) (given deck w g (system_of s) n at alive z.shows z.there z.waits z.is z.empty (lives-on deck w g (system_of s) n at alive)) k) h))
+  pub read-due : IsRead deck s n (still_of s w.medium.message.entries)
+      → IsRead deck s (read_by deck w.medium.message.entries s n) []
+  read-due h =
+      subst (λ k. IsRead deck s k [])
+      (sym read-is) (kept-all deck s (items w.fixed) g.whole.right g.since (g.due s) (g.before s) n whole z.waits.seen
+      (read-more deck s n (still_of s entries) (own_requests s (g.due s))
+      (λ t home k.
+      own-among s t home (g.due s) (unseen (system_of s) entries)
+      (given deck w g (system_of s) n at alive z.shows z.there z.waits z.is z.empty
+      (lives-on deck w g (system_of s) n at alive))
+      k)
+      h))

@@ -1,5 +1,6 @@
 -- A run that is in ring mode and at rest: nothing is outstanding any more, and the tables are the history's.
-use Rattle.std.proofs.Common.{◌≡◌, ◌<◌, ◌+◌, ℕ, zero, suc, Bool, true, false, not, ◌&&◌, ◌||◌, List, [], ◌∷◌, ◌++◌, length, map, Some, refl, ap, sym, ◌∙◌, subst, arith, append-nil}
+use Rattle.std.proofs.Common.{◌≡◌, ◌<◌, ◌+◌, ℕ, zero, suc, Bool, true, false, not, ◌&&◌, ◌||◌, List, [], ◌∷◌, ◌++◌}
+use Rattle.std.proofs.Common.{length, map, Some, refl, ap, sym, ◌∙◌, subst, arith, append-nil}
 use Rattle.std.specs.Prelude.{◌==◌, get_or, slice_get}
 use Rattle.std.specs.List.{list_any}
 use Rattle.std.proofs.lemmas.Bool.{and_parts, eqb-true, or_parts}
@@ -45,12 +46,15 @@ use Rattle.grs_world.specs.Running.{at_rest, none_pending}
 use Rattle.grs_world.specs.World.{World}
 
 -- ---- nothing is pending
-pub pending-at : (deck : Deck) (removed k : ℕ) (ns : List NodeState) (s : ℕ) (n : NodeState) → none_pending removed k (map (is_pending deck) ns) ≡ true → slice_get ns s ≡ Some n → has removed (k + s) ≡ false → is_pending deck n ≡ false
+pub pending-at : (deck : Deck) (removed k : ℕ) (ns : List NodeState) (s : ℕ) (n : NodeState)
+    → none_pending removed k (map (is_pending deck) ns) ≡ true → slice_get ns s ≡ Some n → has removed (k + s) ≡ false
+    → is_pending deck n ≡ false
 pending-at deck removed k [] s n h at live = absurd (cc)
 pending-at deck removed k (m ∷ ns) zero n h at live =
     let same : m ≡ n = cc in
     let here : k ≡ k + zero = omega arith in
-    subst (λ z. is_pending deck z ≡ false) same (free (has removed k) (is_pending deck m) (ap (has removed) here ∙ live) (and_parts (has removed k || not (is_pending deck m)) _ h).0)
+    subst (λ z. is_pending deck z ≡ false) same (free (has removed k) (is_pending deck m) (ap (has removed) here ∙ live)
+    (and_parts (has removed k || not (is_pending deck m)) _ h).0)
   where
     free : (a b : Bool) → a ≡ false → (a || not b) ≡ true → b ≡ false
     free true b e f = absurd (cc)
@@ -58,15 +62,18 @@ pending-at deck removed k (m ∷ ns) zero n h at live =
     free false false e f = refl
 pending-at deck removed k (m ∷ ns) (suc s) n h at live =
     let next : k + 1 + s ≡ k + suc s = omega arith in
-    pending-at deck removed (k + 1) ns s n (and_parts (has removed k || not (is_pending deck m)) _ h).1 at (ap (has removed) next ∙ live)
+    pending-at deck removed (k + 1) ns s n (and_parts (has removed k || not (is_pending deck m)) _ h).1 at
+    (ap (has removed) next ∙ live)
 
-pub none-at : (p : TaskState → Bool) (xs : List TaskState) (i : ℕ) (d : TaskState) → list_any p xs ≡ false → i < length xs → p (get_or xs i d) ≡ false
+pub none-at : (p : TaskState → Bool) (xs : List TaskState) (i : ℕ) (d : TaskState) → list_any p xs ≡ false
+    → i < length xs → p (get_or xs i d) ≡ false
 none-at p [] i d h l = absurd (omega (arith, l))
 none-at p (x ∷ xs) zero d h l = (or_parts (p x) (list_any p xs) h).0
 none-at p (x ∷ xs) (suc i) d h l = none-at p xs i d (or_parts (p x) (list_any p xs) h).1 (omega (arith, l))
 
 -- no task here goes on
-pub calm-at : (v : TasksView) (t : TaskId) → list_any (λ x. goes_on x.phase) v.tasks ≡ false → is_task v t ≡ true → goes_on (state_of v t).phase ≡ false
+pub calm-at : (v : TasksView) (t : TaskId) → list_any (λ x. goes_on x.phase) v.tasks ≡ false → is_task v t ≡ true
+    → goes_on (state_of v t).phase ≡ false
 unfolding state_of
 calm-at v t h here = none-at (λ x. goes_on x.phase) v.tasks t.task new_task h (is_task-place v t here)
 
@@ -80,14 +87,17 @@ none-due [] es e b = refl
 none-due (x ∷ xs) [] e b = elim b [ ]
 none-due (x ∷ xs) (y ∷ es) e b = absurd (cc)
 
-module _ (deck : Deck) (es : List Event) (w : World) (ring : IsRing deck w) (g : GoodWorld deck es w) (h : AllRead deck w) (rest : at_rest deck w ≡ true) where
+module _ (deck : Deck) (es : List Event) (w : World) (ring : IsRing deck w) (g : GoodWorld deck es w)
+    (h : AllRead deck w) (rest : at_rest deck w ≡ true) where
   both : (none_pending w.medium.removed 0 (map (is_pending deck) w.nodes) ≡ true) × (medium_at_end w.medium ≡ true)
   unfolding at_rest
   both = and_parts (none_pending w.medium.removed 0 (map (is_pending deck) w.nodes)) (medium_at_end w.medium) rest
 
   no_entries : w.medium.message.entries ≡ []
   unfolding medium_at_end
-  no_entries = no_length w.medium.message.entries (and_parts (length w.medium.message.entries == 0) _ (and_parts _ ((length w.medium.message.entries == 0) && (w.medium.message.still == 0)) both.1).1).0
+  no_entries =
+      no_length w.medium.message.entries (and_parts (length w.medium.message.entries == 0) _
+      (and_parts _ ((length w.medium.message.entries == 0) && (w.medium.message.still == 0)) both.1).1).0
 
   abbrev P : List RunItem
   P = items w.fixed
@@ -104,17 +114,23 @@ module _ (deck : Deck) (es : List Event) (w : World) (ring : IsRing deck w) (g :
     none_unseen = ap (λ xs. unseen (record { 0 = s }) xs) no_entries
 
     none_later : g.later s ≡ []
-    none_later = none-due (g.later s) (unseen (record { 0 = s }) w.medium.message.entries) none_unseen (given-later w.medium (record { 0 = s }) g.before (g.later s) P (g.whole s) lives g.message)
+    none_later =
+        none-due (g.later s) (unseen (record { 0 = s }) w.medium.message.entries) none_unseen
+        (given-later w.medium (record { 0 = s }) g.before (g.later s) P (g.whole s) lives g.message)
 
     all_before : rounds P ≡ g.before s
     all_before = g.whole s ∙ (ap (λ xs. g.before s ++ xs) none_later ∙ append-nil (g.before s))
 
     idle_node : is_pending deck n ≡ false
-    idle_node = let same : 0 + s ≡ s = omega arith in pending-at deck w.medium.removed 0 w.nodes s n both.0 at (ap (has w.medium.removed) same ∙ alive)
+    idle_node =
+        let same : 0 + s ≡ s = omega arith in
+        pending-at deck w.medium.removed 0 w.nodes s n both.0 at (ap (has w.medium.removed) same ∙ alive)
 
     parts : (list_any (λ x. goes_on x.phase) n.tasks.tasks ≡ false) × (not (length n.outbox == 0) ≡ false)
     unfolding is_pending
-    parts = let a = or_parts (list_any (λ x. goes_on x.phase) n.tasks.tasks) _ idle_node in (a.0, (or_parts (not (length n.outbox == 0)) _ a.1).0)
+    parts =
+        let a = or_parts (list_any (λ x. goes_on x.phase) n.tasks.tasks) _ idle_node in
+        (a.0, (or_parts (not (length n.outbox == 0)) _ a.1).0)
 
     no_box : n.outbox ≡ []
     no_box = no_length n.outbox (by_not (length n.outbox == 0) parts.1)
@@ -123,38 +139,53 @@ module _ (deck : Deck) (es : List Event) (w : World) (ring : IsRing deck w) (g :
         by_not true e = refl
         by_not false e = absurd (cc)
 
-    calm : (t : TaskId) (ls : List Meaning) → IsOurs deck s n.tasks t ls → (goes_on (state_of n.tasks t).phase ≡ false) × (is_unsent (state_of n.tasks t).phase ≡ false)
+    calm : (t : TaskId) (ls : List Meaning) → IsOurs deck s n.tasks t ls
+        → (goes_on (state_of n.tasks t).phase ≡ false) × (is_unsent (state_of n.tasks t).phase ≡ false)
     calm t ls ours = (calm-at n.tasks t parts.0 ours.here, unsent (state_of n.tasks t).phase refl)
       where
         nobody : (qs : List Req) → qs ≡ [] → is_among t (askers qs) ≡ true → ⊥
-        nobody qs e f = absurd (let g1 : is_among t (askers []) ≡ true = subst (λ (z : List Req). is_among t (askers z) ≡ true) e f in cc)
+        nobody qs e f =
+            absurd (let g1 : is_among t (askers []) ≡ true =
+            subst (λ (z : List Req). is_among t (askers z) ≡ true) e f in
+            cc)
 
         unsent : (p : Phase) → (state_of n.tasks t).phase ≡ p → is_unsent p ≡ false
         unsent phases.ToSend e = absurd (nobody n.outbox no_box ((h s n at alive).boxed t ls ours (ap is_to_send e)))
-        unsent phases.Sent e = absurd (nobody (still_of s w.medium.message.entries) (ap requests_of none_unseen) ((h s n at alive).sent t ls ours (ap is_sent e)))
+        unsent phases.Sent e =
+            absurd (nobody (still_of s w.medium.message.entries) (ap requests_of none_unseen)
+            ((h s n at alive).sent t ls ours (ap is_sent e)))
         unsent phases.Ready e = refl
         unsent phases.HeldAnswer e = refl
         unsent (phases.HeldLine r) e = refl
         unsent (phases.Ending c) e = refl
         unsent phases.Ended e = refl
 
-    marked_at : (t : TaskId) (ls : List Meaning) (r : Res) → IsOurs deck s n.tasks t ls → owns (list_of (lists P) r) t ≡ true → is_marked r (state_of n.tasks t).records ≡ true
+    marked_at : (t : TaskId) (ls : List Meaning) (r : Res) → IsOurs deck s n.tasks t ls
+        → owns (list_of (lists P) r) t ≡ true → is_marked r (state_of n.tasks t).records ≡ true
     marked_at t ls r ours own = go (is_systems r) refl
       where
         place : (is_systems r || is_res_of t.system.0 r) ≡ true
         place = (and_parts _ (is_systems r || is_res_of t.system.0 r) (owns-may deck P r t g.history.asks own)).1
 
         go : (b : Bool) → is_systems r ≡ b → is_marked r (state_of n.tasks t).records ≡ true
-        go true wide = ((h s n at alive).shared t ls ours).told r wide (ap (λ z. owns (list_of z r) t) (seen.shared ∙ (ap lists (sym all_before) ∙ table-is P)) ∙ (ap (λ zs. owns zs t) (list_of-part is_systems (lists P) r wide) ∙ own))
+        go true wide =
+            ((h s n at alive).shared t ls ours).told r wide (ap (λ z. owns (list_of z r) t)
+            (seen.shared ∙ (ap lists (sym all_before) ∙ table-is P))
+            ∙ (ap (λ zs. owns zs t) (list_of-part is_systems (lists P) r wide) ∙ own))
         go false narrow =
-            let here : is_res_of s r ≡ true = subst (λ i. is_res_of i r ≡ true) ours.home (or_other (is_systems r) (is_res_of t.system.0 r) place narrow) in
-            ((h s n at alive).own t ls ours).told r (ap not narrow) (ap (λ z. owns (list_of z r) t) seen.own ∙ (ap (λ zs. owns zs t) (list_of-part (is_res_of s) (lists P) r here) ∙ own))
+            let here : is_res_of s r ≡ true =
+            subst (λ i. is_res_of i r ≡ true) ours.home
+            (or_other (is_systems r) (is_res_of t.system.0 r) place narrow) in
+            ((h s n at alive).own t ls ours).told r (ap not narrow)
+            (ap (λ z. owns (list_of z r) t) seen.own
+            ∙ (ap (λ zs. owns zs t) (list_of-part (is_res_of s) (lists P) r here) ∙ own))
 
     pub still-ring : IsStill deck s (items w.fixed) n
     still-ring = record {
       opens = opens_of (g.later s) (own_requests s (g.later s)) n;
       good = seen.good;
-      idle = λ t ls ours. held-none deck.limit ls t (state_of n.tasks t) (seen.good.tasks.each t ls ours).opened (calm t ls ours).1;
+      idle = λ t ls ours.
+          held-none deck.limit ls t (state_of n.tasks t) (seen.good.tasks.each t ls ours).opened (calm t ls ours).1;
       calm = calm;
       marked = marked_at;
       date = (h s n at alive).date;

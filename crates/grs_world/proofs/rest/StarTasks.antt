@@ -1,6 +1,7 @@
--- The tasks of a system of star mode: they stay up to date in each event, and what the system has on record goes on with its own
--- lists.
-use Rattle.std.proofs.Common.{◌≡◌, ℕ, suc, Bool, true, false, cond, not, List, [], ◌∷◌, Option, Some, None, refl, ap, sym, ◌∙◌, subst}
+-- The tasks of a system of star mode: they stay up to date in each event, and what the system has on record goes on
+-- with its own lists.
+use Rattle.std.proofs.Common.{◌≡◌, ℕ, suc, Bool, true, false, cond, not, List, [], ◌∷◌, Option, Some, None, refl, ap}
+use Rattle.std.proofs.Common.{sym, ◌∙◌, subst}
 use Rattle.std.specs.Prelude.{◌==◌, get_or, is_some, slice_get}
 use Rattle.std.proofs.lemmas.Bool.{and_parts, eqb-true, eqb-false}
 use Rattle.grs_base.specs.Lists.{has_task, owns}
@@ -13,7 +14,8 @@ use Rattle.grs_base.proofs.SameLaws.{same_res-exact, same_task-exact}
 use Rattle.grs_legal.specs.Asks.{lines_of}
 use Rattle.grs_legal.specs.declared.meaning.Meaning.{Meaning}
 use Rattle.grs_legal.specs.declared.meaning.Meaning.TheVariants as lines
-use Rattle.grs_node.specs.Node.{NodeState, Step, ask, decide, end_step, finish_quiet, has_most, is_of_deck, may_go, phase_step, post, ready_step, take_line, task_step, wait, with_tasks}
+use Rattle.grs_node.specs.Node.{NodeState, Step, ask, decide, end_step, finish_quiet, has_most, is_of_deck, may_go}
+use Rattle.grs_node.specs.Node.{phase_step, post, ready_step, take_line, task_step, wait, with_tasks}
 use Rattle.grs_wire.specs.Wants.{after_want, answer_to, new_owners, res_wanted}
 use Rattle.grs_wire.specs.declared.deck.Choice.TheVariants as choices
 use Rattle.grs_wire.specs.declared.deck.Deck.{Deck}
@@ -27,9 +29,11 @@ use Rattle.grs_wire.specs.declared.told.ToldLine.TheVariants as told
 use Rattle.grs_wire.specs.declared.told.Verb.TheVariants as verbs
 use Rattle.grs_wire.proofs.WantLaws.{by_test}
 use Rattle.ring_mode.specs.Ring.{is_for_all}
-use Rattle.star_client.specs.Client.{after_mail, has_effect, has_sent, is_awaited, tell_answer_any_ranked, tell_answer_ranked}
+use Rattle.star_client.specs.Client.{after_mail, has_effect, has_sent, is_awaited, tell_answer_any_ranked}
+use Rattle.star_client.specs.Client.{tell_answer_ranked}
 use Rattle.task_state.specs.Replies.{replied, tell_all, tell_code, tell_control, tell_new, tell_untold}
-use Rattle.task_state.specs.View.{TasksView, is_sent, is_task, new_task, record_of, state_of, telling, with_line, with_outstanding, with_phase}
+use Rattle.task_state.specs.View.{TasksView, is_sent, is_task, new_task, record_of, state_of, telling, with_line}
+use Rattle.task_state.specs.View.{with_outstanding, with_phase}
 use Rattle.task_state.specs.declared.state.Asked.{Asked}
 use Rattle.task_state.specs.declared.state.Phase.{Phase}
 use Rattle.task_state.specs.declared.state.Phase.TheVariants as phases
@@ -53,11 +57,14 @@ use Rattle.grs_world.proofs.rest.UpToDate.{IsWanted, IsWantedBy}
 use Rattle.grs_world.proofs.star.hearing.Gentle.{Answered, answered, phase-records}
 
 -- ---- what other events leave
--- Each task stays up to date, and of the resources of its system the same are on record, where what was told stays told.
+-- Each task stays up to date, and of the resources of its system the same are on record, where what was told stays
+-- told.
 pub record Keeps (deck : Deck) (v w : TasksView) : Type 0 where
   pub date : AllDate deck w
   pub here : (t : TaskId) → is_task w t ≡ is_task v t
-  pub local : (t : TaskId) (r : Res) → is_local r ≡ true → (has_res r (state_of w t).records ≡ has_res r (state_of v t).records) × (is_marked r (state_of v t).records ≡ true → is_marked r (state_of w t).records ≡ true)
+  pub local : (t : TaskId) (r : Res) → is_local r ≡ true
+      → (has_res r (state_of w t).records ≡ has_res r (state_of v t).records)
+      × (is_marked r (state_of v t).records ≡ true → is_marked r (state_of w t).records ≡ true)
 
 pub keeps-none : (deck : Deck) (v : TasksView) → AllDate deck v → Keeps deck v v
 keeps-none deck v h = record { date = h; here = λ t. refl; local = λ t r l. (refl, λ m. m) }
@@ -65,45 +72,77 @@ keeps-none deck v h = record { date = h; here = λ t. refl; local = λ t r l. (r
 pub keeps-then : (deck : Deck) (v w z : TasksView) → Keeps deck v w → (AllDate deck w → Keeps deck w z) → Keeps deck v z
 keeps-then deck v w z a f =
     let b = f a.date in
-    record { date = b.date; here = λ t. b.here t ∙ a.here t; local = λ t r l. ((b.local t r l).0 ∙ (a.local t r l).0, λ m. (b.local t r l).1 ((a.local t r l).1 m)) }
+    record {
+      date = b.date;
+      here = λ t. b.here t ∙ a.here t;
+      local = λ t r l. ((b.local t r l).0 ∙ (a.local t r l).0, λ m. (b.local t r l).1 ((a.local t r l).1 m));
+    }
 
 pub at-place : (v : TasksView) (t u : TaskId) → u.task ≡ t.task → state_of v u ≡ state_of v t
 unfolding state_of
 at-place v t u e = ap (λ i. get_or v.tasks i new_task) e
 
 local-did : (v w : TasksView) (t : TaskId) (x : TaskState) (T : List ToldLine) → Did v w t x T →
-    ((r : Res) → is_local r ≡ true → (has_res r x.records ≡ has_res r (state_of v t).records) × (is_marked r (state_of v t).records ≡ true → is_marked r x.records ≡ true)) →
-    (u : TaskId) (r : Res) → is_local r ≡ true → (has_res r (state_of w u).records ≡ has_res r (state_of v u).records) × (is_marked r (state_of v u).records ≡ true → is_marked r (state_of w u).records ≡ true)
+    ((r : Res) → is_local r ≡ true
+    → (has_res r x.records ≡ has_res r (state_of v t).records)
+    × (is_marked r (state_of v t).records ≡ true → is_marked r x.records ≡ true))
+    →
+    (u : TaskId) (r : Res) → is_local r ≡ true
+    → (has_res r (state_of w u).records ≡ has_res r (state_of v u).records)
+    × (is_marked r (state_of v u).records ≡ true → is_marked r (state_of w u).records ≡ true)
 local-did v w t x T d k u r l = go (u.task == t.task) refl
   where
-    go : (b : Bool) → (u.task == t.task) ≡ b → (has_res r (state_of w u).records ≡ has_res r (state_of v u).records) × (is_marked r (state_of v u).records ≡ true → is_marked r (state_of w u).records ≡ true)
+    go : (b : Bool) → (u.task == t.task) ≡ b
+        → (has_res r (state_of w u).records ≡ has_res r (state_of v u).records)
+        × (is_marked r (state_of v u).records ≡ true → is_marked r (state_of w u).records ≡ true)
     go true e =
         let same : u.task ≡ t.task = eqb-true u.task t.task e in
-        subst (λ (y : TaskState). (has_res r (state_of w u).records ≡ has_res r y.records) × (is_marked r y.records ≡ true → is_marked r (state_of w u).records ≡ true)) (sym (at-place v t u same))
-        (subst (λ (y : TaskState). (has_res r y.records ≡ has_res r (state_of v t).records) × (is_marked r (state_of v t).records ≡ true → is_marked r y.records ≡ true)) (sym (at-place w t u same ∙ d.state)) (k r l))
-    go false e = subst (λ (y : TaskState). (has_res r y.records ≡ has_res r (state_of v u).records) × (is_marked r (state_of v u).records ≡ true → is_marked r y.records ≡ true)) (sym (d.changed.others u (eqb-false u.task t.task e))) (refl, λ m. m)
+        subst (λ (y : TaskState).
+        (has_res r (state_of w u).records ≡ has_res r y.records)
+        × (is_marked r y.records ≡ true → is_marked r (state_of w u).records ≡ true))
+        (sym (at-place v t u same))
+        (subst (λ (y : TaskState).
+        (has_res r y.records ≡ has_res r (state_of v t).records)
+        × (is_marked r (state_of v t).records ≡ true → is_marked r y.records ≡ true))
+        (sym (at-place w t u same ∙ d.state)) (k r l))
+    go false e =
+        subst (λ (y : TaskState).
+        (has_res r y.records ≡ has_res r (state_of v u).records)
+        × (is_marked r (state_of v u).records ≡ true → is_marked r y.records ≡ true))
+        (sym (d.changed.others u (eqb-false u.task t.task e))) (refl, λ m. m)
 
 -- control is told
-pub keeps-control : (deck : Deck) (v : TasksView) (r : Res) (t : TaskId) → AllDate deck v → Keeps deck v (tell_control v r t)
+pub keeps-control : (deck : Deck) (v : TasksView) (r : Res) (t : TaskId) → AllDate deck v
+    → Keeps deck v (tell_control v r t)
 unfolding tell_control
 keeps-control deck v r t h = go (is_task v t) refl
   where
     go : (b : Bool) → is_task v t ≡ b → Keeps deck v (tell_control v r t)
-    go false e = subst (λ b. Keeps deck v (cond b (tell_untold v t r (record_of (state_of v t).records r)) v)) (sym e) (keeps-none deck v h)
+    go false e =
+        subst (λ b. Keeps deck v (cond b (tell_untold v t r (record_of (state_of v t).records r)) v)) (sym e)
+        (keeps-none deck v h)
     go true e =
         let k : Controlled v r t (tell_control v r t) = controlled v r t e in
         record {
           date = date-control deck v r t h;
           here = k.did.changed.here;
-          local = local-did v (tell_control v r t) t k.state k.told k.did (λ q l. (hears-has t r q (state_of v t) v.told k.state k.told k.hears, λ m. hears-marked t r q (state_of v t) v.told k.state k.told k.hears m));
+          local =
+              local-did v (tell_control v r t) t k.state k.told k.did
+              (λ q l. (
+                hears-has t r q (state_of v t) v.told k.state k.told k.hears,
+                λ m. hears-marked t r q (state_of v t) v.told k.state k.told k.hears m,
+              ));
         }
 
 keeps-all : (deck : Deck) (v : TasksView) (r : Res) (ts : List TaskId) → AllDate deck v → Keeps deck v (tell_all v r ts)
 unfolding tell_all
 keeps-all deck v r [] h = keeps-none deck v h
-keeps-all deck v r (t ∷ ts) h = keeps-then deck v (tell_control v r t) (tell_all (tell_control v r t) r ts) (keeps-control deck v r t h) (λ k. keeps-all deck (tell_control v r t) r ts k)
+keeps-all deck v r (t ∷ ts) h =
+    keeps-then deck v (tell_control v r t) (tell_all (tell_control v r t) r ts) (keeps-control deck v r t h)
+    (λ k. keeps-all deck (tell_control v r t) r ts k)
 
-pub keeps-new : (deck : Deck) (v : TasksView) (o : Option Res) (ts : List TaskId) → AllDate deck v → Keeps deck v (tell_new v o ts)
+pub keeps-new : (deck : Deck) (v : TasksView) (o : Option Res) (ts : List TaskId) → AllDate deck v
+    → Keeps deck v (tell_new v o ts)
 unfolding tell_new
 keeps-new deck v None ts h = keeps-none deck v h
 keeps-new deck v (Some r) ts h = keeps-all deck v r ts h
@@ -113,33 +152,44 @@ pub keeps-telling : (deck : Deck) (v : TasksView) (l : ToldLine) → AllDate dec
 keeps-telling deck v l h = record {
   date = date-telling deck v l h;
   here = λ t. is_task-telling v t l;
-  local = λ t r k. subst (λ (y : TaskState). (has_res r y.records ≡ has_res r (state_of v t).records) × (is_marked r (state_of v t).records ≡ true → is_marked r y.records ≡ true)) (sym (state_of-telling v t l)) (refl, λ m. m);
+  local = λ t r k.
+      subst (λ (y : TaskState).
+      (has_res r y.records ≡ has_res r (state_of v t).records)
+      × (is_marked r (state_of v t).records ≡ true → is_marked r y.records ≡ true))
+      (sym (state_of-telling v t l)) (refl, λ m. m);
 }
 
 -- a request is sent
-pub keeps-sent : (deck : Deck) (v : TasksView) (t : TaskId) → is_task v t ≡ true → AllDate deck v → Keeps deck v (with_phase v t phases.Sent)
+pub keeps-sent : (deck : Deck) (v : TasksView) (t : TaskId) → is_task v t ≡ true → AllDate deck v
+    → Keeps deck v (with_phase v t phases.Sent)
 keeps-sent deck v t here h = record {
   date = date-sent deck v t h here;
   here = (did-phase v v t (state_of v t) v.told here (did-none v t) phases.Sent).changed.here;
-  local = λ u r l. let same = phase-records v t phases.Sent here u in (ap (has_res r) same, λ m. ap (is_marked r) same ∙ m);
+  local = λ u r l. let same = phase-records v t phases.Sent here u in
+      (ap (has_res r) same, λ m. ap (is_marked r) same ∙ m);
 }
 
 -- what is outstanding is asked of the whole complex
-wanted-wide : (ls : List Meaning) (n : ℕ) (w : Want) (unit : Option ℕ) → IsWanted ls n w unit → (r : Res) × (res_wanted w ≡ Some r) × (is_systems r ≡ true)
+wanted-wide : (ls : List Meaning) (n : ℕ) (w : Want) (unit : Option ℕ) → IsWanted ls n w unit
+    → (r : Res) × (res_wanted w ≡ Some r) × (is_systems r ≡ true)
 wanted-wide ls n (Enq r c ret full) unit k = (r, refl, k.1.1)
 wanted-wide ls n (Deq r have) unit k = (r, refl, k.1)
 wanted-wide ls n (Release r) unit k = (r, refl, k)
 wanted-wide ls n (Look first count f) unit k = absurd k
 
 local-apart : (q r : Res) → is_local q ≡ true → is_systems r ≡ true → same_res q r ≡ false
-local-apart q r narrow wide = false_by (same_res q r) (λ e. no_truth (is_systems q) (ap is_systems (same_res-exact q r e) ∙ wide) (by_not (is_systems q) narrow))
+local-apart q r narrow wide =
+    false_by (same_res q r)
+    (λ e. no_truth (is_systems q) (ap is_systems (same_res-exact q r e) ∙ wide) (by_not (is_systems q) narrow))
   where
     by_not : (b : Bool) → not b ≡ true → b ≡ false
     by_not false e = refl
     by_not true e = absurd (cc)
 
 -- it is answered
-pub keeps-answer : (deck : Deck) (v : TasksView) (u : TaskId) (a : Asked) (answer : Answer) (rank : ℕ) → is_of_deck deck u ≡ true → is_task v u ≡ true → (state_of v u).outstanding ≡ Some a → IsCoded a.req.want answer → AllDate deck v → Keeps deck v (tell_answer_ranked v u a answer rank)
+pub keeps-answer : (deck : Deck) (v : TasksView) (u : TaskId) (a : Asked) (answer : Answer) (rank : ℕ)
+    → is_of_deck deck u ≡ true → is_task v u ≡ true → (state_of v u).outstanding ≡ Some a → IsCoded a.req.want answer
+    → AllDate deck v → Keeps deck v (tell_answer_ranked v u a answer rank)
 keeps-answer deck v u a (Rows rows) rank of_deck here is coded h = absurd (none a.req.want coded)
   where
     none : (w : Want) → IsCoded w (Rows rows) → ⊥
@@ -149,32 +199,43 @@ keeps-answer deck v u a (Rows rows) rank of_deck here is coded h = absurd (none 
     none (Look first count f) k = k
 keeps-answer deck v u a (CodedBy code) rank of_deck here is coded h =
     let lines = some_of (lines_of deck u) of_deck in
-    let wanted : IsWantedBy lines.0 (state_of v u).line (Some a) = subst (IsWantedBy lines.0 (state_of v u).line) is (h u lines.0 lines.1 here).wanted in
+    let wanted : IsWantedBy lines.0 (state_of v u).line (Some a) =
+    subst (IsWantedBy lines.0 (state_of v u).line) is (h u lines.0 lines.1 here).wanted in
     let wide = wanted-wide lines.0 (state_of v u).line a.req.want a.unit wanted in
-    let k : Answered v (tell_answer_ranked v u a (CodedBy code) rank) u a.req.want code = answered v u here a code rank in
+    let k : Answered v (tell_answer_ranked v u a (CodedBy code) rank) u a.req.want code =
+    answered v u here a code rank in
     record {
       date = date-ranked deck v u a (CodedBy code) rank h of_deck here is coded;
       here = k.did.changed.here;
-      local = local-did v (tell_answer_ranked v u a (CodedBy code) rank) u k.state k.told k.did (λ q l. let o = k.replied.others q wide.0 wide.1 (local-apart q wide.0 l wide.2) in (o.1, λ m. o.0 ∙ m));
+      local =
+          local-did v (tell_answer_ranked v u a (CodedBy code) rank) u k.state k.told k.did
+          (λ q l. let o = k.replied.others q wide.0 wide.1 (local-apart q wide.0 l wide.2) in (o.1, λ m. o.0 ∙ m));
     }
 
 -- by the system itself, and then it tells the new owners
-pub keeps-decided : (deck : Deck) (v : TasksView) (u : TaskId) (a : Asked) (s : State) (rank : ℕ) (ts : List TaskId) → is_of_deck deck u ≡ true → is_task v u ≡ true → (state_of v u).outstanding ≡ Some a → AllDate deck v →
+pub keeps-decided : (deck : Deck) (v : TasksView) (u : TaskId) (a : Asked) (s : State) (rank : ℕ) (ts : List TaskId)
+    → is_of_deck deck u ≡ true → is_task v u ≡ true → (state_of v u).outstanding ≡ Some a → AllDate deck v →
     Keeps deck v (tell_new (tell_answer_ranked v u a (answer_to s u a.req.want) rank) (res_wanted a.req.want) ts)
 keeps-decided deck v u a s rank ts of_deck here is h =
     let lines = some_of (lines_of deck u) of_deck in
-    let wanted : IsWantedBy lines.0 (state_of v u).line (Some a) = subst (IsWantedBy lines.0 (state_of v u).line) is (h u lines.0 lines.1 here).wanted in
+    let wanted : IsWantedBy lines.0 (state_of v u).line (Some a) =
+    subst (IsWantedBy lines.0 (state_of v u).line) is (h u lines.0 lines.1 here).wanted in
     let wide = wanted-wide lines.0 (state_of v u).line a.req.want a.unit wanted in
-    keeps-then deck v (tell_answer_ranked v u a (answer_to s u a.req.want) rank) (tell_new (tell_answer_ranked v u a (answer_to s u a.req.want) rank) (res_wanted a.req.want) ts)
-    (keeps-answer deck v u a (answer_to s u a.req.want) rank of_deck here is (codes-answer s u a.req.want (ap is_some wide.1)) h)
+    keeps-then deck v (tell_answer_ranked v u a (answer_to s u a.req.want) rank)
+    (tell_new (tell_answer_ranked v u a (answer_to s u a.req.want) rank) (res_wanted a.req.want) ts)
+    (keeps-answer deck v u a (answer_to s u a.req.want) rank of_deck here is
+    (codes-answer s u a.req.want (ap is_some wide.1)) h)
     (λ k. keeps-new deck (tell_answer_ranked v u a (answer_to s u a.req.want) rank) (res_wanted a.req.want) ts k)
 
 -- by mail
-pub keeps-mail : (deck : Deck) (v : TasksView) (u : TaskId) (answer : Answer) (rank : ℕ) → is_of_deck deck u ≡ true → AllDate deck v → Keeps deck v (after_mail v (AnsweredMail u answer rank))
+pub keeps-mail : (deck : Deck) (v : TasksView) (u : TaskId) (answer : Answer) (rank : ℕ) → is_of_deck deck u ≡ true
+    → AllDate deck v → Keeps deck v (after_mail v (AnsweredMail u answer rank))
 unfolding after_mail
-keeps-mail deck v u answer rank of_deck h = by_test (Keeps deck v) (has_effect v u answer rank) _ v answers (λ e. keeps-none deck v h)
+keeps-mail deck v u answer rank of_deck h =
+    by_test (Keeps deck v) (has_effect v u answer rank) _ v answers (λ e. keeps-none deck v h)
   where
-    answers : has_effect v u answer rank ≡ true → Keeps deck v (tell_answer_any_ranked v u answer rank (state_of v u).outstanding)
+    answers : has_effect v u answer rank ≡ true
+        → Keeps deck v (tell_answer_any_ranked v u answer rank (state_of v u).outstanding)
     answers e = go (state_of v u).outstanding refl
       where
         here : is_task v u ≡ true
@@ -183,22 +244,30 @@ keeps-mail deck v u answer rank of_deck h = by_test (Keeps deck v) (has_effect v
         awaited : is_awaited answer (state_of v u).outstanding ≡ true
         awaited = (and_parts _ (is_awaited answer (state_of v u).outstanding) (and_parts (has_sent v u) _ e).1).1
 
-        go : (o : Option Asked) → (state_of v u).outstanding ≡ o → Keeps deck v (tell_answer_any_ranked v u answer rank o)
+        go : (o : Option Asked) → (state_of v u).outstanding ≡ o
+            → Keeps deck v (tell_answer_any_ranked v u answer rank o)
         go None f = keeps-none deck v h
         go (Some a) f =
             let lines = some_of (lines_of deck u) of_deck in
-            let wanted : IsWantedBy lines.0 (state_of v u).line (Some a) = subst (IsWantedBy lines.0 (state_of v u).line) f (h u lines.0 lines.1 here).wanted in
-            keeps-answer deck v u a answer rank of_deck here f (can_get-coded lines.0 (state_of v u).line a.req.want a.unit answer (ap (is_awaited answer) (sym f) ∙ awaited) wanted) h
+            let wanted : IsWantedBy lines.0 (state_of v u).line (Some a) =
+            subst (IsWantedBy lines.0 (state_of v u).line) f (h u lines.0 lines.1 here).wanted in
+            keeps-answer deck v u a answer rank of_deck here f
+            (can_get-coded lines.0 (state_of v u).line a.req.want a.unit answer
+            (ap (is_awaited answer) (sym f) ∙ awaited) wanted)
+            h
 
 -- ---- a system whose tasks are up to date, and which has on record what its own lists have
 abbrev pub AreLocal : Deck → ℕ → NodeState → Type 0
-AreLocal deck s n = (t : TaskId) (ls : List Meaning) → IsOurs deck s n.tasks t ls → Matches is_local n.own t (state_of n.tasks t).records
+AreLocal deck s n =
+    (t : TaskId) (ls : List Meaning) → IsOurs deck s n.tasks t ls
+    → Matches is_local n.own t (state_of n.tasks t).records
 
 pub record IsDated (deck : Deck) (s : ℕ) (n : NodeState) : Type 0 where
   pub date : AllDate deck n.tasks
   pub own : AreLocal deck s n
 
-pub dated-by : (deck : Deck) (s : ℕ) (n k : NodeState) → k.own ≡ n.own → IsDated deck s n → Keeps deck n.tasks k.tasks → IsDated deck s k
+pub dated-by : (deck : Deck) (s : ℕ) (n k : NodeState) → k.own ≡ n.own → IsDated deck s n → Keeps deck n.tasks k.tasks
+    → IsDated deck s k
 dated-by deck s n k own h z = record {
   date = z.date;
   own = λ t ls o.
@@ -210,7 +279,8 @@ dated-by deck s n k own h z = record {
 }
 
 -- ---- a task goes on
-module _ (deck : Deck) (s : ℕ) (n : NodeState) (h : AreLocal deck s n) (u : TaskId) (ms : List Meaning) (ours : IsOurs deck s n.tasks u ms) (distinct : is_distinct (state_of n.tasks u).records ≡ true) where
+module _ (deck : Deck) (s : ℕ) (n : NodeState) (h : AreLocal deck s n) (u : TaskId) (ms : List Meaning)
+    (ours : IsOurs deck s n.tasks u ms) (distinct : is_distinct (state_of n.tasks u).records ≡ true) where
   abbrev v : TasksView
   v = n.tasks
 
@@ -224,31 +294,71 @@ module _ (deck : Deck) (s : ℕ) (n : NodeState) (h : AreLocal deck s n) (u : Ta
       where
         go : (b : Bool) → same_task t u ≡ b → Matches is_local n.own t (state_of w t).records
         go true e = let one : u ≡ t = sym (same_task-exact t u e) in
-            subst (λ z. Matches is_local n.own z (state_of w z).records) one (subst (λ (y : TaskState). Matches is_local n.own u y.records) (sym did.state) (subst (Matches is_local n.own u) (sym recs) (h u ms ours)))
-        go false e = subst (λ (y : TaskState). Matches is_local n.own t y.records) (sym (did.changed.others t (λ place. no_truth (same_task t u) (same_place deck s n.tasks t u ls ms (was t ls o) ours place) e))) (h t ls (was t ls o))
+            subst (λ z. Matches is_local n.own z (state_of w z).records) one
+            (subst (λ (y : TaskState). Matches is_local n.own u y.records) (sym did.state)
+            (subst (Matches is_local n.own u) (sym recs) (h u ms ours)))
+        go false e =
+            subst (λ (y : TaskState). Matches is_local n.own t y.records)
+            (sym (did.changed.others t
+            (λ place. no_truth (same_task t u) (same_place deck s n.tasks t u ls ms (was t ls o) ours place) e)))
+            (h t ls (was t ls o))
 
   -- ---- it asks, as it stands at x
-  module _ (v0 : TasksView) (x : TaskState) (did : Did n.tasks v0 u x n.tasks.told) (recs : x.records ≡ (state_of n.tasks u).records) (free : (f : Phase → Bool) → IsQuiet f → f x.phase ≡ false) (w : Want) (r : Res) (wanted : res_wanted w ≡ Some r) (unit : Option ℕ) where
+  module _ (v0 : TasksView) (x : TaskState) (did : Did n.tasks v0 u x n.tasks.told)
+      (recs : x.records ≡ (state_of n.tasks u).records) (free : (f : Phase → Bool) → IsQuiet f → f x.phase ≡ false)
+      (w : Want) (r : Res) (wanted : res_wanted w ≡ Some r) (unit : Option ℕ) where
     local-decide : is_systems r ≡ false → AreLocal deck s (decide (with_tasks n v0) u w unit).node
     unfolding decide
-    local-decide narrow = subst (λ o. AreLocal deck s (record n { tasks = tell_new (replied v0 u w unit (answer_to n.own u w)) o (new_owners n.own u w); own = after_want n.own u w })) (sym wanted)
+    local-decide narrow =
+        subst (λ o.
+        AreLocal deck s (record n {
+          tasks = tell_new (replied v0 u w unit (answer_to n.own u w)) o (new_owners n.own u w);
+          own = after_want n.own u w;
+        }))
+        (sym wanted)
         (λ t ls o. k.lists t ls (was_ours t ls o))
       where
-        k : AllKept deck s is_local (λ q. false) (after_want n.own u w) [] n.tasks (tell_new (replied v0 u w unit (answer_to n.own u w)) (Some r) (new_owners n.own u w))
-        k = own-kept deck s is_local (λ q. false) n.own [] n.tasks r (ap not narrow) refl h (λ t ls o. record { same = λ q e. absurd (let no : false ≡ true = e in cc); told = λ q e own. absurd (let no : false ≡ true = e in cc) }) u ms ours v0 x did recs free distinct w wanted unit
+        k :
+            AllKept deck s is_local (λ q. false) (after_want n.own u w) [] n.tasks
+            (tell_new (replied v0 u w unit (answer_to n.own u w)) (Some r) (new_owners n.own u w))
+        k =
+            own-kept deck s is_local (λ q. false) n.own [] n.tasks r (ap not narrow) refl h
+            (λ t ls o. record {
+              same = λ q e. absurd (let no : false ≡ true = e in cc);
+              told = λ q e own. absurd (let no : false ≡ true = e in cc);
+            })
+            u ms ours v0 x did recs free distinct w wanted unit
 
-        was_ours : (t : TaskId) (ls : List Meaning) → IsOurs deck s (tell_new (replied v0 u w unit (answer_to n.own u w)) (Some r) (new_owners n.own u w)) t ls → IsOurs deck s n.tasks t ls
+        was_ours : (t : TaskId) (ls : List Meaning)
+            → IsOurs deck s (tell_new (replied v0 u w unit (answer_to n.own u w)) (Some r) (new_owners n.own u w)) t ls
+            → IsOurs deck s n.tasks t ls
         was_ours t ls o = record { lines = o.lines; home = o.home; here = sym (k.here t) ∙ o.here }
 
     local-post : AreLocal deck s (post (with_tasks n v0) u w unit).node
     unfolding post
-    local-post = local-same (with_outstanding (with_phase v0 u phases.ToSend) u (Some (record { req = record { task = u; want = w }; unit = unit })))
-        (record { line = x.line; phase = phases.ToSend; code = x.code; records = x.records; outstanding = Some (record { req = record { task = u; want = w }; unit = unit }); rows = x.rows }) n.tasks.told
-        (did-outstanding v (with_phase v0 u phases.ToSend) u (record x { phase = phases.ToSend; code = x.code }) v.told ours.here (did-phase v v0 u x v.told ours.here did phases.ToSend) (Some (record { req = record { task = u; want = w }; unit = unit }))) recs
+    local-post =
+        local-same (with_outstanding (with_phase v0 u phases.ToSend) u
+        (Some (record { req = record { task = u; want = w }; unit = unit })))
+        (record {
+          line = x.line;
+          phase = phases.ToSend;
+          code = x.code;
+          records = x.records;
+          outstanding = Some (record { req = record { task = u; want = w }; unit = unit });
+          rows = x.rows;
+        })
+        n.tasks.told
+        (did-outstanding v (with_phase v0 u phases.ToSend) u (record x { phase = phases.ToSend; code = x.code }) v.told
+        ours.here (did-phase v v0 u x v.told ours.here did phases.ToSend)
+        (Some (record { req = record { task = u; want = w }; unit = unit })))
+        recs
 
     local-ask : AreLocal deck s (ask (with_tasks n v0) u w unit).node
     unfolding ask
-    local-ask = by_test (λ (st : Step). AreLocal deck s st.node) (is_for_all (res_wanted w)) (post (with_tasks n v0) u w unit) (decide (with_tasks n v0) u w unit) (λ wide. local-post) (λ narrow. local-decide (ap is_for_all (sym wanted) ∙ narrow))
+    local-ask =
+        by_test (λ (st : Step). AreLocal deck s st.node) (is_for_all (res_wanted w)) (post (with_tasks n v0) u w unit)
+        (decide (with_tasks n v0) u w unit) (λ wide. local-post)
+        (λ narrow. local-decide (ap is_for_all (sym wanted) ∙ narrow))
 
   -- ---- one that is ready
   quiet-ready : (p : Phase) → p ≡ phases.Ready → (f : Phase → Bool) → IsQuiet f → f p ≡ false
@@ -258,40 +368,68 @@ module _ (deck : Deck) (s : ℕ) (n : NodeState) (h : AreLocal deck s n) (u : Ta
     abbrev y : TaskState
     y = state_of n.tasks u
 
-    did-next : Did n.tasks (with_line n.tasks u) u (record (state_of n.tasks u) { line = suc (state_of n.tasks u).line }) n.tasks.told
+    did-next :
+        Did n.tasks (with_line n.tasks u) u (record (state_of n.tasks u) { line = suc (state_of n.tasks u).line })
+        n.tasks.told
     did-next = did-line v v u y v.told ours.here (did-none v u)
 
     local-wait : (r : Res) (o : Option Rec) → AreLocal deck s (with_tasks n (wait (with_line n.tasks u) u r o))
     unfolding wait
-    local-wait r None = local-same (tell_code (with_line v u) u verbs.Wait C08) (record y { line = suc y.line }) _ (did-code v (with_line v u) u (record y { line = suc y.line }) v.told ours.here did-next verbs.Wait C08) refl
+    local-wait r None =
+        local-same (tell_code (with_line v u) u verbs.Wait C08) (record y { line = suc y.line }) _
+        (did-code v (with_line v u) u (record y { line = suc y.line }) v.told ours.here did-next verbs.Wait C08) refl
     local-wait r (Some z) = go z.told
       where
-        go : (b : Bool) → AreLocal deck s (with_tasks n (cond b (tell_code (with_line n.tasks u) u verbs.Wait C00) (with_phase (with_line n.tasks u) u (phases.HeldLine r))))
-        go true = local-same (tell_code (with_line v u) u verbs.Wait C00) (record y { line = suc y.line }) _ (did-code v (with_line v u) u (record y { line = suc y.line }) v.told ours.here did-next verbs.Wait C00) refl
-        go false = local-same (with_phase (with_line v u) u (phases.HeldLine r)) (record y { line = suc y.line; phase = phases.HeldLine r }) v.told (did-phase v (with_line v u) u (record y { line = suc y.line }) v.told ours.here did-next (phases.HeldLine r)) refl
+        go : (b : Bool)
+            → AreLocal deck s (with_tasks n (cond b (tell_code (with_line n.tasks u) u verbs.Wait C00)
+            (with_phase (with_line n.tasks u) u (phases.HeldLine r))))
+        go true =
+            local-same (tell_code (with_line v u) u verbs.Wait C00) (record y { line = suc y.line }) _
+            (did-code v (with_line v u) u (record y { line = suc y.line }) v.told ours.here did-next verbs.Wait C00)
+            refl
+        go false =
+            local-same (with_phase (with_line v u) u (phases.HeldLine r))
+            (record y { line = suc y.line; phase = phases.HeldLine r }) v.told
+            (did-phase v (with_line v u) u (record y { line = suc y.line }) v.told ours.here did-next
+            (phases.HeldLine r))
+            refl
 
-    local-line : (limit : ℕ) (l : Meaning) → AreLocal deck s (take_line limit (with_tasks n (with_line n.tasks u)) u l).node
+    local-line : (limit : ℕ) (l : Meaning)
+        → AreLocal deck s (take_line limit (with_tasks n (with_line n.tasks u)) u l).node
     unfolding take_line
-    local-line limit (lines.Enq r c ret unit) = local-ask (with_line v u) (record y { line = suc y.line }) did-next refl (quiet-ready y.phase ready) (Enq r c ret (has_most limit (with_line v u) u)) r refl unit
-    local-line limit (lines.Deq r have) = local-ask (with_line v u) (record y { line = suc y.line }) did-next refl (quiet-ready y.phase ready) (Deq r have) r refl None
+    local-line limit (lines.Enq r c ret unit) =
+        local-ask (with_line v u) (record y { line = suc y.line }) did-next refl (quiet-ready y.phase ready)
+        (Enq r c ret (has_most limit (with_line v u) u)) r refl unit
+    local-line limit (lines.Deq r have) =
+        local-ask (with_line v u) (record y { line = suc y.line }) did-next refl (quiet-ready y.phase ready)
+        (Deq r have) r refl None
     local-line limit (lines.Wait r) = local-wait r (record_of (state_of (with_line v u) u).records r)
     local-line limit lines.Nothing = local-same (with_line v u) (record y { line = suc y.line }) v.told did-next refl
 
   -- one that is ending
-  module _ (v0 : TasksView) (x : TaskState) (did : Did n.tasks v0 u x n.tasks.told) (recs : x.records ≡ (state_of n.tasks u).records) (c : ℕ) (ending : x.phase ≡ phases.Ending c) where
+  module _ (v0 : TasksView) (x : TaskState) (did : Did n.tasks v0 u x n.tasks.told)
+      (recs : x.records ≡ (state_of n.tasks u).records) (c : ℕ) (ending : x.phase ≡ phases.Ending c) where
     local-end : (xs : List Rec) → AreLocal deck s (end_step (with_tasks n v0) u c xs).node
     unfolding end_step
-    local-end [] = local-same (telling (with_phase v0 u phases.Ended) (told.Ended u c)) (record x { phase = phases.Ended }) _ (did-telling v (with_phase v0 u phases.Ended) u (record x { phase = phases.Ended }) v.told (told.Ended u c) (did-phase v v0 u x v.told ours.here did phases.Ended)) recs
+    local-end [] =
+        local-same (telling (with_phase v0 u phases.Ended) (told.Ended u c)) (record x { phase = phases.Ended }) _
+        (did-telling v (with_phase v0 u phases.Ended) u (record x { phase = phases.Ended }) v.told (told.Ended u c)
+        (did-phase v v0 u x v.told ours.here did phases.Ended))
+        recs
     local-end (z ∷ xs) = local-ask v0 x did recs (λ f k. ap f ending ∙ k.ending c) (Release z.res) z.res refl None
 
   -- whatever it does by its phase
-  local-phase : (limit : ℕ) (p : Phase) → (state_of n.tasks u).phase ≡ p → AreLocal deck s (phase_step limit n u ms p).node
+  local-phase : (limit : ℕ) (p : Phase) → (state_of n.tasks u).phase ≡ p
+      → AreLocal deck s (phase_step limit n u ms p).node
   unfolding phase_step ready_step
   local-phase limit phases.Ready e = go (slice_get ms (state_of v u).line)
     where
       go : (o : Option Meaning) → AreLocal deck s (ready_step limit n u o).node
       go (Some l) = local-line e limit l
-      go None = local-end (with_phase v u (phases.Ending 0)) (record (state_of v u) { phase = phases.Ending 0; code = 0 }) (did-phase v v u (state_of v u) v.told ours.here (did-none v u) (phases.Ending 0)) refl 0 refl (state_of (with_phase v u (phases.Ending 0)) u).records
+      go None =
+          local-end (with_phase v u (phases.Ending 0)) (record (state_of v u) { phase = phases.Ending 0; code = 0 })
+          (did-phase v v u (state_of v u) v.told ours.here (did-none v u) (phases.Ending 0)) refl 0 refl
+          (state_of (with_phase v u (phases.Ending 0)) u).records
   local-phase limit (phases.Ending c) e = local-end v (state_of v u) (did-none v u) refl c e (state_of v u).records
   local-phase limit phases.HeldAnswer e = h
   local-phase limit (phases.HeldLine r) e = h
@@ -303,7 +441,10 @@ module _ (deck : Deck) (s : ℕ) (n : NodeState) (h : AreLocal deck s n) (u : Ta
   local-star limit = local-phase limit (state_of v u).phase refl
 
 -- so it stays as it should be
-pub dated-task : (deck : Deck) (s : ℕ) (n : NodeState) → n.tasks.system ≡ s → ((t : TaskId) (ls : List Meaning) → IsOurs deck s n.tasks t ls → is_distinct (state_of n.tasks t).records ≡ true) → (t : TaskId) → may_go deck n t ≡ true → IsDated deck s n → IsDated deck s (finish_quiet deck n (choices.Task t)).node
+pub dated-task : (deck : Deck) (s : ℕ) (n : NodeState) → n.tasks.system ≡ s
+    → ((t : TaskId) (ls : List Meaning) → IsOurs deck s n.tasks t ls → is_distinct (state_of n.tasks t).records ≡ true)
+    → (t : TaskId) → may_go deck n t ≡ true → IsDated deck s n
+    → IsDated deck s (finish_quiet deck n (choices.Task t)).node
 unfolding finish_quiet
 dated-task deck s n system distinct t may h =
     let ours = going-ours deck s n system t may in

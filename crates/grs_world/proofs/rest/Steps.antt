@@ -1,5 +1,6 @@
 -- Each task of a system stays up to date, whatever the system does.
-use Rattle.std.proofs.Common.{◌≡◌, ◌≢◌, ◌-◌, ◌+◌, ℕ, suc, Bool, true, false, cond, not, ◌&&◌, ◌||◌, List, [], ◌∷◌, ◌++◌, Option, Some, None, refl, ap, sym, ◌∙◌, subst, arith}
+use Rattle.std.proofs.Common.{◌≡◌, ◌≢◌, ◌-◌, ◌+◌, ℕ, suc, Bool, true, false, cond, not, ◌&&◌, ◌||◌, List, [], ◌∷◌, ◌++◌}
+use Rattle.std.proofs.Common.{Option, Some, None, refl, ap, sym, ◌∙◌, subst, arith}
 use Rattle.std.specs.Prelude.{◌==◌, slice_get, is_some}
 use Rattle.std.specs.List.{list_any}
 use Rattle.std.proofs.lemmas.Bool.{and_parts, and_from, eq-eqb, eqb-true, eqb-false, or_left}
@@ -11,7 +12,8 @@ use Rattle.grs_base.specs.State.{State}
 use Rattle.grs_legal.specs.Asks.{lines_of}
 use Rattle.grs_legal.specs.declared.meaning.Meaning.{Meaning}
 use Rattle.grs_legal.specs.declared.meaning.Meaning.TheVariants as lines
-use Rattle.grs_node.specs.Node.{NodeState, Step, ask, decide, end_step, phase_step, post, ready_step, take_line, task_step, wait, with_tasks, goes_on, has_most, is_of_deck, may_go}
+use Rattle.grs_node.specs.Node.{NodeState, Step, ask, decide, end_step, phase_step, post, ready_step, take_line}
+use Rattle.grs_node.specs.Node.{task_step, wait, with_tasks, goes_on, has_most, is_of_deck, may_go}
 use Rattle.grs_wire.specs.Wants.{answer_to, new_owners, res_wanted}
 use Rattle.grs_wire.specs.declared.deck.Deck.{Deck}
 use Rattle.grs_wire.specs.declared.request.Want.{Want}
@@ -22,7 +24,8 @@ use Rattle.grs_wire.specs.declared.told.Verb.TheVariants as verbs
 use Rattle.grs_wire.proofs.WantLaws.{by_test}
 use Rattle.ring_mode.specs.Ring.{is_for_all}
 use Rattle.task_state.specs.Replies.{replied, tell_all, tell_code, tell_control, tell_new, tell_untold}
-use Rattle.task_state.specs.View.{TasksView, is_task, record_of, record_place, state_of, telling, with_line, with_outstanding, with_phase}
+use Rattle.task_state.specs.View.{TasksView, is_task, record_of, record_place, state_of, telling, with_line}
+use Rattle.task_state.specs.View.{with_outstanding, with_phase}
 use Rattle.task_state.specs.declared.state.Asked.{Asked}
 use Rattle.task_state.specs.declared.state.Phase.{Phase}
 use Rattle.task_state.specs.declared.state.Phase.TheVariants as phases
@@ -39,19 +42,28 @@ use Rattle.grs_known.proofs.tasks.Invariant.{Each, is_unsent, is_waiting}
 use Rattle.grs_world.proofs.rest.Answers.{IsCoded, IsDue, answered, coded-line, is_free}
 use Rattle.grs_world.proofs.rest.Control.{controlled, hears-grows, is_unmarked}
 use Rattle.grs_world.proofs.rest.Places.{state_at}
-use Rattle.grs_world.proofs.rest.UpToDate.{AreCoded, HasUnit, IsUpToDate, IsWanted, IsWantedBy, done_by, has_code, hears-date, is_code_at, is_kept, is_placed, more-told, unit_of}
+use Rattle.grs_world.proofs.rest.UpToDate.{AreCoded, HasUnit, IsUpToDate, IsWanted, IsWantedBy, done_by, has_code}
+use Rattle.grs_world.proofs.rest.UpToDate.{hears-date, is_code_at, is_kept, is_placed, more-told, unit_of}
 
 -- ---- all tasks of a system
 -- each task of the deck that is here is up to date
 abbrev pub AllDate : Deck → TasksView → Type 0
-AllDate deck v = (t : TaskId) (ls : List Meaning) → lines_of deck t ≡ Some ls → is_task v t ≡ true → IsUpToDate ls v.told t (state_of v t)
+AllDate deck v =
+    (t : TaskId) (ls : List Meaning) → lines_of deck t ≡ Some ls → is_task v t ≡ true
+    → IsUpToDate ls v.told t (state_of v t)
 
-pub placed-here : (v : TasksView) (t u : TaskId) → is_task v t ≡ true → is_task v u ≡ true → t.task ≡ u.task → is_placed t u ≡ true
-placed-here v t u a b e = and_from (t.system.0 == u.system.0) (t.task == u.task) (eq-eqb _ _ (sym (is_task-system v t a) ∙ is_task-system v u b)) (eq-eqb _ _ e)
+pub placed-here : (v : TasksView) (t u : TaskId) → is_task v t ≡ true → is_task v u ≡ true → t.task ≡ u.task
+    → is_placed t u ≡ true
+placed-here v t u a b e =
+    and_from (t.system.0 == u.system.0) (t.task == u.task)
+    (eq-eqb _ _ (sym (is_task-system v t a) ∙ is_task-system v u b)) (eq-eqb _ _ e)
 
 -- one task changed, and more is told
-pub date-did : (deck : Deck) (v w : TasksView) (u : TaskId) (x : TaskState) (T : List ToldLine) → is_task v u ≡ true → Did v w u x T → ((p : ToldLine → Bool) → list_any p v.told ≡ true → list_any p T ≡ true) →
-    ((t : TaskId) (ls : List Meaning) → lines_of deck t ≡ Some ls → is_placed t u ≡ true → IsUpToDate ls v.told t (state_of v u) → IsUpToDate ls T t x) → AllDate deck v → AllDate deck w
+pub date-did : (deck : Deck) (v w : TasksView) (u : TaskId) (x : TaskState) (T : List ToldLine) → is_task v u ≡ true
+    → Did v w u x T → ((p : ToldLine → Bool) → list_any p v.told ≡ true → list_any p T ≡ true) →
+    ((t : TaskId) (ls : List Meaning) → lines_of deck t ≡ Some ls → is_placed t u ≡ true
+    → IsUpToDate ls v.told t (state_of v u) → IsUpToDate ls T t x)
+    → AllDate deck v → AllDate deck w
 date-did deck v w u x T here did grows own h t ls at there = go (t.task == u.task) refl
   where
     was : is_task v t ≡ true
@@ -60,18 +72,28 @@ date-did deck v w u x T here did grows own h t ls at there = go (t.task == u.tas
     go : (b : Bool) → (t.task == u.task) ≡ b → IsUpToDate ls w.told t (state_of w t)
     go true e =
         let same : t.task ≡ u.task = eqb-true t.task u.task e in
-        subst (λ U. IsUpToDate ls U t (state_of w t)) (sym did.told) (subst (λ y. IsUpToDate ls T t y) (sym (state_at w t u same ∙ did.state))
-        (own t ls at (placed-here v t u was here same) (subst (λ y. IsUpToDate ls v.told t y) (state_at v t u same) (h t ls at was))))
+        subst (λ U. IsUpToDate ls U t (state_of w t))
+        (sym did.told) (subst (λ y. IsUpToDate ls T t y) (sym (state_at w t u same ∙ did.state))
+        (own t ls at (placed-here v t u was here same)
+        (subst (λ y. IsUpToDate ls v.told t y) (state_at v t u same) (h t ls at was))))
     go false e =
         let ne : t.task ≢ u.task = eqb-false t.task u.task e in
-        subst (λ U. IsUpToDate ls U t (state_of w t)) (sym did.told) (subst (λ y. IsUpToDate ls T t y) (sym (did.changed.others t ne)) (more-told ls v.told T t (state_of v t) grows (h t ls at was)))
+        subst (λ U. IsUpToDate ls U t (state_of w t)) (sym did.told)
+        (subst (λ y. IsUpToDate ls T t y) (sym (did.changed.others t ne))
+        (more-told ls v.told T t (state_of v t) grows (h t ls at was)))
 
 -- two tasks of the deck at one place are one
-pub one-task : (deck : Deck) (v : TasksView) (t u : TaskId) (ls ms : List Meaning) → lines_of deck t ≡ Some ls → lines_of deck u ≡ Some ms → is_task v t ≡ true → is_task v u ≡ true → t.task ≡ u.task → u ≡ t
-one-task deck v t u ls ms a b at bt e = sym (same_task-exact t u (same_place deck v.system v t u ls ms (record { lines = a; home = sym (is_task-system v t at); here = at }) (record { lines = b; home = sym (is_task-system v u bt); here = bt }) e))
+pub one-task : (deck : Deck) (v : TasksView) (t u : TaskId) (ls ms : List Meaning) → lines_of deck t ≡ Some ls
+    → lines_of deck u ≡ Some ms → is_task v t ≡ true → is_task v u ≡ true → t.task ≡ u.task → u ≡ t
+one-task deck v t u ls ms a b at bt e =
+    sym (same_task-exact t u (same_place deck v.system v t u ls ms
+    (record { lines = a; home = sym (is_task-system v t at); here = at })
+    (record { lines = b; home = sym (is_task-system v u bt); here = bt }) e))
 
 -- a task of the deck changed
-pub date-own : (deck : Deck) (v w : TasksView) (u : TaskId) (ms : List Meaning) (x : TaskState) (T : List ToldLine) → lines_of deck u ≡ Some ms → is_task v u ≡ true → Did v w u x T → ((p : ToldLine → Bool) → list_any p v.told ≡ true → list_any p T ≡ true) →
+pub date-own : (deck : Deck) (v w : TasksView) (u : TaskId) (ms : List Meaning) (x : TaskState) (T : List ToldLine)
+    → lines_of deck u ≡ Some ms → is_task v u ≡ true → Did v w u x T
+    → ((p : ToldLine → Bool) → list_any p v.told ≡ true → list_any p T ≡ true) →
     IsUpToDate ms T u x → AllDate deck v → AllDate deck w
 date-own deck v w u ms x T lines here did grows date h t ls at there = go (t.task == u.task) refl
   where
@@ -84,22 +106,28 @@ date-own deck v w u ms x T lines here did grows date h t ls at there = go (t.tas
         let one : u ≡ t = one-task deck v t u ls ms at lines was here same in
         let lists : Some ms ≡ Some ls = sym lines ∙ (ap (lines_of deck) one ∙ at) in
         let as_one : ms ≡ ls = cc in
-        subst (λ U. IsUpToDate ls U t (state_of w t)) (sym did.told) (subst (λ y. IsUpToDate ls T t y) (sym (state_at w t u same ∙ did.state))
+        subst (λ U. IsUpToDate ls U t (state_of w t))
+        (sym did.told) (subst (λ y. IsUpToDate ls T t y) (sym (state_at w t u same ∙ did.state))
         (subst (λ z. IsUpToDate z T t x) as_one (subst (λ z. IsUpToDate ms T z x) one date)))
     go false e =
         let ne : t.task ≢ u.task = eqb-false t.task u.task e in
-        subst (λ U. IsUpToDate ls U t (state_of w t)) (sym did.told) (subst (λ y. IsUpToDate ls T t y) (sym (did.changed.others t ne)) (more-told ls v.told T t (state_of v t) grows (h t ls at was)))
+        subst (λ U. IsUpToDate ls U t (state_of w t)) (sym did.told)
+        (subst (λ y. IsUpToDate ls T t y) (sym (did.changed.others t ne))
+        (more-told ls v.told T t (state_of v t) grows (h t ls at was)))
 
 -- who may go on is a task of the deck at this system
-pub going-ours : (deck : Deck) (s : ℕ) (n : NodeState) → n.tasks.system ≡ s → (t : TaskId) → may_go deck n t ≡ true → (ls : List Meaning) × IsOurs deck s n.tasks t ls
+pub going-ours : (deck : Deck) (s : ℕ) (n : NodeState) → n.tasks.system ≡ s → (t : TaskId) → may_go deck n t ≡ true
+    → (ls : List Meaning) × IsOurs deck s n.tasks t ls
 unfolding may_go
 going-ours deck s n system t may =
     let going = and_parts (is_task n.tasks t) (is_of_deck deck t && goes_on (state_of n.tasks t).phase) may in
-    let lines = some_of (lines_of deck t) (and_parts (is_of_deck deck t) (goes_on (state_of n.tasks t).phase) going.1).0 in
+    let lines =
+    some_of (lines_of deck t) (and_parts (is_of_deck deck t) (goes_on (state_of n.tasks t).phase) going.1).0 in
     (lines.0, record { lines = lines.1; home = sym (is_task-system n.tasks t going.0) ∙ system; here = going.0 })
 
 -- ---- control is told
-pub date-control : (deck : Deck) (v : TasksView) (r : Res) (u : TaskId) → AllDate deck v → AllDate deck (tell_control v r u)
+pub date-control : (deck : Deck) (v : TasksView) (r : Res) (u : TaskId) → AllDate deck v
+    → AllDate deck (tell_control v r u)
 unfolding tell_control
 date-control deck v r u h = go (is_task v u) refl
   where
@@ -107,14 +135,18 @@ date-control deck v r u h = go (is_task v u) refl
     go false e = subst (λ b. AllDate deck (cond b (tell_untold v u r (record_of (state_of v u).records r)) v)) (sym e) h
     go true e =
         let c = controlled v r u e in
-        date-did deck v (tell_control v r u) u c.state c.told e c.did (hears-grows u r (state_of v u) v.told c.state c.told c.hears) (λ t ls at place k. hears-date ls t u r (state_of v u) v.told c.state c.told place c.hears k) h
+        date-did deck v (tell_control v r u) u c.state c.told e c.did
+        (hears-grows u r (state_of v u) v.told c.state c.told c.hears)
+        (λ t ls at place k. hears-date ls t u r (state_of v u) v.told c.state c.told place c.hears k) h
 
-pub date-all : (deck : Deck) (r : Res) (us : List TaskId) (v : TasksView) → AllDate deck v → AllDate deck (tell_all v r us)
+pub date-all : (deck : Deck) (r : Res) (us : List TaskId) (v : TasksView) → AllDate deck v
+    → AllDate deck (tell_all v r us)
 unfolding tell_all
 date-all deck r [] v h = h
 date-all deck r (u ∷ us) v h = date-all deck r us (tell_control v r u) (date-control deck v r u h)
 
-pub date-new : (deck : Deck) (o : Option Res) (us : List TaskId) (v : TasksView) → AllDate deck v → AllDate deck (tell_new v o us)
+pub date-new : (deck : Deck) (o : Option Res) (us : List TaskId) (v : TasksView) → AllDate deck v
+    → AllDate deck (tell_new v o us)
 unfolding tell_new
 date-new deck None us v h = h
 date-new deck (Some r) us v h = date-all deck r us v h
@@ -127,7 +159,8 @@ codes-answer s t (Release r) e = tt
 codes-answer s t (Look first count f) e = absurd (cc)
 
 -- a line more, which has no code
-coded-silent : (ls : List Meaning) (T : List ToldLine) (t : TaskId) (n : ℕ) → has_code (slice_get ls n) ≡ false → AreCoded ls T t n → AreCoded ls T t (suc n)
+coded-silent : (ls : List Meaning) (T : List ToldLine) (t : TaskId) (n : ℕ) → has_code (slice_get ls n) ≡ false
+    → AreCoded ls T t n → AreCoded ls T t (suc n)
 coded-silent ls T t n quiet h k low in_it asks = go (k == suc n) refl
   where
     go : (b : Bool) → (k == suc n) ≡ b → list_any (is_code_at t k) T ≡ true
@@ -137,19 +170,24 @@ coded-silent ls T t n quiet h k low in_it asks = go (k == suc n) refl
         no_truth (has_code (slice_get ls n)) (ap (λ i. has_code (slice_get ls i)) (sym at) ∙ asks) quiet
     go false e = let ne : k ≢ suc n = eqb-false k (suc n) e in h k low (omega (arith, in_it, ne)) asks
 
-found-unmarked : (xs : List Rec) (r : Res) (y : Rec) → record_of xs r ≡ Some y → y.told ≡ false → is_unmarked r xs ≡ true
+found-unmarked : (xs : List Rec) (r : Res) (y : Rec) → record_of xs r ≡ Some y → y.told ≡ false
+    → is_unmarked r xs ≡ true
 found-unmarked [] r y e untold = absurd (cc)
 found-unmarked (x ∷ xs) r y e untold = go (same_res r x.res) e (λ f. found-unmarked xs r y f untold)
   where
-    go : (b : Bool) → slice_get (x ∷ xs) (cond b 0 (suc (record_place xs r))) ≡ Some y → (record_of xs r ≡ Some y → is_unmarked r xs ≡ true) → ((b && not x.told) || is_unmarked r xs) ≡ true
-    go true f more = let same : x ≡ y = cc in or_left (not x.told) (is_unmarked r xs) (ap (λ (z : Rec). not z.told) same ∙ ap not untold)
+    go : (b : Bool) → slice_get (x ∷ xs) (cond b 0 (suc (record_place xs r))) ≡ Some y
+        → (record_of xs r ≡ Some y → is_unmarked r xs ≡ true) → ((b && not x.told) || is_unmarked r xs) ≡ true
+    go true f more =
+        let same : x ≡ y = cc in
+        or_left (not x.told) (is_unmarked r xs) (ap (λ (z : Rec). not z.told) same ∙ ap not untold)
     go false f more = more f
 
 -- what a request that may wait has to do with its line
 abbrev pub IsWantedIf : List Meaning → ℕ → Want → Option ℕ → Type 0
 IsWantedIf ls n w unit = is_for_all (res_wanted w) ≡ true → IsWanted ls n w unit
 
-module _ (deck : Deck) (n : NodeState) (h : AllDate deck n.tasks) (u : TaskId) (ms : List Meaning) (at : lines_of deck u ≡ Some ms) (here : is_task n.tasks u ≡ true) where
+module _ (deck : Deck) (n : NodeState) (h : AllDate deck n.tasks) (u : TaskId) (ms : List Meaning)
+    (at : lines_of deck u ≡ Some ms) (here : is_task n.tasks u ≡ true) where
   abbrev v : TasksView
   v = n.tasks
 
@@ -157,13 +195,16 @@ module _ (deck : Deck) (n : NodeState) (h : AllDate deck n.tasks) (u : TaskId) (
   place_own = placed-here n.tasks u u here here refl
 
   -- the tasks when it asks: it stands as x, has nothing outstanding, and is done with what is before
-  module _ (v0 : TasksView) (x : TaskState) (did : Did n.tasks v0 u x n.tasks.told) (w : Want) (unit : Option ℕ) (due : IsDue ms n.tasks.told u x w unit) (some : is_some (res_wanted w) ≡ true) where
+  module _ (v0 : TasksView) (x : TaskState) (did : Did n.tasks v0 u x n.tasks.told) (w : Want) (unit : Option ℕ)
+      (due : IsDue ms n.tasks.told u x w unit) (some : is_some (res_wanted w) ≡ true) where
     -- which is decided at once
     date-decide : AllDate deck (decide (with_tasks n v0) u w unit).node.tasks
     unfolding decide
     date-decide =
-        let a = answered ms v v0 u u place_own here x did w unit (answer_to n.own u w) (codes-answer n.own u w some) due in
-        date-new deck (res_wanted w) (new_owners n.own u w) (replied v0 u w unit (answer_to n.own u w)) (date-own deck v (replied v0 u w unit (answer_to n.own u w)) u ms a.state a.told at here a.did a.grows a.date h)
+        let a =
+        answered ms v v0 u u place_own here x did w unit (answer_to n.own u w) (codes-answer n.own u w some) due in
+        date-new deck (res_wanted w) (new_owners n.own u w) (replied v0 u w unit (answer_to n.own u w))
+        (date-own deck v (replied v0 u w unit (answer_to n.own u w)) u ms a.state a.told at here a.did a.grows a.date h)
 
     -- or waits
     date-post : IsWanted ms x.line w unit → AllDate deck (post (with_tasks n v0) u w unit).node.tasks
@@ -172,12 +213,31 @@ module _ (deck : Deck) (n : NodeState) (h : AllDate deck n.tasks) (u : TaskId) (
         let a : Asked = record { req = record { task = u; want = w }; unit = unit } in
         let did1 = did-phase v v0 u x v.told here did phases.ToSend in
         let did2 = did-outstanding v (with_phase v0 u phases.ToSend) u _ v.told here did1 (Some a) in
-        let z : TaskState = record { line = x.line; phase = phases.ToSend; code = x.code; records = x.records; outstanding = Some a; rows = x.rows } in
-        date-own deck v (with_outstanding (with_phase v0 u phases.ToSend) u (Some a)) u ms z v.told at here did2 (λ p k. k) (record { closed = λ e. absurd (cc); wanted = wanted; held = refl; coded = due.coded; units = due.units }) h
+        let z :
+        TaskState = record {
+          line = x.line;
+          phase = phases.ToSend;
+          code = x.code;
+          records = x.records;
+          outstanding = Some a;
+          rows = x.rows;
+        } in
+        date-own deck v (with_outstanding (with_phase v0 u phases.ToSend) u (Some a)) u ms z v.told at here did2
+        (λ p k. k) (record {
+          closed = λ e. absurd (cc);
+          wanted = wanted;
+          held = refl;
+          coded = due.coded;
+          units = due.units;
+        })
+        h
 
     date-ask : IsWantedIf ms x.line w unit → AllDate deck (ask (with_tasks n v0) u w unit).node.tasks
     unfolding ask
-    date-ask wanted = by_test (λ (st : Step). AllDate deck st.node.tasks) (is_for_all (res_wanted w)) (post (with_tasks n v0) u w unit) (decide (with_tasks n v0) u w unit) (λ wide. date-post (wanted wide)) (λ narrow. date-decide)
+    date-ask wanted =
+        by_test (λ (st : Step). AllDate deck st.node.tasks) (is_for_all (res_wanted w))
+        (post (with_tasks n v0) u w unit) (decide (with_tasks n v0) u w unit) (λ wide. date-post (wanted wide))
+        (λ narrow. date-decide)
 
   -- one that is ready
   module _ (ready : (state_of n.tasks u).phase ≡ phases.Ready) where
@@ -188,20 +248,27 @@ module _ (deck : Deck) (n : NodeState) (h : AllDate deck n.tasks) (u : TaskId) (
     closed = (h u ms at here).closed (ap is_unsent ready)
 
     done : AreCoded ms n.tasks.told u (state_of n.tasks u).line
-    done = subst (λ p. AreCoded ms v.told u (cond (is_waiting p) (y.line - 1) y.line)) ready (subst (λ o. AreCoded ms v.told u (done_by o y.phase y.line)) closed (h u ms at here).coded)
+    done =
+        subst (λ p. AreCoded ms v.told u (cond (is_waiting p) (y.line - 1) y.line)) ready
+        (subst (λ o. AreCoded ms v.told u (done_by o y.phase y.line)) closed (h u ms at here).coded)
 
     abbrev x1 : TaskState
     x1 = record (state_of n.tasks u) { line = suc (state_of n.tasks u).line }
 
-    did-next : Did n.tasks (with_line n.tasks u) u (record (state_of n.tasks u) { line = suc (state_of n.tasks u).line }) n.tasks.told
+    did-next :
+        Did n.tasks (with_line n.tasks u) u (record (state_of n.tasks u) { line = suc (state_of n.tasks u).line })
+        n.tasks.told
     did-next = did-line v v u y v.told here (did-none v u)
 
     back : (k : ℕ) → suc k - 1 ≡ k
     back k = omega arith
 
     -- a line that asks nothing was taken, and its code was told if it has one
-    date-silent : (w : TasksView) (z : TaskState) (T : List ToldLine) → Did n.tasks w u z T → ((p : ToldLine → Bool) → list_any p n.tasks.told ≡ true → list_any p T ≡ true) → AreCoded ms T u (done_by None z.phase z.line) →
-        z.outstanding ≡ None → z.records ≡ (state_of n.tasks u).records → is_kept z.phase z.records ≡ true → AllDate deck w
+    date-silent : (w : TasksView) (z : TaskState) (T : List ToldLine) → Did n.tasks w u z T
+        → ((p : ToldLine → Bool) → list_any p n.tasks.told ≡ true → list_any p T ≡ true)
+        → AreCoded ms T u (done_by None z.phase z.line) →
+        z.outstanding ≡ None → z.records ≡ (state_of n.tasks u).records → is_kept z.phase z.records ≡ true
+        → AllDate deck w
     date-silent w z T did grows coded shut recs held = date-own deck v w u ms z T at here did grows (record {
       closed = λ e. shut;
       wanted = subst (IsWantedBy ms z.line) (sym shut) tt;
@@ -211,34 +278,53 @@ module _ (deck : Deck) (n : NodeState) (h : AllDate deck n.tasks) (u : TaskId) (
     }) h
 
     -- it is done with that line
-    done_next : (T : List ToldLine) → AreCoded ms T u (suc (state_of n.tasks u).line) → AreCoded ms T u (done_by None (state_of n.tasks u).phase (suc (state_of n.tasks u).line))
-    done_next T coded = subst (λ p. AreCoded ms T u (cond (is_waiting p) (suc y.line - 1) (suc y.line))) (sym ready) coded
+    done_next : (T : List ToldLine) → AreCoded ms T u (suc (state_of n.tasks u).line)
+        → AreCoded ms T u (done_by None (state_of n.tasks u).phase (suc (state_of n.tasks u).line))
+    done_next T coded =
+        subst (λ p. AreCoded ms T u (cond (is_waiting p) (suc y.line - 1) (suc y.line))) (sym ready) coded
 
     done_back : AreCoded ms n.tasks.told u (suc (state_of n.tasks u).line - 1)
     done_back = subst (λ k. AreCoded ms v.told u k) (sym (back y.line)) done
 
-    date-wait : (r : Res) → (o : Option Rec) → record_of (state_of (with_line n.tasks u) u).records r ≡ o → AllDate deck (wait (with_line n.tasks u) u r o)
+    date-wait : (r : Res) → (o : Option Rec) → record_of (state_of (with_line n.tasks u) u).records r ≡ o
+        → AllDate deck (wait (with_line n.tasks u) u r o)
     unfolding wait
     date-wait r None e =
-        date-silent (tell_code (with_line v u) u verbs.Wait C08) x1 (told_after v.told u x1.line verbs.Wait C08) (did-code v (with_line v u) u x1 v.told here did-next verbs.Wait C08) (λ p k. any-after p v.told u x1.line verbs.Wait C08 k) (done_next (told_after v.told u x1.line verbs.Wait C08) (coded-line ms v.told u u (suc y.line) verbs.Wait C08 place_own done_back)) closed refl (ap (λ p. is_kept p y.records) ready)
+        date-silent (tell_code (with_line v u) u verbs.Wait C08) x1 (told_after v.told u x1.line verbs.Wait C08)
+        (did-code v (with_line v u) u x1 v.told here did-next verbs.Wait C08)
+        (λ p k. any-after p v.told u x1.line verbs.Wait C08 k)
+        (done_next (told_after v.told u x1.line verbs.Wait C08)
+        (coded-line ms v.told u u (suc y.line) verbs.Wait C08 place_own done_back))
+        closed refl (ap (λ p. is_kept p y.records) ready)
     date-wait r (Some z) e = go z.told refl
       where
-        go : (b : Bool) → z.told ≡ b → AllDate deck (cond b (tell_code (with_line v u) u verbs.Wait C00) (with_phase (with_line v u) u (phases.HeldLine r)))
-        go true f = date-silent (tell_code (with_line v u) u verbs.Wait C00) x1 (told_after v.told u x1.line verbs.Wait C00) (did-code v (with_line v u) u x1 v.told here did-next verbs.Wait C00) (λ p k. any-after p v.told u x1.line verbs.Wait C00 k) (done_next (told_after v.told u x1.line verbs.Wait C00) (coded-line ms v.told u u (suc y.line) verbs.Wait C00 place_own done_back)) closed refl (ap (λ p. is_kept p y.records) ready)
+        go : (b : Bool) → z.told ≡ b
+            → AllDate deck
+            (cond b (tell_code (with_line v u) u verbs.Wait C00) (with_phase (with_line v u) u (phases.HeldLine r)))
+        go true f =
+            date-silent (tell_code (with_line v u) u verbs.Wait C00) x1 (told_after v.told u x1.line verbs.Wait C00)
+            (did-code v (with_line v u) u x1 v.told here did-next verbs.Wait C00)
+            (λ p k. any-after p v.told u x1.line verbs.Wait C00 k)
+            (done_next (told_after v.told u x1.line verbs.Wait C00)
+            (coded-line ms v.told u u (suc y.line) verbs.Wait C00 place_own done_back))
+            closed refl (ap (λ p. is_kept p y.records) ready)
         go false f =
             let w = with_phase (with_line v u) u (phases.HeldLine r) in
-            date-silent w (record x1 { phase = phases.HeldLine r }) v.told (did-phase v (with_line v u) u x1 v.told here did-next (phases.HeldLine r)) (λ p k. k) done_back closed refl
+            date-silent w (record x1 { phase = phases.HeldLine r }) v.told
+            (did-phase v (with_line v u) u x1 v.told here did-next (phases.HeldLine r)) (λ p k. k) done_back closed refl
             (found-unmarked y.records r z (ap (λ (q : TaskState). record_of q.records r) (sym did-next.state) ∙ e) f)
 
-    date-line : (l : Meaning) → slice_get ms (state_of n.tasks u).line ≡ Some l → AllDate deck (take_line deck.limit (with_tasks n (with_line n.tasks u)) u l).node.tasks
+    date-line : (l : Meaning) → slice_get ms (state_of n.tasks u).line ≡ Some l
+        → AllDate deck (take_line deck.limit (with_tasks n (with_line n.tasks u)) u l).node.tasks
     unfolding take_line
-    date-line (lines.Enq r c ret unit) next = date-ask (with_line v u) x1 did-next (Enq r c ret (has_most deck.limit (with_line v u) u)) unit (record {
-      closed = closed;
-      wanted = unit_next;
-      coded = subst (λ k. AreCoded ms v.told u k) (sym (back y.line)) done;
-      units = (h u ms at here).units;
-      phase = ap is_free ready;
-    }) refl (λ wide. (omega arith, (unit_next, wide)))
+    date-line (lines.Enq r c ret unit) next =
+        date-ask (with_line v u) x1 did-next (Enq r c ret (has_most deck.limit (with_line v u) u)) unit (record {
+          closed = closed;
+          wanted = unit_next;
+          coded = subst (λ k. AreCoded ms v.told u k) (sym (back y.line)) done;
+          units = (h u ms at here).units;
+          phase = ap is_free ready;
+        }) refl (λ wide. (omega arith, (unit_next, wide)))
       where
         unit_next : unit ≡ unit_of (slice_get ms (suc (state_of n.tasks u).line - 1))
         unit_next = sym (ap unit_of (ap (slice_get ms) (back y.line) ∙ next))
@@ -250,40 +336,56 @@ module _ (deck : Deck) (n : NodeState) (h : AllDate deck n.tasks) (u : TaskId) (
       phase = ap is_free ready;
     }) refl (λ wide. (omega arith, wide))
     date-line (lines.Wait r) next = date-wait r (record_of (state_of (with_line v u) u).records r) refl
-    date-line lines.Nothing next = date-silent (with_line v u) x1 v.told did-next (λ p k. k) (done_next v.told (coded-silent ms v.told u y.line (ap has_code next) done)) closed refl (ap (λ p. is_kept p y.records) ready)
+    date-line lines.Nothing next =
+        date-silent (with_line v u) x1 v.told did-next (λ p k. k)
+        (done_next v.told (coded-silent ms v.told u y.line (ap has_code next) done)) closed refl
+        (ap (λ p. is_kept p y.records) ready)
 
   -- one that is ending, and stands as x
-  module _ (v0 : TasksView) (x : TaskState) (did : Did n.tasks v0 u x n.tasks.told) (c : ℕ) (ending : is_free x.phase ≡ true) (closed : x.outstanding ≡ None) (done : AreCoded ms n.tasks.told u x.line) (units : Each (HasUnit ms) x.records) where
+  module _ (v0 : TasksView) (x : TaskState) (did : Did n.tasks v0 u x n.tasks.told) (c : ℕ)
+      (ending : is_free x.phase ≡ true) (closed : x.outstanding ≡ None) (done : AreCoded ms n.tasks.told u x.line)
+      (units : Each (HasUnit ms) x.records) where
     date-end : (xs : List Rec) → AllDate deck (end_step (with_tasks n v0) u c xs).node.tasks
     unfolding end_step
     date-end [] =
         let w = telling (with_phase v0 u phases.Ended) (told.Ended u c) in
-        date-own deck v w u ms (record x { phase = phases.Ended }) (v.told ++ told.Ended u c ∷ []) at here (did-telling v (with_phase v0 u phases.Ended) u (record x { phase = phases.Ended }) v.told (told.Ended u c) (did-phase v v0 u x v.told here did phases.Ended)) (λ p k. any-more p v.told _ k)
+        date-own deck v w u ms (record x { phase = phases.Ended }) (v.told ++ told.Ended u c ∷ []) at here
+        (did-telling v (with_phase v0 u phases.Ended) u (record x { phase = phases.Ended }) v.told (told.Ended u c)
+        (did-phase v v0 u x v.told here did phases.Ended))
+        (λ p k. any-more p v.told _ k)
         (record {
           closed = λ e. closed;
           wanted = subst (IsWantedBy ms x.line) (sym closed) tt;
           held = refl;
-          coded = subst (λ o. AreCoded ms (v.told ++ told.Ended u c ∷ []) u (done_by o phases.Ended x.line)) (sym closed) (λ k low in_it asks. any-more (is_code_at u k) v.told _ (done k low in_it asks));
+          coded =
+              subst (λ o. AreCoded ms (v.told ++ told.Ended u c ∷ []) u (done_by o phases.Ended x.line)) (sym closed)
+              (λ k low in_it asks. any-more (is_code_at u k) v.told _ (done k low in_it asks));
           units = units;
         }) h
-    date-end (z ∷ xs) = date-ask v0 x did (Release z.res) None (record { closed = closed; wanted = tt; coded = done; units = units; phase = ending }) refl (λ wide. wide)
+    date-end (z ∷ xs) =
+        date-ask v0 x did (Release z.res) None
+        (record { closed = closed; wanted = tt; coded = done; units = units; phase = ending }) refl (λ wide. wide)
 
   -- whatever it does by its phase
   date-phase : (p : Phase) → (state_of n.tasks u).phase ≡ p → AllDate deck (phase_step deck.limit n u ms p).node.tasks
   unfolding phase_step ready_step
   date-phase phases.Ready e = go (slice_get ms (state_of v u).line) refl
     where
-      go : (o : Option Meaning) → slice_get ms (state_of n.tasks u).line ≡ o → AllDate deck (ready_step deck.limit n u o).node.tasks
+      go : (o : Option Meaning) → slice_get ms (state_of n.tasks u).line ≡ o
+          → AllDate deck (ready_step deck.limit n u o).node.tasks
       go (Some l) next = date-line e l next
       go None none_left =
           let w = with_phase v u (phases.Ending 0) in
           let x : TaskState = record (state_of v u) { phase = phases.Ending 0; code = 0 } in
-          date-end w x (did-phase v v u (state_of v u) v.told here (did-none v u) (phases.Ending 0)) 0 refl (closed e) (done e) (h u ms at here).units (state_of w u).records
+          date-end w x (did-phase v v u (state_of v u) v.told here (did-none v u) (phases.Ending 0)) 0 refl (closed e)
+          (done e) (h u ms at here).units (state_of w u).records
   date-phase (phases.Ending c) e =
       let k = h u ms at here in
       let shut : (state_of v u).outstanding ≡ None = k.closed (ap is_unsent e) in
       date-end v (state_of v u) (did-none v u) c (ap is_free e) shut
-      (subst (λ p. AreCoded ms v.told u (cond (is_waiting p) ((state_of v u).line - 1) (state_of v u).line)) e (subst (λ o. AreCoded ms v.told u (done_by o (state_of v u).phase (state_of v u).line)) shut k.coded)) k.units (state_of v u).records
+      (subst (λ p. AreCoded ms v.told u (cond (is_waiting p) ((state_of v u).line - 1) (state_of v u).line)) e
+      (subst (λ o. AreCoded ms v.told u (done_by o (state_of v u).phase (state_of v u).line)) shut k.coded))
+      k.units (state_of v u).records
   date-phase phases.HeldAnswer e = h
   date-phase (phases.HeldLine r) e = h
   date-phase phases.ToSend e = h

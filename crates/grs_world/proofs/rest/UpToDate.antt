@@ -1,6 +1,8 @@
--- A task is up to date with what its system knows, whatever the other systems and the medium do: each of its lines that is
--- answered has its code line, and who is held at a WAIT line has still to be told control. This needs nothing of the run.
-use Rattle.std.proofs.Common.{◌≡◌, ◌≢◌, ◌<◌, ◌≤◌, ◌-◌, ℕ, Bool, true, false, cond, ◌&&◌, List, [], ◌∷◌, ◌++◌, Option, Some, None, refl, ap, sym, subst, arith}
+-- A task is up to date with what its system knows, whatever the other systems and the medium do: each of its lines that
+-- is answered has its code line, and who is held at a WAIT line has still to be told control. This needs nothing of the
+-- run.
+use Rattle.std.proofs.Common.{◌≡◌, ◌≢◌, ◌<◌, ◌≤◌, ◌-◌, ℕ, Bool, true, false, cond, ◌&&◌, List, [], ◌∷◌, ◌++◌, Option}
+use Rattle.std.proofs.Common.{Some, None, refl, ap, sym, subst, arith}
 use Rattle.std.specs.Prelude.{◌==◌, slice_get}
 use Rattle.std.specs.List.{list_any}
 use Rattle.std.proofs.lemmas.Bool.{and_from, eq-eqb, eqb-true, eqb-false}
@@ -26,7 +28,8 @@ use Rattle.grs_known.proofs.lists.Facts.{any-more, any-last}
 use Rattle.grs_known.proofs.lists.Truths.{no_truth}
 use Rattle.grs_known.proofs.system.Asking.{line_asked}
 use Rattle.grs_known.proofs.tasks.Invariant.{Each, is_unsent, is_waiting}
-use Rattle.grs_world.proofs.rest.Control.{Hears, none, given, coded, posted, passed, told_rec, is_unmarked, unmarked-still, each-marks}
+use Rattle.grs_world.proofs.rest.Control.{Hears, none, given, coded, posted, passed, told_rec, is_unmarked}
+use Rattle.grs_world.proofs.rest.Control.{unmarked-still, each-marks}
 
 -- ---- what is told and asked
 -- whether two tasks are at the same place of the same system, as a system tells its tasks apart
@@ -64,7 +67,8 @@ done_by (Some a) p line = line_asked a.req.want line
 
 -- An outstanding request is for a resource of the whole complex, and reserves the unit of its line.
 abbrev pub IsWanted : List Meaning → ℕ → Want → Option ℕ → Type 0
-IsWanted ls n (Enq r c ret full) unit = (0 < n) × ((unit ≡ unit_of (slice_get ls (n - 1))) × (is_for_all (Some r) ≡ true))
+IsWanted ls n (Enq r c ret full) unit =
+    (0 < n) × ((unit ≡ unit_of (slice_get ls (n - 1))) × (is_for_all (Some r) ≡ true))
 IsWanted ls n (Deq r have) unit = (0 < n) × (is_for_all (Some r) ≡ true)
 IsWanted ls n (Release r) unit = is_for_all (Some r) ≡ true
 IsWanted ls n (Look first count f) unit = ⊥
@@ -85,7 +89,8 @@ is_kept phases.Ended xs = true
 
 -- each line up to this one that is answered by a code has its code line
 abbrev pub AreCoded : List Meaning → List ToldLine → TaskId → ℕ → Type 0
-AreCoded ls T t n = (k : ℕ) → 0 < k → k ≤ n → has_code (slice_get ls (k - 1)) ≡ true → list_any (is_code_at t k) T ≡ true
+AreCoded ls T t n =
+    (k : ℕ) → 0 < k → k ≤ n → has_code (slice_get ls (k - 1)) ≡ true → list_any (is_code_at t k) T ≡ true
 
 -- a record reserves the unit of its line
 abbrev pub HasUnit : List Meaning → Rec → Type 0
@@ -101,11 +106,19 @@ pub record IsUpToDate (ls : List Meaning) (T : List ToldLine) (t : TaskId) (x : 
   pub units : Each (HasUnit ls) x.records
 
 -- ---- more is told
-pub more-told : (ls : List Meaning) (T U : List ToldLine) (t : TaskId) (x : TaskState) → ((p : ToldLine → Bool) → list_any p T ≡ true → list_any p U ≡ true) → IsUpToDate ls T t x → IsUpToDate ls U t x
-more-told ls T U t x grows h = record { closed = h.closed; wanted = h.wanted; held = h.held; coded = λ k low in_it asks. grows (is_code_at t k) (h.coded k low in_it asks); units = h.units }
+pub more-told : (ls : List Meaning) (T U : List ToldLine) (t : TaskId) (x : TaskState)
+    → ((p : ToldLine → Bool) → list_any p T ≡ true → list_any p U ≡ true) → IsUpToDate ls T t x → IsUpToDate ls U t x
+more-told ls T U t x grows h = record {
+  closed = h.closed;
+  wanted = h.wanted;
+  held = h.held;
+  coded = λ k low in_it asks. grows (is_code_at t k) (h.coded k low in_it asks);
+  units = h.units;
+}
 
 -- ---- control is told
-units-marks : (ls : List Meaning) (r : Res) (xs : List Rec) → Each (HasUnit ls) xs → Each (HasUnit ls) (on_record r told_rec xs)
+units-marks : (ls : List Meaning) (r : Res) (xs : List Rec) → Each (HasUnit ls) xs
+    → Each (HasUnit ls) (on_record r told_rec xs)
 units-marks ls r xs h = each-marks (HasUnit ls) (λ z k. k) r xs h
 
 -- an unheld task has no record to keep
@@ -118,7 +131,8 @@ kept-free (phases.HeldLine r) xs ys e h = absurd (cc)
 kept-free (phases.Ending c) xs ys e h = refl
 kept-free phases.Ended xs ys e h = refl
 
-kept-marks : (p : Phase) (r : Res) (xs : List Rec) → is_held_for r p ≡ false → is_kept p xs ≡ true → is_kept p (on_record r told_rec xs) ≡ true
+kept-marks : (p : Phase) (r : Res) (xs : List Rec) → is_held_for r p ≡ false → is_kept p xs ≡ true
+    → is_kept p (on_record r told_rec xs) ≡ true
 kept-marks (phases.HeldLine q) r xs apart h = unmarked-still q r xs apart h
 kept-marks phases.HeldAnswer r xs apart h = refl
 kept-marks phases.ToSend r xs apart h = refl
@@ -146,18 +160,22 @@ held_for-unsent r (phases.Ending c) e = absurd (cc)
 held_for-unsent r phases.Ended e = absurd (cc)
 
 -- lines up to one that is held, and it
-coded-next : (ls : List Meaning) (T : List ToldLine) (t : TaskId) (n : ℕ) (l : ToldLine) → AreCoded ls T t (n - 1) → is_code_at t n l ≡ true → AreCoded ls (T ++ l ∷ []) t n
+coded-next : (ls : List Meaning) (T : List ToldLine) (t : TaskId) (n : ℕ) (l : ToldLine) → AreCoded ls T t (n - 1)
+    → is_code_at t n l ≡ true → AreCoded ls (T ++ l ∷ []) t n
 coded-next ls T t n l h is k low in_it asks = go (k == n) refl
   where
     go : (b : Bool) → (k == n) ≡ b → list_any (is_code_at t k) (T ++ l ∷ []) ≡ true
     go true e = any-last (is_code_at t k) T l (subst (λ i. is_code_at t i l ≡ true) (sym (eqb-true k n e)) is)
-    go false e = let ne : k ≢ n = eqb-false k n e in any-more (is_code_at t k) T l (h k low (omega (arith, in_it, ne)) asks)
+    go false e =
+        let ne : k ≢ n = eqb-false k n e in any-more (is_code_at t k) T l (h k low (omega (arith, in_it, ne)) asks)
 
 placed-itself : (t u : TaskId) → is_placed t u ≡ true → (n : ℕ) → is_code_at t n (Coded u n 0 verbs.Enq C00) ≡ true
 placed-itself t u e n = and_from (is_placed t u) (n == n) e (eq-eqb n n refl)
 
 -- Control of a resource is told to a task at its place.
-pub hears-date : (ls : List Meaning) (t u : TaskId) (r : Res) (x : TaskState) (T : List ToldLine) (y : TaskState) (U : List ToldLine) → is_placed t u ≡ true → Hears u r x T y U → IsUpToDate ls T t x → IsUpToDate ls U t y
+pub hears-date :
+    (ls : List Meaning) (t u : TaskId) (r : Res) (x : TaskState) (T : List ToldLine) (y : TaskState) (U : List ToldLine)
+    → is_placed t u ≡ true → Hears u r x T y U → IsUpToDate ls T t x → IsUpToDate ls U t y
 hears-date ls t u r x T y U place (none m) h = h
 hears-date ls t u r x T y U place (given l) h = record {
   closed = h.closed;
@@ -177,8 +195,13 @@ hears-date ls t u r x T y U place (coded a) h =
       closed = λ e. closed;
       wanted = h.wanted;
       held = refl;
-      coded = subst (λ o. AreCoded ls (T ++ Coded u x.line 0 verbs.Enq C00 ∷ []) t (done_by o phases.Ready x.line)) (sym closed)
-          (coded-next ls T t x.line (Coded u x.line 0 verbs.Enq C00) (subst (λ b. AreCoded ls T t (cond b (x.line - 1) x.line)) free.1 (subst (λ o. AreCoded ls T t (done_by o x.phase x.line)) closed h.coded)) (placed-itself t u place x.line));
+      coded =
+          subst (λ o. AreCoded ls (T ++ Coded u x.line 0 verbs.Enq C00 ∷ []) t (done_by o phases.Ready x.line))
+          (sym closed)
+          (coded-next ls T t x.line (Coded u x.line 0 verbs.Enq C00)
+          (subst (λ b. AreCoded ls T t (cond b (x.line - 1) x.line)) free.1
+          (subst (λ o. AreCoded ls T t (done_by o x.phase x.line)) closed h.coded))
+          (placed-itself t u place x.line));
       units = units-marks ls r x.records h.units;
     }
 hears-date ls t u r x T y U place (posted k a) h = record {
@@ -191,12 +214,19 @@ hears-date ls t u r x T y U place (posted k a) h = record {
 hears-date ls t u r x T y U place (passed k a) h =
     let free = held_for-unsent r x.phase a in
     let closed : x.outstanding ≡ None = h.closed free.0 in
-    let before : AreCoded ls T t (x.line - 1) = subst (λ b. AreCoded ls T t (cond b (x.line - 1) x.line)) free.1 (subst (λ o. AreCoded ls T t (done_by o x.phase x.line)) closed h.coded) in
+    let before : AreCoded ls T t (x.line - 1) =
+    subst (λ b. AreCoded ls T t (cond b (x.line - 1) x.line)) free.1
+    (subst (λ o. AreCoded ls T t (done_by o x.phase x.line)) closed h.coded) in
     record {
       closed = λ e. closed;
       wanted = h.wanted;
       held = refl;
-      coded = subst (λ o. AreCoded ls ((T ++ Post u k ∷ []) ++ Coded u x.line 0 verbs.Wait C00 ∷ []) t (done_by o phases.Ready x.line)) (sym closed)
-          (coded-next ls (T ++ Post u k ∷ []) t x.line (Coded u x.line 0 verbs.Wait C00) (λ j low in_it asks. any-more (is_code_at t j) T _ (before j low in_it asks)) (placed-itself t u place x.line));
+      coded =
+          subst (λ o.
+          AreCoded ls ((T ++ Post u k ∷ []) ++ Coded u x.line 0 verbs.Wait C00 ∷ []) t (done_by o phases.Ready x.line))
+          (sym closed)
+          (coded-next ls (T ++ Post u k ∷ []) t x.line (Coded u x.line 0 verbs.Wait C00)
+          (λ j low in_it asks. any-more (is_code_at t j) T _ (before j low in_it asks))
+          (placed-itself t u place x.line));
       units = units-marks ls r x.records h.units;
     }

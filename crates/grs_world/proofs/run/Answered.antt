@@ -1,5 +1,6 @@
 -- Who is told an answer has nothing open at its system, and where its requests stand in the message.
-use Rattle.std.proofs.Common.{◌≡◌, Bool, true, false, cond, ◌||◌, ℕ, suc, List, [], ◌∷◌, ◌++◌, map, take, drop, refl, ap, sym, ◌∙◌, subst, append-nil, append_assoc}
+use Rattle.std.proofs.Common.{◌≡◌, Bool, true, false, cond, ◌||◌, ℕ, suc, List, [], ◌∷◌, ◌++◌, map, take, drop, refl}
+use Rattle.std.proofs.Common.{ap, sym, ◌∙◌, subst, append-nil, append_assoc}
 use Rattle.std.specs.Prelude.{filter, not, ◌==◌}
 use Rattle.std.specs.List.{list_all, list_any}
 use Rattle.std.proofs.lemmas.List.{take-append-drop}
@@ -35,25 +36,32 @@ pub record Answered (s : ℕ) (opens : List Req) (T0 T : List ToldLine) : Type 0
   pub ours : list_all (is_line_of s) lines ≡ true
   pub clear : (t : TaskId) → list_any (answers t) lines ≡ true → is_among t (askers opens) ≡ false
 
-pub answered-by : {deck : Deck} {s : ℕ} {opens : List Req} {P : List HistEntry} {T0 T : List ToldLine} → ToldBy deck s opens P T0 T → Answered s opens T0 T
-answered-by {s = s} {opens = opens} {T0 = T0} says.none = record { lines = []; is = sym (append-nil T0); ours = refl; clear = λ t a. cc }
+pub answered-by : {deck : Deck} {s : ℕ} {opens : List Req} {P : List HistEntry} {T0 T : List ToldLine}
+    → ToldBy deck s opens P T0 T → Answered s opens T0 T
+answered-by {s = s} {opens = opens} {T0 = T0}
+    says.none = record { lines = []; is = sym (append-nil T0); ours = refl; clear = λ t a. cc }
 answered-by {s = s} {opens = opens} {T0 = T0} (says.more T l told mine agrees clears) =
     let m = answered-by told in
     record {
       lines = m.lines ++ l ∷ [];
       is = ap (λ ls. ls ++ l ∷ []) m.is ∙ append_assoc T0 m.lines (l ∷ []);
       ours = all-more (is_line_of s) m.lines l m.ours mine;
-      clear = λ t a. go t m.lines (list_any (answers t) m.lines) refl (m.clear t) (sym (list_any-push (answers t) m.lines l) ∙ a);
+      clear = λ t a.
+          go t m.lines (list_any (answers t) m.lines) refl (m.clear t) (sym (list_any-push (answers t) m.lines l) ∙ a);
     }
   where
     line_clear : (t : TaskId) (k : ToldLine) → Clears opens k → answers t k ≡ true → is_among t (askers opens) ≡ false
-    line_clear t (lines.Coded u k part verb code) clear a = subst (λ (x : TaskId). is_among x (askers opens) ≡ false) (sym (same_task-exact t u a)) clear
-    line_clear t (lines.Shown u k verb code rows) clear a = subst (λ (x : TaskId). is_among x (askers opens) ≡ false) (sym (same_task-exact t u a)) clear
+    line_clear t (lines.Coded u k part verb code) clear a =
+        subst (λ (x : TaskId). is_among x (askers opens) ≡ false) (sym (same_task-exact t u a)) clear
+    line_clear t (lines.Shown u k verb code rows) clear a =
+        subst (λ (x : TaskId). is_among x (askers opens) ≡ false) (sym (same_task-exact t u a)) clear
     line_clear t (lines.Post u k) clear a = cc
     line_clear t (lines.Ended u code) clear a = cc
     line_clear t (lines.Desk k said) clear a = cc
 
-    go : (t : TaskId) (ls : List ToldLine) (b : Bool) → list_any (answers t) ls ≡ b → (list_any (answers t) ls ≡ true → is_among t (askers opens) ≡ false) → (list_any (answers t) ls || answers t l) ≡ true → is_among t (askers opens) ≡ false
+    go : (t : TaskId) (ls : List ToldLine) (b : Bool) → list_any (answers t) ls ≡ b
+        → (list_any (answers t) ls ≡ true → is_among t (askers opens) ≡ false)
+        → (list_any (answers t) ls || answers t l) ≡ true → is_among t (askers opens) ≡ false
     go t ls true is ih a = ih is
     go t ls false is ih a = line_clear t l clears (or_other (list_any (answers t) ls) (answers t l) a is)
 
@@ -68,7 +76,10 @@ AllLeftHome t (e ∷ es) = IsLeftHome t e × AllLeftHome t es
 
 each_left : (t : TaskId) (es : List RingEntry) → LeftHome t es → AllLeftHome t es
 each_left t [] law = tt
-each_left t (e ∷ es) law = (λ q. law [] es e q refl, each_left t es (λ before behind x q is. law (e ∷ before) behind x q (ap (λ z. e ∷ z) is)))
+each_left t (e ∷ es) law = (
+  λ q. law [] es e q refl,
+  each_left t es (λ before behind x q is. law (e ∷ before) behind x q (ap (λ z. e ∷ z) is)),
+)
 
 left_home : (t : TaskId) (es : List RingEntry) → AllLeftHome t es → LeftHome t es
 left_home t es all before behind e q is = at before (subst (AllLeftHome t) is all) q
@@ -94,27 +105,38 @@ unfolding cleared
 left_cleared t c [] a = tt
 left_cleared t c (e ∷ es) a = go (not (e.mask == only c.0)) (left_cleared t c es a.1)
   where
-    go : (b : Bool) → AllLeftHome t (cleared c es) → AllLeftHome t (map (left_by c) (cond b (e ∷ filter (λ x. not (x.mask == only c.0)) es) (filter (λ x. not (x.mask == only c.0)) es)))
+    go : (b : Bool) → AllLeftHome t (cleared c es)
+        → AllLeftHome t (map (left_by c)
+        (cond b (e ∷ filter (λ x. not (x.mask == only c.0)) es) (filter (λ x. not (x.mask == only c.0)) es)))
     go true on = (left_by_one t c e a.0, on)
     go false on = on
 
 -- Requests of other tasks are put in.
-left_stamped : (t : TaskId) (c : SysId) (number mask : ℕ) (qs : List Req) → is_among t (askers qs) ≡ false → AllLeftHome t (stamped number c mask qs)
+left_stamped : (t : TaskId) (c : SysId) (number mask : ℕ) (qs : List Req) → is_among t (askers qs) ≡ false
+    → AllLeftHome t (stamped number c mask qs)
 unfolding stamped
 left_stamped t c number mask [] none = tt
 left_stamped t c number mask (q ∷ qs) none =
-    let parts = or_parts (same_task t q.task) (is_among t (askers qs)) none in
-    (λ p body same. no_truth (same_task t q.task) (is_same p body same) parts.0, left_stamped t c (suc number) mask qs parts.1)
+    let parts = or_parts (same_task t q.task) (is_among t (askers qs)) none in (
+      λ p body same. no_truth (same_task t q.task) (is_same p body same) parts.0,
+      left_stamped t c (suc number) mask qs parts.1,
+    )
   where
     is_same : (p : Req) → Request q ≡ Request p → p.task ≡ t → same_task t q.task ≡ true
-    is_same p body same = let one : q ≡ p = cc in subst (λ (x : TaskId). same_task t x ≡ true) (sym (ap (λ (x : Req). x.task) one ∙ same)) (same_task-itself t)
+    is_same p body same =
+        let one : q ≡ p = cc in
+        subst (λ (x : TaskId). same_task t x ≡ true) (sym (ap (λ (x : Req). x.task) one ∙ same)) (same_task-itself t)
 
 -- So it is behind a Turn of a system whose requests that wait to be put in are of other tasks.
-pub left_turned : (t : TaskId) (c : SysId) (number mask k : ℕ) (outbox : List Req) (es : List RingEntry) → LeftHome t es → is_among t (askers outbox) ≡ false → LeftHome t (cleared c es ++ stamped number c mask (take k outbox))
+pub left_turned : (t : TaskId) (c : SysId) (number mask k : ℕ) (outbox : List Req) (es : List RingEntry) → LeftHome t es
+    → is_among t (askers outbox) ≡ false → LeftHome t (cleared c es ++ stamped number c mask (take k outbox))
 left_turned t c number mask k outbox es left none =
-    let some : is_among t (askers (take k outbox)) ≡ false = among-front t (take k outbox) (drop k outbox) (subst (λ qs. is_among t (askers qs) ≡ false) (sym (take-append-drop k outbox)) none) in
+    let some : is_among t (askers (take k outbox)) ≡ false =
+    among-front t (take k outbox) (drop k outbox)
+    (subst (λ qs. is_among t (askers qs) ≡ false) (sym (take-append-drop k outbox)) none) in
     left_home t (cleared c es ++ stamped number c mask (take k outbox))
-    (left_append t (cleared c es) (stamped number c mask (take k outbox)) (left_cleared t c es (each_left t es left)) (left_stamped t c number mask (take k outbox) some))
+    (left_append t (cleared c es) (stamped number c mask (take k outbox)) (left_cleared t c es (each_left t es left))
+    (left_stamped t c number mask (take k outbox) some))
 
 -- So it is behind a Turn at the closed message.
 pub left_behind : (t : TaskId) (c : SysId) (es : List RingEntry) → LeftHome t es → LeftHome t (cleared c es)

@@ -1,5 +1,6 @@
 -- The causes of the answers that have to do with removals.
-use Rattle.std.proofs.Common.{◌≡◌, ◌<◌, ℕ, Bool, true, false, cond, not, ◌&&◌, List, Option, Some, None, refl, ap, sym, ◌∙◌, subst, arith, length}
+use Rattle.std.proofs.Common.{◌≡◌, ◌<◌, ℕ, Bool, true, false, cond, not, ◌&&◌, List, Option, Some, None, refl, ap, sym}
+use Rattle.std.proofs.Common.{◌∙◌, subst, arith, length}
 use Rattle.std.specs.Prelude.{◌==◌, nat_lt, slice_get}
 use Rattle.std.specs.List.{list_any}
 use Rattle.std.proofs.lemmas.Bool.{and_from, and_parts, eq-eqb, eqb-false, eqb-true, lt-ltb, ne_eqb, not-true}
@@ -56,7 +57,8 @@ module _ (deck : Deck) (fit : OrdersFit deck) (es : List Event) (e : Event) wher
       by_node None h = absurd (cc)
       by_node (Some n) h = go (is_live w c) refl h
         where
-          go : (b : Bool) → is_live w e.system ≡ b → cond b (call_in (prepare deck n e.choice)) None ≡ Some call → has w.medium.removed e.system.0 ≡ false
+          go : (b : Bool) → is_live w e.system ≡ b → cond b (call_in (prepare deck n e.choice)) None ≡ Some call
+              → has w.medium.removed e.system.0 ≡ false
           go true live k = not_false _ (and_parts (nat_lt c.0 (length w.nodes)) (not (has w.medium.removed c.0)) live).1
           go false live k = absurd (cc)
 
@@ -65,7 +67,8 @@ module _ (deck : Deck) (fit : OrdersFit deck) (es : List Event) (e : Event) wher
     is : act ≡ acts.Purge target
     below : target.0 < length deck.systems
 
-  call_asks : (target : SysId) → e.choice ≡ choices.Purge target → (call : MediumCall) → call_of deck w e ≡ Some call → Asks target call.act
+  call_asks : (target : SysId) → e.choice ≡ choices.Purge target → (call : MediumCall) → call_of deck w e ≡ Some call
+      → Asks target call.act
   unfolding prepare
   call_asks target chose call made = by_node (slice_get w.nodes c.0) made
     where
@@ -73,15 +76,22 @@ module _ (deck : Deck) (fit : OrdersFit deck) (es : List Event) (e : Event) wher
       by_node None h = absurd (cc)
       by_node (Some n) h = go (is_live w c) h
         where
-          by_order : (o : Option Order) → next_order deck n ≡ o → call_in (purge_call n target o) ≡ Some call → Asks target call.act
+          by_order : (o : Option Order) → next_order deck n ≡ o → call_in (purge_call n target o) ≡ Some call
+              → Asks target call.act
           by_order None at k = absurd (cc)
           by_order (Some orders.Star) at k = absurd (cc)
           by_order (Some (orders.Vary named)) at k = by_name (named.0 == target.0) refl k
             where
-              by_name : (b : Bool) → (named.0 == target.0) ≡ b → call_in (cond b (Call (record { known = n.known; act = acts.Purge target })) Nothing) ≡ Some call → Asks target call.act
+              by_name : (b : Bool) → (named.0 == target.0) ≡ b
+                  → call_in (cond b (Call (record { known = n.known; act = acts.Purge target })) Nothing) ≡ Some call
+                  → Asks target call.act
               by_name true same j = record {
-                is = ap (λ (z : MediumCall). z.act) (sym (same_Some (record { known = n.known; act = acts.Purge target }) call j));
-                below = subst (λ (k : ℕ). k < length deck.systems) (eqb-true named.0 target.0 same) (target-fits deck n named fit at).0;
+                is =
+                    ap (λ (z : MediumCall). z.act)
+                    (sym (same_Some (record { known = n.known; act = acts.Purge target }) call j));
+                below =
+                    subst (λ (k : ℕ). k < length deck.systems) (eqb-true named.0 target.0 same)
+                    (target-fits deck n named fit at).0;
               }
               by_name false same j = absurd (cc)
 
@@ -102,69 +112,98 @@ module _ (deck : Deck) (fit : OrdersFit deck) (es : List Event) (e : Event) wher
       go None made k = absurd (cc)
       go (Some call) made k = record { call = call; made = made; is = same_Some (reply_to w.medium c call) reply k }
 
-  reply_is : (reply : Reply) (call : MediumCall) → call_of deck w e ≡ Some call → reply_to w.medium e.system call ≡ reply → reply_of deck w e ≡ Some reply
+  reply_is : (reply : Reply) (call : MediumCall) → call_of deck w e ≡ Some call
+      → reply_to w.medium e.system call ≡ reply → reply_of deck w e ≡ Some reply
   reply_is reply call made is = ap (reply_by w.medium c) made ∙ ap Some is
 
   -- a call that is heard is one of a system that knows who was removed
   heard_knows : (call : MediumCall) → is_heard w.medium e.system call ≡ true → call.known ≡ w.medium.removed
-  heard_knows call h = eqb-true call.known w.medium.removed (twice_not _ (and_parts (not (is_removed w.medium c)) (not (is_uninformed w.medium call)) h).1)
+  heard_knows call h =
+      eqb-true call.known w.medium.removed
+      (twice_not _ (and_parts (not (is_removed w.medium c)) (not (is_uninformed w.medium call)) h).1)
 
-  knows_heard : (call : MediumCall) → call_of deck w e ≡ Some call → call.known ≡ w.medium.removed → is_heard w.medium e.system call ≡ true
+  knows_heard : (call : MediumCall) → call_of deck w e ≡ Some call → call.known ≡ w.medium.removed
+      → is_heard w.medium e.system call ≡ true
   knows_heard call made knows =
       let live : has w.medium.removed c.0 ≡ false = call_live call made in
       let same : (call.known == w.medium.removed) ≡ true = eq-eqb call.known w.medium.removed knows in
       rw (live, same) refl
 
   -- ---- there is no such system
-  gone_is : (target : SysId) → target.0 < length deck.systems → is_live_at w.medium target ≡ not (list_any (removes target) (hist deck es))
+  gone_is : (target : SysId) → target.0 < length deck.systems
+      → is_live_at w.medium target ≡ not (list_any (removes target) (hist deck es))
   gone_is target below =
-      let within : nat_lt target.0 (systems_of w.medium) ≡ true = lt-ltb target.0 (systems_of w.medium) (omega (arith, below, (goes_on deck es).around)) in
+      let within : nat_lt target.0 (systems_of w.medium) ≡ true =
+      lt-ltb target.0 (systems_of w.medium) (omega (arith, below, (goes_on deck es).around)) in
       ap (λ b. b && not (has w.medium.removed target.0)) within ∙ ap not (removed_in_history deck es target)
 
   pub causes : AnswersHaveCauses deck es e
   unfolding happens happens_at
   causes = record {
-    removed = λ h. let r = replied_by replies.Removed h in no_truth (has w.medium.removed c.0) ((removed_comes w.medium c r.call).0 r.is) (call_live r.call r.made);
+    removed = λ h. let r = replied_by replies.Removed h in
+        no_truth (has w.medium.removed c.0) ((removed_comes w.medium c r.call).0 r.is) (call_live r.call r.made);
     idle = λ out. by_idle (slice_get w.nodes c.0) refl out;
     stale = λ set. (
       λ h.
           let r = replied_by (replies.Stale set) h in
-          let z = (stale_comes w.medium c r.call set).0 r.is in
-          (record { call = r.call; made = r.made; unknowing = eqb-false r.call.known w.medium.removed (not_false _ z.1.0) }, z.1.1),
-      λ u. reply_is (replies.Stale set) u.0.call u.0.made ((stale_comes w.medium c u.0.call set).1 (call_live u.0.call u.0.made, (ap not (ne_eqb u.0.call.known w.medium.removed u.0.unknowing), u.1))),
+          let z = (stale_comes w.medium c r.call set).0 r.is in (
+            record {
+              call = r.call;
+              made = r.made;
+              unknowing = eqb-false r.call.known w.medium.removed (not_false _ z.1.0);
+            },
+            z.1.1,
+          ),
+      λ u.
+          reply_is (replies.Stale set) u.0.call u.0.made ((stale_comes w.medium c u.0.call set).1
+          (call_live u.0.call u.0.made, (ap not (ne_eqb u.0.call.known w.medium.removed u.0.unknowing), u.1))),
     );
     no_such = λ target chose. (
       λ h.
           let r = replied_by replies.NoSuch h in
           let z = (no_such_comes w.medium c r.call).0 r.is in
           let asks = call_asks target chose r.call r.made in
-          let both = and_parts (not w.medium.star) (not (is_live_at w.medium target)) (ap (purges_nobody w.medium) (sym asks.is) ∙ z.1) in
-          (record { call = r.call; made = r.made; knows = heard_knows r.call z.0 }, not_false _ both.0, twice_not _ (ap not (sym (gone_is target asks.below)) ∙ both.1)),
+          let both =
+          and_parts (not w.medium.star) (not (is_live_at w.medium target))
+          (ap (purges_nobody w.medium) (sym asks.is) ∙ z.1) in (
+            record { call = r.call; made = r.made; knows = heard_knows r.call z.0 },
+            not_false _ both.0,
+            twice_not _ (ap not (sym (gone_is target asks.below)) ∙ both.1),
+          ),
       λ k.
           let asks = call_asks target chose k.0.call k.0.made in
           let out : is_live_at w.medium target ≡ false = gone_is target asks.below ∙ ap not k.2 in
-          reply_is replies.NoSuch k.0.call k.0.made ((no_such_comes w.medium c k.0.call).1 (knows_heard k.0.call k.0.made k.0.knows, ap (purges_nobody w.medium) asks.is ∙ and_from (not w.medium.star) (not (is_live_at w.medium target)) (ap not k.1) (ap not out))),
+          reply_is replies.NoSuch k.0.call k.0.made ((no_such_comes w.medium c k.0.call).1 (
+            knows_heard k.0.call k.0.made k.0.knows,
+            ap (purges_nobody w.medium) asks.is
+                ∙ and_from (not w.medium.star) (not (is_live_at w.medium target)) (ap not k.1) (ap not out),
+          )),
     );
     in_star = λ target chose. (
       λ h.
           let r = replied_by replies.InStar h in
           let z = (in_star_comes w.medium c r.call).0 r.is in
-          let asks = call_asks target chose r.call r.made in
-          (record { call = r.call; made = r.made; knows = heard_knows r.call z.0 }, ap (purges_in_star w.medium) (sym asks.is) ∙ z.1),
+          let asks = call_asks target chose r.call r.made in (
+            record { call = r.call; made = r.made; knows = heard_knows r.call z.0 },
+            ap (purges_in_star w.medium) (sym asks.is) ∙ z.1,
+          ),
       λ k.
           let asks = call_asks target chose k.0.call k.0.made in
-          reply_is replies.InStar k.0.call k.0.made ((in_star_comes w.medium c k.0.call).1 (knows_heard k.0.call k.0.made k.0.knows, ap (purges_in_star w.medium) asks.is ∙ k.1)),
+          reply_is replies.InStar k.0.call k.0.made ((in_star_comes w.medium c k.0.call).1
+          (knows_heard k.0.call k.0.made k.0.knows, ap (purges_in_star w.medium) asks.is ∙ k.1)),
     );
   }
     where
-      by_idle : (o : Option NodeState) → slice_get w.nodes e.system.0 ≡ o → is_live w e.system ≡ false → happens_at deck w e o ≡ counted w
+      by_idle : (o : Option NodeState) → slice_get w.nodes e.system.0 ≡ o → is_live w e.system ≡ false
+          → happens_at deck w e o ≡ counted w
       by_idle None at out = refl
       by_idle (Some n) at out = go (has w.medium.removed c.0) refl
         where
           within : nat_lt e.system.0 (length w.nodes) ≡ true
           within = lt-ltb c.0 (length w.nodes) (slice_get_within w.nodes c.0 n at)
 
-          go : (b : Bool) → has w.medium.removed e.system.0 ≡ b → cond b (counted w) (placed w e.system n (chosen deck w.medium e.system n e.choice)) ≡ counted w
+          go : (b : Bool) → has w.medium.removed e.system.0 ≡ b
+              → cond b (counted w) (placed w e.system n (chosen deck w.medium e.system n e.choice)) ≡ counted w
           go true gone = refl
           go false here = no_truth (is_live w c) (rw (within, here) refl) out
 

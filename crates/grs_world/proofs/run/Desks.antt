@@ -1,5 +1,6 @@
 -- What an event tells at a desk, and what all lines told at desks so far say.
-use Rattle.std.proofs.Common.{◌≡◌, [], ◌+◌, ◌++◌, ◌-◌, ◌<◌, Bool, List, Option, Some, ap, arith, drop, false, length, not, refl, subst, sym, true, ◌||◌, ℕ, ◌∙◌, ◌∷◌, ◌≢◌, None}
+use Rattle.std.proofs.Common.{◌≡◌, [], ◌+◌, ◌++◌, ◌-◌, ◌<◌, Bool, List, Option, Some, ap, arith, drop, false, length}
+use Rattle.std.proofs.Common.{not, refl, subst, sym, true, ◌||◌, ℕ, ◌∙◌, ◌∷◌, ◌≢◌, None}
 use Rattle.std.specs.Prelude.{◌&&◌, ◌==◌, nat_lt, slice_get}
 use Rattle.std.proofs.lemmas.Bool.{and_from, and_parts, eq-eqb, lt-ltb, ltb-true, ne_eqb, or_left, or_right}
 use Rattle.std.proofs.Math.Seq.{drop-append_seam}
@@ -9,7 +10,8 @@ use Rattle.std.specs.Option.{option_map}
 use Rattle.std.proofs.Math.Bool.{or-false, or-true}
 use Rattle.grs_known.proofs.known.Histories.{OrdersFit}
 use Rattle.grs_world.proofs.run.Runs.{AllBy, GoodTold, Tells, at_desk, by_node, to_tasks}
-use Rattle.grs_world.specs.Agree.{DeskAgrees, HasCause, Moment, purges, is_desk_before, order_in, order_of, tells_star, was_star}
+use Rattle.grs_world.specs.Agree.{DeskAgrees, HasCause, Moment, purges, is_desk_before, order_in, order_of, tells_star}
+use Rattle.grs_world.specs.Agree.{was_star}
 use Rattle.grs_world.specs.World.{Turnout, World, counted, placed, told_by, fixed_by}
 use Rattle.grs_node.specs.Log.{told_in}
 use Rattle.grs_wire.specs.declared.deck.Deck.{Deck}
@@ -31,15 +33,30 @@ use Rattle.grs_wire.specs.declared.told.ToldLine.TheVariants as lines
 use Rattle.grs_known.proofs.told.News.{ToldNews}
 use Rattle.grs_known.proofs.system.Says.{is_line_of}
 
--- What an event of a system tells that fixed this, by the system before and after it and by the mode of the medium: lines of its
--- tasks, which agree with the history H; or a line of its desk that orders the change to star mode, or the removal of a system.
-pub data EventTells (deck : Deck) (c : SysId) (H : List HistEntry) (fixed : List Fixed) (n k : NodeState) (before after : Bool) : Type 0 where
-  tells_tasks : ToldNews deck c.0 H n.tasks.told k.tasks.told → k.done ≡ n.done → after ≡ before → EventTells deck c H fixed n k before after
-  tells_done : next_order deck n ≡ Some orders.Star → k.tasks.told ≡ n.tasks.told ++ lines.Desk (n.done + 1) saids.StarDone ∷ [] → k.done ≡ n.done + 1 → deck.star ≡ false → before ≡ false → after ≡ true → EventTells deck c H fixed n k before after
-  tells_already : next_order deck n ≡ Some orders.Star → k.tasks.told ≡ n.tasks.told ++ lines.Desk (n.done + 1) saids.StarAlready ∷ [] → k.done ≡ n.done + 1 → before ≡ true → after ≡ true → EventTells deck c H fixed n k before after
-  tells_removed : (target : SysId) → next_order deck n ≡ Some (orders.Vary target) → k.tasks.told ≡ n.tasks.told ++ lines.Desk (n.done + 1) saids.VaryDone ∷ [] → k.done ≡ n.done + 1 → after ≡ before → fixed ≡ Purged target ∷ [] → EventTells deck c H fixed n k before after
-  tells_no_such : (target : SysId) → next_order deck n ≡ Some (orders.Vary target) → k.tasks.told ≡ n.tasks.told ++ lines.Desk (n.done + 1) saids.VaryNoSuch ∷ [] → k.done ≡ n.done + 1 → after ≡ before → (OrdersFit deck → list_any (removes target) H ≡ true) → EventTells deck c H fixed n k before after
-  tells_in_star : (target : SysId) → next_order deck n ≡ Some (orders.Vary target) → k.tasks.told ≡ n.tasks.told ++ lines.Desk (n.done + 1) saids.VaryInStar ∷ [] → k.done ≡ n.done + 1 → before ≡ true → after ≡ true → EventTells deck c H fixed n k before after
+-- What an event of a system tells that fixed this, by the system before and after it and by the mode of the medium:
+-- lines of its tasks, which agree with the history H; or a line of its desk that orders the change to star mode, or the
+-- removal of a system.
+pub data EventTells (deck : Deck) (c : SysId) (H : List HistEntry) (fixed : List Fixed) (n k : NodeState)
+    (before after : Bool) :
+    Type 0 where
+  tells_tasks : ToldNews deck c.0 H n.tasks.told k.tasks.told → k.done ≡ n.done → after ≡ before
+      → EventTells deck c H fixed n k before after
+  tells_done : next_order deck n ≡ Some orders.Star
+      → k.tasks.told ≡ n.tasks.told ++ lines.Desk (n.done + 1) saids.StarDone ∷ [] → k.done ≡ n.done + 1
+      → deck.star ≡ false → before ≡ false → after ≡ true → EventTells deck c H fixed n k before after
+  tells_already : next_order deck n ≡ Some orders.Star
+      → k.tasks.told ≡ n.tasks.told ++ lines.Desk (n.done + 1) saids.StarAlready ∷ [] → k.done ≡ n.done + 1
+      → before ≡ true → after ≡ true → EventTells deck c H fixed n k before after
+  tells_removed : (target : SysId) → next_order deck n ≡ Some (orders.Vary target)
+      → k.tasks.told ≡ n.tasks.told ++ lines.Desk (n.done + 1) saids.VaryDone ∷ [] → k.done ≡ n.done + 1
+      → after ≡ before → fixed ≡ Purged target ∷ [] → EventTells deck c H fixed n k before after
+  tells_no_such : (target : SysId) → next_order deck n ≡ Some (orders.Vary target)
+      → k.tasks.told ≡ n.tasks.told ++ lines.Desk (n.done + 1) saids.VaryNoSuch ∷ [] → k.done ≡ n.done + 1
+      → after ≡ before → (OrdersFit deck → list_any (removes target) H ≡ true)
+      → EventTells deck c H fixed n k before after
+  tells_in_star : (target : SysId) → next_order deck n ≡ Some (orders.Vary target)
+      → k.tasks.told ≡ n.tasks.told ++ lines.Desk (n.done + 1) saids.VaryInStar ∷ [] → k.done ≡ n.done + 1
+      → before ≡ true → after ≡ true → EventTells deck c H fixed n k before after
 
 -- whether a line isn't told at this system's desk, or is of a desk line before this one
 abbrev pub is_desk_told : ℕ → ℕ → Told → Bool
@@ -48,66 +65,99 @@ is_desk_told s k x = not (x.system.0 == s) || is_desk_before k x.line
 -- What was told at desks: that the complex changed, where it did; and at each system's desk of the lines that are done.
 pub record GoodDesks (deck : Deck) (w : World) : Type 0 where
   pub changes : list_any (λ x. tells_star x.line) w.told ≡ (w.medium.star && not deck.star)
-  pub lines : (s : ℕ) (n : NodeState) → slice_get w.nodes s ≡ Some n → list_all (is_desk_told s (n.done + 1)) w.told ≡ true
+  pub lines : (s : ℕ) (n : NodeState) → slice_get w.nodes s ≡ Some n
+      → list_all (is_desk_told s (n.done + 1)) w.told ≡ true
 
 -- ---- the line agrees
 -- what a desk line orders
-pub order-is : (deck : Deck) (s : SysId) (n : NodeState) (order : Order) → n.tasks.system ≡ s.0 → next_order deck n ≡ Some order → order_of deck s (n.done + 1) ≡ Some order
+pub order-is : (deck : Deck) (s : SysId) (n : NodeState) (order : Order) → n.tasks.system ≡ s.0
+    → next_order deck n ≡ Some order → order_of deck s (n.done + 1) ≡ Some order
 order-is deck s n order home next =
     let place : n.done + 1 - 1 ≡ n.done = omega arith in
-    ap (λ k. order_in (slice_get (desk_of (slice_get deck.systems s.0)) k)) place ∙ (ap (λ u. order_in (slice_get (desk_of (slice_get deck.systems u)) n.done)) (sym home) ∙ (by_line (slice_get (desk_of (slice_get deck.systems n.tasks.system)) n.done) ∙ next))
+    ap (λ k. order_in (slice_get (desk_of (slice_get deck.systems s.0)) k)) place
+    ∙ (ap (λ u. order_in (slice_get (desk_of (slice_get deck.systems u)) n.done)) (sym home)
+    ∙ (by_line (slice_get (desk_of (slice_get deck.systems n.tasks.system)) n.done) ∙ next))
   where
     by_line : (o : Option DeskLine) → order_in o ≡ option_map (λ l. l.order) o
     by_line None = refl
     by_line (Some l) = refl
 
-earlier : (k e : ℕ) → k < e → (xs : List Told) → AllBy k xs → list_any (λ x. tells_star x.line) xs ≡ true → list_any (λ x. nat_lt x.event e && tells_star x.line) xs ≡ true
+earlier : (k e : ℕ) → k < e → (xs : List Told) → AllBy k xs → list_any (λ x. tells_star x.line) xs ≡ true
+    → list_any (λ x. nat_lt x.event e && tells_star x.line) xs ≡ true
 earlier k e l [] a h = absurd (cc)
 earlier k e l (x ∷ xs) a h = go (tells_star x.line) refl h (earlier k e l xs a.1)
   where
-    go : (b : Bool) → tells_star x.line ≡ b → (b || list_any (λ y. tells_star y.line) xs) ≡ true → (list_any (λ y. tells_star y.line) xs ≡ true → list_any (λ y. nat_lt y.event e && tells_star y.line) xs ≡ true) → ((nat_lt x.event e && tells_star x.line) || list_any (λ y. nat_lt y.event e && tells_star y.line) xs) ≡ true
-    go true f g more = or_left (nat_lt x.event e && tells_star x.line) (list_any (λ y. nat_lt y.event e && tells_star y.line) xs) (and_from (nat_lt x.event e) (tells_star x.line) (lt-ltb x.event e (omega (arith, l, a.0))) f)
-    go false f g more = or_right (nat_lt x.event e && tells_star x.line) (list_any (λ y. nat_lt y.event e && tells_star y.line) xs) (more g)
+    go : (b : Bool) → tells_star x.line ≡ b → (b || list_any (λ y. tells_star y.line) xs) ≡ true
+        → (list_any (λ y. tells_star y.line) xs ≡ true
+        → list_any (λ y. nat_lt y.event e && tells_star y.line) xs ≡ true)
+        → ((nat_lt x.event e && tells_star x.line) || list_any (λ y. nat_lt y.event e && tells_star y.line) xs) ≡ true
+    go true f g more =
+        or_left (nat_lt x.event e && tells_star x.line) (list_any (λ y. nat_lt y.event e && tells_star y.line) xs)
+        (and_from (nat_lt x.event e) (tells_star x.line) (lt-ltb x.event e (omega (arith, l, a.0))) f)
+    go false f g more =
+        or_right (nat_lt x.event e && tells_star x.line) (list_any (λ y. nat_lt y.event e && tells_star y.line) xs)
+        (more g)
 
-module _ (deck : Deck) (es : List Event) (w : World) (g : GoodTold deck es w) (d : GoodDesks deck w) (c : SysId) (n : NodeState) (at : slice_get w.nodes c.0 ≡ Some n) (home : n.tasks.system ≡ c.0) where
+module _ (deck : Deck) (es : List Event) (w : World) (g : GoodTold deck es w) (d : GoodDesks deck w) (c : SysId)
+    (n : NodeState) (at : slice_get w.nodes c.0 ≡ Some n) (home : n.tasks.system ≡ c.0) where
   was_star-is : w.medium.star ≡ true → was_star deck (w.events + 1) w.told ≡ true
   was_star-is mode = go deck.star refl
     where
       go : (b : Bool) → deck.star ≡ b → was_star deck (w.events + 1) w.told ≡ true
       go true h = or_left deck.star (list_any (λ x. nat_lt x.event (w.events + 1) && tells_star x.line) w.told) h
-      go false h = or_right deck.star (list_any (λ x. nat_lt x.event (w.events + 1) && tells_star x.line) w.told) (earlier (length es) (w.events + 1) (omega (arith, g.counted)) w.told g.by_now (d.changes ∙ (ap (λ b. b && not deck.star) mode ∙ ap not h)))
+      go false h =
+          or_right deck.star (list_any (λ x. nat_lt x.event (w.events + 1) && tells_star x.line) w.told)
+          (earlier (length es) (w.events + 1) (omega (arith, g.counted)) w.told g.by_now
+          (d.changes ∙ (ap (λ b. b && not deck.star) mode ∙ ap not h)))
 
   -- a line of the desk that comes behind those told before, and has its cause
-  by_cause : (m : Moment) (order : Order) (said : Said) → next_order deck n ≡ Some order → m.before ≡ w.told → HasCause deck m (w.events + 1) c (Some order) said → DeskAgrees deck m (w.events + 1) c (n.done + 1) said
-  by_cause m order said next same cause =
-      (omega arith, ap (list_all (is_desk_told c.0 (n.done + 1))) same ∙ d.lines c.0 n at, subst (λ o. HasCause deck m (w.events + 1) c o said) (sym (order-is deck c n order home next)) cause)
+  by_cause : (m : Moment) (order : Order) (said : Said) → next_order deck n ≡ Some order → m.before ≡ w.told
+      → HasCause deck m (w.events + 1) c (Some order) said → DeskAgrees deck m (w.events + 1) c (n.done + 1) said
+  by_cause m order said next same cause = (
+    omega arith,
+    ap (list_all (is_desk_told c.0 (n.done + 1))) same ∙ d.lines c.0 n at,
+    subst (λ o. HasCause deck m (w.events + 1) c o said) (sym (order-is deck c n order home next)) cause,
+  )
 
   purged-now : (target : SysId) → purges c target (fixed_by c (Purged target ∷ [])) ≡ true
   purged-now target = rw (eq-eqb c.0 c.0 refl, eq-eqb target.0 target.0 refl) refl
 
-  pub desk-agrees : (H : List HistEntry) (fixed : List Fixed) (k : NodeState) (after : Bool) → EventTells deck c H fixed n k w.medium.star after → Tells deck w c H fixed n.tasks.told k.tasks.told
+  pub desk-agrees : (H : List HistEntry) (fixed : List Fixed) (k : NodeState) (after : Bool)
+      → EventTells deck c H fixed n k w.medium.star after → Tells deck w c H fixed n.tasks.told k.tasks.told
   desk-agrees H fixed k after (tells_tasks news done mode) = to_tasks news
-  desk-agrees H fixed k after (tells_done next told done ring before now) = at_desk (n.done + 1) saids.StarDone told (λ m is fit.
-      by_cause m orders.Star saids.StarDone next is.before (ap (list_any (λ x. tells_star x.line)) is.before ∙ (d.changes ∙ ap (λ b. b && not deck.star) before)))
-  desk-agrees H fixed k after (tells_already next told done before now) = at_desk (n.done + 1) saids.StarAlready told (λ m is fit.
-      by_cause m orders.Star saids.StarAlready next is.before (ap (was_star deck (w.events + 1)) is.before ∙ was_star-is before))
-  desk-agrees H fixed k after (tells_removed target next told done mode one) = at_desk (n.done + 1) saids.VaryDone told (λ m is fit.
-      by_cause m (orders.Vary target) saids.VaryDone next is.before (ap (purges c target) (is.fixed ∙ ap (fixed_by c) one) ∙ purged-now target))
-  desk-agrees H fixed k after (tells_no_such target next told done mode gone) = at_desk (n.done + 1) saids.VaryNoSuch told (λ m is fit.
-      by_cause m (orders.Vary target) saids.VaryNoSuch next is.before (ap (list_any (removes target)) is.history ∙ gone fit))
-  desk-agrees H fixed k after (tells_in_star target next told done before now) = at_desk (n.done + 1) saids.VaryInStar told (λ m is fit.
-      by_cause m (orders.Vary target) saids.VaryInStar next is.before (ap (was_star deck (w.events + 1)) is.before ∙ was_star-is before))
+  desk-agrees H fixed k after (tells_done next told done ring before now) =
+      at_desk (n.done + 1) saids.StarDone told (λ m is fit.
+      by_cause m orders.Star saids.StarDone next is.before
+      (ap (list_any (λ x. tells_star x.line)) is.before ∙ (d.changes ∙ ap (λ b. b && not deck.star) before)))
+  desk-agrees H fixed k after (tells_already next told done before now) =
+      at_desk (n.done + 1) saids.StarAlready told (λ m is fit.
+      by_cause m orders.Star saids.StarAlready next is.before
+      (ap (was_star deck (w.events + 1)) is.before ∙ was_star-is before))
+  desk-agrees H fixed k after (tells_removed target next told done mode one) =
+      at_desk (n.done + 1) saids.VaryDone told (λ m is fit.
+      by_cause m (orders.Vary target) saids.VaryDone next is.before
+      (ap (purges c target) (is.fixed ∙ ap (fixed_by c) one) ∙ purged-now target))
+  desk-agrees H fixed k after (tells_no_such target next told done mode gone) =
+      at_desk (n.done + 1) saids.VaryNoSuch told (λ m is fit.
+      by_cause m (orders.Vary target) saids.VaryNoSuch next is.before
+      (ap (list_any (removes target)) is.history ∙ gone fit))
+  desk-agrees H fixed k after (tells_in_star target next told done before now) =
+      at_desk (n.done + 1) saids.VaryInStar told (λ m is fit.
+      by_cause m (orders.Vary target) saids.VaryInStar next is.before
+      (ap (was_star deck (w.events + 1)) is.before ∙ was_star-is before))
 
 -- ---- one event more
 pub desks-counted : (deck : Deck) (w : World) → GoodDesks deck w → GoodDesks deck (counted w)
 desks-counted deck w d = record { changes = d.changes; lines = d.lines }
 
-any-told_by : (p : ToldLine → Bool) (e : ℕ) (c : SysId) (ls : List ToldLine) → list_any (λ x. p x.line) (told_by e c ls) ≡ list_any p ls
+any-told_by : (p : ToldLine → Bool) (e : ℕ) (c : SysId) (ls : List ToldLine)
+    → list_any (λ x. p x.line) (told_by e c ls) ≡ list_any p ls
 any-told_by p e c [] = refl
 any-told_by p e c (l ∷ ls) = ap (λ b. p l || b) (any-told_by p e c ls)
 
 -- lines of tasks are none of desks
-task-line : (s : ℕ) (l : ToldLine) → is_line_of s l ≡ true → (tells_star l ≡ false) × ((k : ℕ) → is_desk_before k l ≡ true)
+task-line : (s : ℕ) (l : ToldLine) → is_line_of s l ≡ true
+    → (tells_star l ≡ false) × ((k : ℕ) → is_desk_before k l ≡ true)
 task-line s (lines.Coded t k part verb code) h = (refl, λ j. refl)
 task-line s (lines.Shown t k verb code rows) h = (refl, λ j. refl)
 task-line s (lines.Post t k) h = (refl, λ j. refl)
@@ -116,17 +166,25 @@ task-line s (lines.Desk k said) h = absurd (cc)
 
 none-star : (s : ℕ) (ls : List ToldLine) → list_all (is_line_of s) ls ≡ true → list_any tells_star ls ≡ false
 none-star s [] h = refl
-none-star s (l ∷ ls) h = let both = and_parts (is_line_of s l) (list_all (is_line_of s) ls) h in ap (λ b. b || list_any tells_star ls) (task-line s l both.0).0 ∙ none-star s ls both.1
+none-star s (l ∷ ls) h =
+    let both = and_parts (is_line_of s l) (list_all (is_line_of s) ls) h in
+    ap (λ b. b || list_any tells_star ls) (task-line s l both.0).0 ∙ none-star s ls both.1
 
-tasks-before : (u k e : ℕ) (c : SysId) (ls : List ToldLine) → list_all (is_line_of c.0) ls ≡ true → list_all (is_desk_told u k) (told_by e c ls) ≡ true
+tasks-before : (u k e : ℕ) (c : SysId) (ls : List ToldLine) → list_all (is_line_of c.0) ls ≡ true
+    → list_all (is_desk_told u k) (told_by e c ls) ≡ true
 tasks-before u k e c [] h = refl
 tasks-before u k e c (l ∷ ls) h =
     let both = and_parts (is_line_of c.0 l) (list_all (is_line_of c.0) ls) h in
-    and_from (not (c.0 == u) || is_desk_before k l) (list_all (is_desk_told u k) (told_by e c ls)) (or_right (not (c.0 == u)) (is_desk_before k l) ((task-line c.0 l both.0).1 k)) (tasks-before u k e c ls both.1)
+    and_from (not (c.0 == u) || is_desk_before k l) (list_all (is_desk_told u k) (told_by e c ls))
+    (or_right (not (c.0 == u)) (is_desk_before k l) ((task-line c.0 l both.0).1 k)) (tasks-before u k e c ls both.1)
 
-others-before : (u k e : ℕ) (c : SysId) (ls : List ToldLine) → u ≢ c.0 → list_all (is_desk_told u k) (told_by e c ls) ≡ true
+others-before : (u k e : ℕ) (c : SysId) (ls : List ToldLine) → u ≢ c.0
+    → list_all (is_desk_told u k) (told_by e c ls) ≡ true
 others-before u k e c [] ne = refl
-others-before u k e c (l ∷ ls) ne = and_from (not (c.0 == u) || is_desk_before k l) (list_all (is_desk_told u k) (told_by e c ls)) (or_left (not (c.0 == u)) (is_desk_before k l) (ap not (ne_eqb c.0 u (λ same. ne (sym same))))) (others-before u k e c ls ne)
+others-before u k e c (l ∷ ls) ne =
+    and_from (not (c.0 == u) || is_desk_before k l) (list_all (is_desk_told u k) (told_by e c ls))
+    (or_left (not (c.0 == u)) (is_desk_before k l) (ap not (ne_eqb c.0 u (λ same. ne (sym same)))))
+    (others-before u k e c ls ne)
 
 -- what comes before a desk line comes before the next
 next-before : (s k : ℕ) (x : Told) → is_desk_told s k x ≡ true → is_desk_told s (k + 1) x ≡ true
@@ -143,44 +201,90 @@ next-before s k x h = go (x.system.0 == s) h
     go true e = line x.line e
     go false e = refl
 
-all-next : (s k : ℕ) (xs : List Told) → list_all (is_desk_told s k) xs ≡ true → list_all (is_desk_told s (k + 1)) xs ≡ true
+all-next : (s k : ℕ) (xs : List Told) → list_all (is_desk_told s k) xs ≡ true
+    → list_all (is_desk_told s (k + 1)) xs ≡ true
 all-next s k [] h = refl
 all-next s k (x ∷ xs) h =
     let both = and_parts (is_desk_told s k x) (list_all (is_desk_told s k) xs) h in
-    and_from (is_desk_told s (k + 1) x) (list_all (is_desk_told s (k + 1)) xs) (next-before s k x both.0) (all-next s k xs both.1)
+    and_from (is_desk_told s (k + 1) x) (list_all (is_desk_told s (k + 1)) xs) (next-before s k x both.0)
+    (all-next s k xs both.1)
 
-module _ (deck : Deck) (w : World) (d : GoodDesks deck w) (c : SysId) (n : NodeState) (at : slice_get w.nodes c.0 ≡ Some n) (o : Turnout) where
+module _ (deck : Deck) (w : World) (d : GoodDesks deck w) (c : SysId) (n : NodeState)
+    (at : slice_get w.nodes c.0 ≡ Some n) (o : Turnout) where
   abbrev e : ℕ
   e = w.events + 1
 
   -- it tells these lines
-  desks-behind : (ls : List ToldLine) → o.step.node.tasks.told ≡ n.tasks.told ++ ls → ((w.medium.star && not deck.star) || list_any tells_star ls) ≡ (o.medium.star && not deck.star) →
-      list_all (is_desk_told c.0 (o.step.node.done + 1)) w.told ≡ true → list_all (is_desk_told c.0 (o.step.node.done + 1)) (told_by (w.events + 1) c ls) ≡ true → GoodDesks deck (placed w c n o)
+  desks-behind : (ls : List ToldLine) → o.step.node.tasks.told ≡ n.tasks.told ++ ls
+      → ((w.medium.star && not deck.star) || list_any tells_star ls) ≡ (o.medium.star && not deck.star) →
+      list_all (is_desk_told c.0 (o.step.node.done + 1)) w.told ≡ true
+      → list_all (is_desk_told c.0 (o.step.node.done + 1)) (told_by (w.events + 1) c ls) ≡ true
+      → GoodDesks deck (placed w c n o)
   unfolding placed
   desks-behind ls now mode old new = record {
-    changes = ap (list_any (λ x. tells_star x.line)) told_is ∙ (list_any-append (λ x. tells_star x.line) w.told (told_by e c ls) ∙ (ap (λ b. b || list_any (λ x. tells_star x.line) (told_by e c ls)) d.changes ∙ (ap (λ b. (w.medium.star && not deck.star) || b) (any-told_by tells_star e c ls) ∙ mode)));
-    lines = by_node w.nodes c.0 n o.step.node at (λ u k. list_all (is_desk_told u (k.done + 1)) (w.told ++ told_by e c (told_in n o.step)) ≡ true)
+    changes =
+        ap (list_any (λ x. tells_star x.line)) told_is
+        ∙ (list_any-append (λ x. tells_star x.line) w.told (told_by e c ls)
+        ∙ (ap (λ b. b || list_any (λ x. tells_star x.line) (told_by e c ls)) d.changes
+        ∙ (ap (λ b. (w.medium.star && not deck.star) || b) (any-told_by tells_star e c ls) ∙ mode)));
+    lines =
+        by_node w.nodes c.0 n o.step.node at
+        (λ u k. list_all (is_desk_told u (k.done + 1)) (w.told ++ told_by e c (told_in n o.step)) ≡ true)
         (all c.0 (o.step.node.done + 1) old new)
         (λ u k ne there. all u (k.done + 1) (d.lines u k there) (others-before u (k.done + 1) e c ls ne));
   }
     where
       told_is : w.told ++ told_by (w.events + 1) c (told_in n o.step) ≡ w.told ++ told_by (w.events + 1) c ls
-      told_is = ap (λ xs. w.told ++ told_by e c xs) (ap (drop (length n.tasks.told)) now ∙ drop-append_seam n.tasks.told ls)
+      told_is =
+          ap (λ xs. w.told ++ told_by e c xs) (ap (drop (length n.tasks.told)) now ∙ drop-append_seam n.tasks.told ls)
 
-      all : (u k : ℕ) → list_all (is_desk_told u k) w.told ≡ true → list_all (is_desk_told u k) (told_by (w.events + 1) c ls) ≡ true → list_all (is_desk_told u k) (w.told ++ told_by (w.events + 1) c (told_in n o.step)) ≡ true
-      all u k a b = ap (list_all (is_desk_told u k)) told_is ∙ (list_all-append (is_desk_told u k) w.told (told_by e c ls) ∙ and_from (list_all (is_desk_told u k) w.told) (list_all (is_desk_told u k) (told_by e c ls)) a b)
+      all : (u k : ℕ) → list_all (is_desk_told u k) w.told ≡ true
+          → list_all (is_desk_told u k) (told_by (w.events + 1) c ls) ≡ true
+          → list_all (is_desk_told u k) (w.told ++ told_by (w.events + 1) c (told_in n o.step)) ≡ true
+      all u k a b =
+          ap (list_all (is_desk_told u k)) told_is
+          ∙ (list_all-append (is_desk_told u k) w.told (told_by e c ls)
+          ∙ and_from (list_all (is_desk_told u k) w.told) (list_all (is_desk_told u k) (told_by e c ls)) a b)
 
-  one-desk : (said : Said) → o.step.node.done ≡ n.done + 1 → list_all (is_desk_told c.0 (o.step.node.done + 1)) (told_by (w.events + 1) c (lines.Desk (n.done + 1) said ∷ [])) ≡ true
-  one-desk said done = and_from (not (c.0 == c.0) || nat_lt (n.done + 1) (o.step.node.done + 1)) true (or_right (not (c.0 == c.0)) (nat_lt (n.done + 1) (o.step.node.done + 1)) (lt-ltb (n.done + 1) (o.step.node.done + 1) (omega (arith, done)))) refl
+  one-desk : (said : Said) → o.step.node.done ≡ n.done + 1
+      → list_all (is_desk_told c.0 (o.step.node.done + 1))
+      (told_by (w.events + 1) c (lines.Desk (n.done + 1) said ∷ []))
+      ≡ true
+  one-desk said done =
+      and_from (not (c.0 == c.0) || nat_lt (n.done + 1) (o.step.node.done + 1)) true
+      (or_right (not (c.0 == c.0)) (nat_lt (n.done + 1) (o.step.node.done + 1))
+      (lt-ltb (n.done + 1) (o.step.node.done + 1) (omega (arith, done))))
+      refl
 
   more-done : o.step.node.done ≡ n.done + 1 → list_all (is_desk_told c.0 (o.step.node.done + 1)) w.told ≡ true
-  more-done done = ap (λ k. list_all (is_desk_told c.0 (k + 1)) w.told) done ∙ all-next c.0 (n.done + 1) w.told (d.lines c.0 n at)
+  more-done done =
+      ap (λ k. list_all (is_desk_told c.0 (k + 1)) w.told) done ∙ all-next c.0 (n.done + 1) w.told (d.lines c.0 n at)
 
-  pub desks-after : (H : List HistEntry) → EventTells deck c H o.step.fixed n o.step.node w.medium.star o.medium.star → GoodDesks deck (placed w c n o)
-  desks-after H (tells_tasks news done mode) = desks-behind news.lines news.is (ap (λ b. (w.medium.star && not deck.star) || b) (none-star c.0 news.lines news.ours) ∙ (or-false (w.medium.star && not deck.star) ∙ ap (λ b. b && not deck.star) (sym mode)))
-      (ap (λ k. list_all (is_desk_told c.0 (k + 1)) w.told) done ∙ d.lines c.0 n at) (tasks-before c.0 (o.step.node.done + 1) e c news.lines news.ours)
-  desks-after H (tells_done next told done ring before now) = desks-behind (lines.Desk (n.done + 1) saids.StarDone ∷ []) told (or-true (w.medium.star && not deck.star) ∙ sym (ap (λ b. b && not deck.star) now ∙ ap not ring)) (more-done done) (one-desk saids.StarDone done)
-  desks-after H (tells_already next told done before now) = desks-behind (lines.Desk (n.done + 1) saids.StarAlready ∷ []) told (or-false (w.medium.star && not deck.star) ∙ ap (λ b. b && not deck.star) (before ∙ sym now)) (more-done done) (one-desk saids.StarAlready done)
-  desks-after H (tells_removed target next told done mode one) = desks-behind (lines.Desk (n.done + 1) saids.VaryDone ∷ []) told (or-false (w.medium.star && not deck.star) ∙ ap (λ b. b && not deck.star) (sym mode)) (more-done done) (one-desk saids.VaryDone done)
-  desks-after H (tells_no_such target next told done mode gone) = desks-behind (lines.Desk (n.done + 1) saids.VaryNoSuch ∷ []) told (or-false (w.medium.star && not deck.star) ∙ ap (λ b. b && not deck.star) (sym mode)) (more-done done) (one-desk saids.VaryNoSuch done)
-  desks-after H (tells_in_star target next told done before now) = desks-behind (lines.Desk (n.done + 1) saids.VaryInStar ∷ []) told (or-false (w.medium.star && not deck.star) ∙ ap (λ b. b && not deck.star) (before ∙ sym now)) (more-done done) (one-desk saids.VaryInStar done)
+  pub desks-after : (H : List HistEntry) → EventTells deck c H o.step.fixed n o.step.node w.medium.star o.medium.star
+      → GoodDesks deck (placed w c n o)
+  desks-after H (tells_tasks news done mode) =
+      desks-behind news.lines news.is (ap (λ b. (w.medium.star && not deck.star) || b)
+      (none-star c.0 news.lines news.ours)
+      ∙ (or-false (w.medium.star && not deck.star) ∙ ap (λ b. b && not deck.star) (sym mode)))
+      (ap (λ k. list_all (is_desk_told c.0 (k + 1)) w.told) done ∙ d.lines c.0 n at)
+      (tasks-before c.0 (o.step.node.done + 1) e c news.lines news.ours)
+  desks-after H (tells_done next told done ring before now) =
+      desks-behind (lines.Desk (n.done + 1) saids.StarDone ∷ []) told
+      (or-true (w.medium.star && not deck.star) ∙ sym (ap (λ b. b && not deck.star) now ∙ ap not ring)) (more-done done)
+      (one-desk saids.StarDone done)
+  desks-after H (tells_already next told done before now) =
+      desks-behind (lines.Desk (n.done + 1) saids.StarAlready ∷ []) told
+      (or-false (w.medium.star && not deck.star) ∙ ap (λ b. b && not deck.star) (before ∙ sym now)) (more-done done)
+      (one-desk saids.StarAlready done)
+  desks-after H (tells_removed target next told done mode one) =
+      desks-behind (lines.Desk (n.done + 1) saids.VaryDone ∷ []) told
+      (or-false (w.medium.star && not deck.star) ∙ ap (λ b. b && not deck.star) (sym mode)) (more-done done)
+      (one-desk saids.VaryDone done)
+  desks-after H (tells_no_such target next told done mode gone) =
+      desks-behind (lines.Desk (n.done + 1) saids.VaryNoSuch ∷ []) told
+      (or-false (w.medium.star && not deck.star) ∙ ap (λ b. b && not deck.star) (sym mode)) (more-done done)
+      (one-desk saids.VaryNoSuch done)
+  desks-after H (tells_in_star target next told done before now) =
+      desks-behind (lines.Desk (n.done + 1) saids.VaryInStar ∷ []) told
+      (or-false (w.medium.star && not deck.star) ∙ ap (λ b. b && not deck.star) (before ∙ sym now)) (more-done done)
+      (one-desk saids.VaryInStar done)

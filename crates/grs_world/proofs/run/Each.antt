@@ -1,5 +1,6 @@
 -- The cases of a call, of a choice and of an event, each once, and every list of events.
-use Rattle.std.proofs.Common.{◌≡◌, ℕ, true, false, List, [], ◌∷◌, ◌++◌, take, Option, Some, None, refl, ap, sym, ◌∙◌, subst, append-nil, append_assoc}
+use Rattle.std.proofs.Common.{◌≡◌, ℕ, true, false, List, [], ◌∷◌, ◌++◌, take, Option, Some, None, refl, ap, sym, ◌∙◌}
+use Rattle.std.proofs.Common.{subst, append-nil, append_assoc}
 use Rattle.std.specs.Prelude.{slice_get, ◌==◌}
 use Rattle.std.proofs.lemmas.Bool.{eqb-true}
 use Rattle.grs_base.specs.declared.resource.SysId.{SysId}
@@ -27,14 +28,16 @@ use Rattle.grs_wire.specs.declared.deck.Order.{Order}
 use Rattle.grs_wire.specs.declared.deck.Order.TheVariants as orders
 
 -- What holds of each answer to a call, with the medium that it leaves, holds of the call.
-pub each_answer : (m : MediumState) (c : SysId) (call : CallOfMedium) (P : Reply × MediumState → Type 0) → P (replies.Removed, m) → P (replies.Stale m.removed, m) → P (row m c call.act) → P (apply m c call)
+pub each_answer : (m : MediumState) (c : SysId) (call : CallOfMedium) (P : Reply × MediumState → Type 0)
+    → P (replies.Removed, m) → P (replies.Stale m.removed, m) → P (row m c call.act) → P (apply m c call)
 unfolding apply
 each_answer m c call P removed stale here =
     by_test P (has m.removed c.0) (replies.Removed, m) _ (λ r. removed)
     (λ r. by_test P (call.known == m.removed) (row m c call.act) (replies.Stale m.removed, m) (λ k. here) (λ k. stale))
 
 -- So it is of a caller that wasn't removed: it is answered what its act asks, or told which systems were removed.
-pub each_heard : (m : MediumState) (c : SysId) (call : CallOfMedium) (P : Reply × MediumState → Type 0) → has m.removed c.0 ≡ false → P (replies.Stale m.removed, m) → P (row m c call.act) → P (apply m c call)
+pub each_heard : (m : MediumState) (c : SysId) (call : CallOfMedium) (P : Reply × MediumState → Type 0)
+    → has m.removed c.0 ≡ false → P (replies.Stale m.removed, m) → P (row m c call.act) → P (apply m c call)
 unfolding apply
 each_heard m c call P live stale here =
     by_test P (has m.removed c.0) (replies.Removed, m) _ (λ r. no_truth (has m.removed c.0) r live)
@@ -45,11 +48,16 @@ pub each_prepared : (deck : Deck) (n : NodeState) (P : Choice → Prepared → T
     ((t : TaskId) → may_go deck n t ≡ true → P (choices.Task t) Quiet) →
     P choices.Turn (Call (record { known = n.known; act = acts.Turn (take most_additions n.outbox) })) →
     P choices.Rest (Call (record { known = n.known; act = acts.Rest })) →
-    (next_order deck n ≡ Some orders.Star → P choices.Switch (Call (record { known = n.known; act = acts.Switch (own_words deck n) }))) →
-    ((t : SysId) → next_order deck n ≡ Some (orders.Vary t) → P (choices.Purge t) (Call (record { known = n.known; act = acts.Purge t }))) →
+    (next_order deck n ≡ Some orders.Star
+    → P choices.Switch (Call (record { known = n.known; act = acts.Switch (own_words deck n) })))
+    →
+    ((t : SysId) → next_order deck n ≡ Some (orders.Vary t)
+    → P (choices.Purge t) (Call (record { known = n.known; act = acts.Purge t })))
+    →
     ((choice : Choice) → P choice Nothing) →
     (choice : Choice) → P choice (prepare deck n choice)
-each_prepared deck n P alone task turn rest switch purge nothing choice = subst (P choice) (sym (prepare-ring deck n choice alone)) (go choice)
+each_prepared deck n P alone task turn rest switch purge nothing choice =
+    subst (P choice) (sym (prepare-ring deck n choice alone)) (go choice)
   where
     by_order : (o : Option Order) → next_order deck n ≡ o → P choices.Switch (switch_call deck n o)
     by_order None e = nothing choices.Switch
@@ -59,13 +67,20 @@ each_prepared deck n P alone task turn rest switch purge nothing choice = subst 
     by_target : (t : SysId) (o : Option Order) → next_order deck n ≡ o → P (choices.Purge t) (purge_call n t o)
     by_target t None e = nothing (choices.Purge t)
     by_target t (Some orders.Star) e = nothing (choices.Purge t)
-    by_target t (Some (orders.Vary named)) e = by_test (P (choices.Purge t)) (named.0 == t.0) (Call (record { known = n.known; act = acts.Purge t })) Nothing
-        (λ same. purge t (e ∙ ap (λ (k : ℕ). let z : SysId = record { 0 = k } in Some (orders.Vary z)) (eqb-true named.0 t.0 same))) (λ away. nothing (choices.Purge t))
+    by_target t (Some (orders.Vary named)) e =
+        by_test (P (choices.Purge t)) (named.0 == t.0) (Call (record { known = n.known; act = acts.Purge t })) Nothing
+        (λ same.
+        purge t (e
+        ∙ ap (λ (k : ℕ). let z : SysId = record { 0 = k } in Some (orders.Vary z)) (eqb-true named.0 t.0 same)))
+        (λ away. nothing (choices.Purge t))
 
     go : (c : Choice) → P c (ring_prepare deck n c)
-    go (choices.Task t) = by_test (P (choices.Task t)) (may_go deck n t) Quiet Nothing (λ m. task t m) (λ m. nothing (choices.Task t))
+    go (choices.Task t) =
+        by_test (P (choices.Task t)) (may_go deck n t) Quiet Nothing (λ m. task t m) (λ m. nothing (choices.Task t))
     go choices.Turn = turn
-    go choices.Rest = by_test (P choices.Rest) (is_pending deck n) Nothing (Call (record { known = n.known; act = acts.Rest })) (λ p. nothing choices.Rest) (λ p. rest)
+    go choices.Rest =
+        by_test (P choices.Rest) (is_pending deck n) Nothing (Call (record { known = n.known; act = acts.Rest }))
+        (λ p. nothing choices.Rest) (λ p. rest)
     go (choices.Send t) = nothing (choices.Send t)
     go choices.Take = nothing choices.Take
     go choices.Settle = nothing choices.Settle
@@ -76,30 +91,40 @@ each_prepared deck n P alone task turn rest switch purge nothing choice = subst 
 
 -- What holds where an event is only counted, and where a live system made its choice, holds behind the event.
 pub each_live : (deck : Deck) (w : World) (e : Event) (P : World → Type 0) → P (counted w) →
-    ((n : NodeState) → slice_get w.nodes e.system.0 ≡ Some n → has w.medium.removed e.system.0 ≡ false → P (placed w e.system n (chosen deck w.medium e.system n e.choice))) → P (happens deck w e)
+    ((n : NodeState) → slice_get w.nodes e.system.0 ≡ Some n → has w.medium.removed e.system.0 ≡ false
+    → P (placed w e.system n (chosen deck w.medium e.system n e.choice)))
+    → P (happens deck w e)
 unfolding happens happens_at
 each_live deck w e P idle chose = go (slice_get w.nodes e.system.0) refl
   where
     go : (o : Option NodeState) → slice_get w.nodes e.system.0 ≡ o → P (happens_at deck w e o)
     go None at = idle
-    go (Some n) at = by_test P (has w.medium.removed e.system.0) (counted w) (placed w e.system n (chosen deck w.medium e.system n e.choice)) (λ r. idle) (λ r. chose n at r)
+    go (Some n) at =
+        by_test P (has w.medium.removed e.system.0) (counted w)
+        (placed w e.system n (chosen deck w.medium e.system n e.choice)) (λ r. idle) (λ r. chose n at r)
 
 -- The same, whoever made it.
 pub each_event : (deck : Deck) (w : World) (e : Event) (P : World → Type 0) → P (counted w) →
-    ((n : NodeState) → slice_get w.nodes e.system.0 ≡ Some n → P (placed w e.system n (chosen deck w.medium e.system n e.choice))) → P (happens deck w e)
+    ((n : NodeState) → slice_get w.nodes e.system.0 ≡ Some n
+    → P (placed w e.system n (chosen deck w.medium e.system n e.choice)))
+    → P (happens deck w e)
 each_event deck w e P idle chose = each_live deck w e P idle (λ n at live. chose n at)
 
 -- ---- every list of events
-pub run-push : (deck : Deck) (es : List Event) (w : World) (e : Event) → run_from deck w (es ++ e ∷ []) ≡ happens deck (run_from deck w es) e
+pub run-push : (deck : Deck) (es : List Event) (w : World) (e : Event)
+    → run_from deck w (es ++ e ∷ []) ≡ happens deck (run_from deck w es) e
 run-push deck [] w e = refl
 run-push deck (x ∷ es) w e = run-push deck es (happens deck w x) e
 
 -- What holds of the first world, and of the world after each event if it did before, holds of every run.
-pub each_run : (deck : Deck) (P : List Event → World → Type 0) → P [] (first_world deck) → ((es : List Event) (e : Event) → P es (run deck es) → P (es ++ e ∷ []) (happens deck (run deck es) e)) → (es : List Event) → P es (run deck es)
+pub each_run : (deck : Deck) (P : List Event → World → Type 0) → P [] (first_world deck)
+    → ((es : List Event) (e : Event) → P es (run deck es) → P (es ++ e ∷ []) (happens deck (run deck es) e))
+    → (es : List Event) → P es (run deck es)
 each_run deck P first next es = from [] es first
   where
     from : (done es : List Event) → P done (run deck done) → P (done ++ es) (run deck (done ++ es))
     from done [] h = subst (λ xs. P xs (run deck xs)) (sym (append-nil done)) h
     from done (e ∷ es) h =
         subst (λ xs. P xs (run deck xs)) (append_assoc done (e ∷ []) es)
-        (from (done ++ e ∷ []) es (subst (P (done ++ e ∷ [])) (sym (run-push deck done (first_world deck) e)) (next done e h)))
+        (from (done ++ e ∷ []) es
+        (subst (P (done ++ e ∷ [])) (sym (run-push deck done (first_world deck) e)) (next done e h)))

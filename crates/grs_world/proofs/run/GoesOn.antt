@@ -20,12 +20,14 @@ use Rattle.grs_world.proofs.run.InRing.{count_first, open_ring}
 use Rattle.grs_world.proofs.run.Laps.{goes_on}
 
 -- an element that passes is one of them
-one-passes : {X : Type 0} (p : X → Bool) (x : X) → p x ≡ true → (xs : List X) (k : ℕ) → k < length xs → slice_index_or xs k x ≡ x → list_any p xs ≡ true
+one-passes : {X : Type 0} (p : X → Bool) (x : X) → p x ≡ true → (xs : List X) (k : ℕ) → k < length xs
+    → slice_index_or xs k x ≡ x → list_any p xs ≡ true
 one-passes p x h [] k l is = absurd (omega arith)
 one-passes p x h (y ∷ xs) zero l is = or_left (p y) (list_any p xs) (ap p is ∙ h)
 one-passes p x h (y ∷ xs) (suc k) l is = or_right (p y) (list_any p xs) (one-passes p x h xs k (omega (arith, l)) is)
 
-has_unseen : (es : List RingEntry) (x : RingEntry) (s : SysId) → Contains es x → has x.mask s.0 ≡ true → any_unseen s es ≡ true
+has_unseen : (es : List RingEntry) (x : RingEntry) (s : SysId) → Contains es x → has x.mask s.0 ≡ true
+    → any_unseen s es ≡ true
 unfolding any_unseen
 has_unseen es x s c h = one-passes (is_unseen s) x h es c.0 c.1 c.2
 
@@ -34,17 +36,28 @@ module _ (deck : Deck) where
   as_many : (es : List Event) → length (run deck es).nodes ≡ length deck.systems
   unfolding placed first_world
   as_many es = each_run deck (λ us w. length w.nodes ≡ length deck.systems) (count_first deck 0 deck.systems)
-      (λ us e g. each_event deck (run deck us) e (λ w. length w.nodes ≡ length deck.systems) g (λ n at. length-set (run deck us).nodes e.system.0 (chosen deck (run deck us).medium e.system n e.choice).step.node ∙ g)) es
+      (λ us e g.
+      each_event deck (run deck us) e (λ w. length w.nodes ≡ length deck.systems) g
+      (λ n at.
+      length-set (run deck us).nodes e.system.0 (chosen deck (run deck us).medium e.system n e.choice).step.node ∙ g))
+      es
 
-  live_as : (es : List Event) (s : ℕ) → has (live (run deck es).medium) s ≡ lives (length (run deck es).nodes) (run deck es).medium.removed s
-  live_as es s = has-live (run deck es).medium.message.systems (run deck es).medium.removed s ∙ ap (λ i. lives i (run deck es).medium.removed s) ((goes_on deck es).around ∙ sym (as_many es))
+  live_as : (es : List Event) (s : ℕ)
+      → has (live (run deck es).medium) s ≡ lives (length (run deck es).nodes) (run deck es).medium.removed s
+  live_as es s =
+      has-live (run deck es).medium.message.systems (run deck es).medium.removed s
+      ∙ ap (λ i. lives i (run deck es).medium.removed s) ((goes_on deck es).around ∙ sym (as_many es))
 
   pub message_waits : (es : List Event) → MessageGoesOn deck es
   message_waits es = record {
-    masks = λ x s there h. sym (live_as es s.0) ∙ (goes_on deck es).round.masks s.0 (has_unseen (run deck es).medium.message.entries x s there h);
+    masks = λ x s there h.
+        sym (live_as es s.0)
+        ∙ (goes_on deck es).round.masks s.0 (has_unseen (run deck es).medium.message.entries x s there h);
     holder = λ s ring alive.
         let here : has (live (run deck es).medium) s.0 ≡ true = live_as es s.0 ∙ alive in
         let below = ltb-true s.0 (length (run deck es).nodes) (and_parts _ _ alive).0 in
-        let r = (goes_on deck es).round.holder (open_ring deck es ring) s.0 (omega (arith, below, (goes_on deck es).around, as_many es)) here in
+        let r =
+        (goes_on deck es).round.holder (open_ring deck es ring) s.0
+        (omega (arith, below, (goes_on deck es).around, as_many es)) here in
         (r.0, r.1, sym (live_as es (r.0).0) ∙ r.2);
   }

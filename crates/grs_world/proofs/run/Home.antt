@@ -1,5 +1,6 @@
 -- What holds of all that stands in the message.
-use Rattle.std.proofs.Common.{◌≡◌, cond, Bool, true, false, ℕ, zero, suc, List, [], ◌∷◌, ◌++◌, length, map, take, Some, sym, subst}
+use Rattle.std.proofs.Common.{◌≡◌, cond, Bool, true, false, ℕ, zero, suc, List, [], ◌∷◌, ◌++◌, length, map, take, Some}
+use Rattle.std.proofs.Common.{sym, subst}
 use Rattle.std.specs.Prelude.{filter, slice_get, not, ◌==◌}
 use Rattle.std.specs.List.{list_all}
 use Rattle.std.proofs.lemmas.Bool.{and_parts, eqb-true}
@@ -15,10 +16,12 @@ use Rattle.grs_wire.specs.declared.medium.RingBody.TheVariants.{Request, Remove}
 use Rattle.grs_wire.specs.declared.medium.RingEntry.{RingEntry}
 use Rattle.grs_wire.specs.declared.request.Req.{Req}
 use Rattle.grs_wire.proofs.WantLaws.{by_test}
-use Rattle.rsa_message.specs.Message.{Message, stands_at, opened, never_opened, left_by, cleared, dropped, stamped, closed_by, turned, turned_closed}
+use Rattle.rsa_message.specs.Message.{Message, stands_at, opened, never_opened, left_by, cleared, dropped, stamped}
+use Rattle.rsa_message.specs.Message.{closed_by, turned, turned_closed}
 use Rattle.grs_known.proofs.lists.Facts.{all-behind, take-none}
 use Rattle.grs_world.specs.World.{World, Turnout, placed, happens, run, first_world}
-use Rattle.grs_world.proofs.run.InRing.{Came, IsRing, changed, each_came, each_in_star, informed, live-there, no_such, nothing, removes_one, turn, went_on}
+use Rattle.grs_world.proofs.run.InRing.{Came, IsRing, changed, each_came, each_in_star, informed, live-there, no_such}
+use Rattle.grs_world.proofs.run.InRing.{nothing, removes_one, turn, went_on}
 use Rattle.grs_world.proofs.run.Laps.{turned_shut}
 use Rattle.grs_world.proofs.move.Changing.{IsChanging}
 use Rattle.grs_world.proofs.move.Sound.{GoodRun, every_run, in_ring, in_star}
@@ -46,43 +49,63 @@ unfolding cleared
 home_cleared c [] a = tt
 home_cleared c (e ∷ es) a = go (not (e.mask == only c.0)) (home_cleared c es a.1)
   where
-    go : (b : Bool) → AllHome (cleared c es) → AllHome (map (left_by c) (cond b (e ∷ filter (λ x. not (x.mask == only c.0)) es) (filter (λ x. not (x.mask == only c.0)) es)))
+    go : (b : Bool) → AllHome (cleared c es)
+        → AllHome (map (left_by c)
+        (cond b (e ∷ filter (λ x. not (x.mask == only c.0)) es) (filter (λ x. not (x.mask == only c.0)) es)))
     go true ih = (a.0, ih)
     go false ih = ih
 
 -- So is a request of the outbox.
-home_put : (deck : Deck) (c : SysId) (number mask k : ℕ) (qs : List Req) → list_all (λ q. is_home_at deck c.0 q.task) qs ≡ true → AllHome (stamped number c mask (take k qs))
+home_put : (deck : Deck) (c : SysId) (number mask k : ℕ) (qs : List Req)
+    → list_all (λ q. is_home_at deck c.0 q.task) qs ≡ true → AllHome (stamped number c mask (take k qs))
 unfolding stamped
 home_put deck c number mask zero qs h = subst (λ xs. AllHome (stamped number c mask xs)) (sym (take-none qs)) tt
 home_put deck c number mask (suc k) [] h = tt
-home_put deck c number mask (suc k) (q ∷ qs) h = (eqb-true q.task.system.0 c.0 (and_parts _ _ (and_parts _ _ h).0).0, home_put deck c (suc number) mask k qs (and_parts _ _ h).1)
+home_put deck c number mask (suc k) (q ∷ qs) h = (
+  eqb-true q.task.system.0 c.0 (and_parts _ _ (and_parts _ _ h).0).0,
+  home_put deck c (suc number) mask k qs (and_parts _ _ h).1,
+)
 
 module _ (deck : Deck) (fits : may_be_star deck ≡ true → FitsStar deck) where
   module _ (es : List Event) (e : Event) (h : AllHome (run deck es).medium.message.entries) where
-    in_ring_next : IsRing deck (run deck es) → GoodWorld deck es (run deck es) → AllHome (happens deck (run deck es) e).medium.message.entries
+    in_ring_next : IsRing deck (run deck es) → GoodWorld deck es (run deck es)
+        → AllHome (happens deck (run deck es) e).medium.message.entries
     unfolding placed closed_by dropped
-    in_ring_next ring g = each_came deck (run deck es) e (λ (x : World). AllHome x.medium.message.entries) ring h by_case
+    in_ring_next ring g =
+        each_came deck (run deck es) e (λ (x : World). AllHome x.medium.message.entries) ring h by_case
       where
-        by_case : (n : NodeState) (o : Turnout) → slice_get (run deck es).nodes e.system.0 ≡ Some n → has (run deck es).medium.removed e.system.0 ≡ false → Came deck (run deck es) e.system n o → AllHome o.medium.message.entries
+        by_case : (n : NodeState) (o : Turnout) → slice_get (run deck es).nodes e.system.0 ≡ Some n
+            → has (run deck es).medium.removed e.system.0 ≡ false → Came deck (run deck es) e.system n o
+            → AllHome o.medium.message.entries
         by_case n o at alive (nothing flags) = h
         by_case n o at alive (went_on t m) = h
         by_case n o at alive (turn flags here) =
             let old = (run deck es).medium.message in
-            home_append (cleared e.system old.entries) (stamped old.next e.system (live (run deck es).medium) (take most_additions n.outbox)) (home_cleared e.system old.entries h)
-            (home_put deck e.system old.next (live (run deck es).medium) most_additions n.outbox (all-behind (λ q. is_home_at deck e.system.0 q.task) (own_requests e.system.0 (g.later e.system.0)) n.outbox (g.systems e.system.0 n at (live-there deck (run deck es) ring e.system.0 n at alive)).homes))
+            home_append (cleared e.system old.entries)
+            (stamped old.next e.system (live (run deck es).medium) (take most_additions n.outbox))
+            (home_cleared e.system old.entries h)
+            (home_put deck e.system old.next (live (run deck es).medium) most_additions n.outbox
+            (all-behind (λ q. is_home_at deck e.system.0 q.task) (own_requests e.system.0 (g.later e.system.0)) n.outbox
+            (g.systems e.system.0 n at (live-there deck (run deck es) ring e.system.0 n at alive)).homes))
         by_case n o at alive (changed next idle) = h
         by_case n o at alive informed = h
-        by_case n o at alive (removes_one target next there) = home_append (cleared target (run deck es).medium.message.entries) _ (home_cleared target (run deck es).medium.message.entries h) (tt, tt)
+        by_case n o at alive (removes_one target next there) =
+            home_append (cleared target (run deck es).medium.message.entries) _
+            (home_cleared target (run deck es).medium.message.entries h) (tt, tt)
         by_case n o at alive (no_such target next gone) = h
 
     in_star_next : IsChanging deck (run deck es) → AllHome (happens deck (run deck es) e).medium.message.entries
     in_star_next g = each_in_star deck (run deck es) e g.whole.roles.mode (λ m b. AllHome m.entries) h turns
       where
-        turns : (out : List Req) → AllHome (turned (run deck es).medium.message e.system out (live (run deck es).medium) (run deck es).medium.rest).entries
+        turns : (out : List Req)
+            → AllHome (turned (run deck es).medium.message e.system out (live (run deck es).medium)
+            (run deck es).medium.rest).entries
         turns out =
             let old = (run deck es).medium.message in
-            subst (λ (m : Message). AllHome m.entries) (sym (turned_shut old e.system out (live (run deck es).medium) (run deck es).medium.rest g.closed))
-            (by_test (λ (m : Message). AllHome m.entries) (stands_at old.holder e.system) (turned_closed old e.system) old (λ here. home_cleared e.system old.entries h) (λ away. h))
+            subst (λ (m : Message). AllHome m.entries)
+            (sym (turned_shut old e.system out (live (run deck es).medium) (run deck es).medium.rest g.closed))
+            (by_test (λ (m : Message). AllHome m.entries) (stands_at old.holder e.system) (turned_closed old e.system)
+            old (λ here. home_cleared e.system old.entries h) (λ away. h))
 
     home_next : GoodRun deck es (run deck es) → AllHome (happens deck (run deck es) e).medium.message.entries
     home_next (in_ring begins ring g d) = in_ring_next ring g
@@ -90,7 +113,11 @@ module _ (deck : Deck) (fits : may_be_star deck ≡ true → FitsStar deck) wher
 
   first_home : AllHome (first_world deck).medium.message.entries
   unfolding first_world
-  first_home = by_test (λ (m : Message). AllHome m.entries) deck.star (never_opened (length deck.systems)) (opened (length deck.systems)) (λ b. tt) (λ b. tt)
+  first_home =
+      by_test (λ (m : Message). AllHome m.entries) deck.star (never_opened (length deck.systems))
+      (opened (length deck.systems)) (λ b. tt) (λ b. tt)
 
   pub all_home : (es : List Event) → AllHome (run deck es).medium.message.entries
-  all_home = each_run deck (λ es (w : World). AllHome w.medium.message.entries) first_home (λ es e h. home_next es e h (every_run deck fits es))
+  all_home =
+      each_run deck (λ es (w : World). AllHome w.medium.message.entries) first_home
+      (λ es e h. home_next es e h (every_run deck fits es))

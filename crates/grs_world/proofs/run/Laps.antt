@@ -1,6 +1,7 @@
 -- A request comes back last: the message goes round in each world that a run reaches, so what an event gives a system
 -- of its own is left to it alone.
-use Rattle.std.proofs.Common.{ℕ, ◌≡◌, ◌<◌, not, Bool, true, false, cond, ◌&&◌, List, [], ◌∷◌, ◌++◌, length, Option, Some, None, refl, sym, ap, subst, arith, ◌∙◌}
+use Rattle.std.proofs.Common.{ℕ, ◌≡◌, ◌<◌, not, Bool, true, false, cond, ◌&&◌, List, [], ◌∷◌, ◌++◌, length, Option}
+use Rattle.std.proofs.Common.{Some, None, refl, sym, ap, subst, arith, ◌∙◌}
 use Rattle.std.specs.Prelude.{slice_get, take, nat_lt}
 use Rattle.std.proofs.lemmas.Bool.{and_parts, and_right, ltb-true}
 use Rattle.grs_base.specs.declared.resource.SysId.{SysId}
@@ -10,22 +11,26 @@ use Rattle.grs_wire.specs.declared.deck.Deck.{Deck}
 use Rattle.grs_wire.specs.declared.deck.Event.{Event}
 use Rattle.grs_wire.specs.declared.medium.Act.{Act}
 use Rattle.grs_wire.specs.declared.medium.Act.TheVariants.{Turn, Rest, Switch, Submit, Take, Settle, Tell, Leave, Purge}
-use Rattle.grs_wire.specs.declared.medium.Reply.TheVariants.{Turned, NotYours, Resting, Over, Already, InStar, Kept, Left, NoSuch, Purged}
+use Rattle.grs_wire.specs.declared.medium.Reply.TheVariants.{Turned, NotYours, Resting, Over, Already, InStar, Kept}
+use Rattle.grs_wire.specs.declared.medium.Reply.TheVariants.{Left, NoSuch, Purged}
 use Rattle.grs_wire.specs.declared.medium.RingBody.TheVariants.{Request}
 use Rattle.grs_wire.specs.declared.medium.RingEntry.{RingEntry}
 use Rattle.grs_wire.specs.declared.request.Req.{Req}
 use Rattle.grs_wire.proofs.WantLaws.{by_test}
-use Rattle.rsa_message.specs.Message.{Message, stands_at, opened, never_opened, turn_reply, turned, turned_open, turned_closed, any_unseen, closed_by, dropped, first_number}
+use Rattle.rsa_message.specs.Message.{Message, stands_at, opened, never_opened, turn_reply, turned, turned_open}
+use Rattle.rsa_message.specs.Message.{turned_closed, any_unseen, closed_by, dropped, first_number}
 use Rattle.grs_wire.specs.Unseen.{unseen}
 use Rattle.rsa_message.proofs.OrderLaws.{stands_at-exact}
 use Rattle.grs_medium.specs.Medium.{MediumState, first_medium, live, all_rest, medium_at_end, inbox, word}
-use Rattle.grs_medium.specs.Apply.{turn_row, resting, rest_row, row, is_live, leave_row, mail_row, purge_row, submit_on, submit_row, switch_ring, switch_row, take_from, take_row, without_system}
+use Rattle.grs_medium.specs.Apply.{turn_row, resting, rest_row, row, is_live, leave_row, mail_row, purge_row, submit_on}
+use Rattle.grs_medium.specs.Apply.{submit_row, switch_ring, switch_row, take_from, take_row, without_system}
 use Rattle.grs_node.specs.Node.{NodeState, prepare}
 use Rattle.grs_base.specs.Limits.{most_additions}
 use Rattle.grs_world.proofs.run.Each.{each_answer, each_run}
 use Rattle.grs_world.specs.Laps.{OnlyLeft, ComesBackLast, given_by, given_when, given_at, ProcessedLast}
 use Rattle.grs_world.specs.World.{World, first_world, placed, happens, run, Turnout}
-use Rattle.grs_world.proofs.message.LapsMessage.{Round, left_at_home, last_at_home, unseen_awaited, closed_round, closed_turn, dropped_round, none_unseen, open_round}
+use Rattle.grs_world.proofs.message.LapsMessage.{Round, left_at_home, last_at_home, unseen_awaited, closed_round}
+use Rattle.grs_world.proofs.message.LapsMessage.{closed_turn, dropped_round, none_unseen, open_round}
 use Rattle.grs_world.proofs.message.Stands.{has-live, has-others}
 use Rattle.grs_wire.specs.declared.medium.Mail.{Mail}
 use Rattle.grs_wire.specs.declared.medium.Reply.{Reply}
@@ -35,7 +40,8 @@ use Rattle.lock_structure.specs.declared.word.Route.{Route}
 use Rattle.lock_structure.specs.declared.word.Route.TheVariants as routes
 use Rattle.grs_node.specs.declared.prepared.Prepared.{Prepared}
 use Rattle.grs_node.specs.declared.prepared.Prepared.TheVariants.{Call, Nothing, Quiet}
-use Rattle.grs_world.proofs.run.InRing.{Came, IsRing, changed, each_came, each_in_star, informed, is_ring, live-there, no_such, nothing, removes_one, star-stays, turn, went_on}
+use Rattle.grs_world.proofs.run.InRing.{Came, IsRing, changed, each_came, each_in_star, informed, is_ring, live-there}
+use Rattle.grs_world.proofs.run.InRing.{no_such, nothing, removes_one, star-stays, turn, went_on}
 use Rattle.grs_world.proofs.run.Purges.{star_keeps}
 
 -- This holds of the medium in a run of so many systems.
@@ -80,57 +86,90 @@ begun deck = goes_at_start (length deck.systems) deck.entries deck.star
 
 -- ---- one event more
 -- A Turn at the closed message.
-pub turned_shut : (m : Message) (c : SysId) (out : List Req) (live rest : ℕ) → m.closed ≡ true → turned m c out live rest ≡ cond (stands_at m.holder c) (turned_closed m c) m
+pub turned_shut : (m : Message) (c : SysId) (out : List Req) (live rest : ℕ) → m.closed ≡ true
+    → turned m c out live rest ≡ cond (stands_at m.holder c) (turned_closed m c) m
 unfolding turned
-turned_shut m c out live rest shut = ap (λ b. cond (stands_at m.holder c) (cond b (turned_closed m c) (turned_open m c out live rest)) m) shut
+turned_shut m c out live rest shut =
+    ap (λ b. cond (stands_at m.holder c) (cond b (turned_closed m c) (turned_open m c out live rest)) m) shut
 
 -- what stays so of the message in star mode
 abbrev Stays : Message → ℕ → Message → Type 0
 Stays m live x = Round x live × (x.closed ≡ true) × (x.systems ≡ m.systems)
 
-shut_goes : (m : Message) (c : SysId) (out : List Req) (live rest : ℕ) → Round m live → m.closed ≡ true → Stays m live (turned m c out live rest)
+shut_goes : (m : Message) (c : SysId) (out : List Req) (live rest : ℕ) → Round m live → m.closed ≡ true
+    → Stays m live (turned m c out live rest)
 shut_goes m c out live rest round shut = subst (Stays m live) (sym (turned_shut m c out live rest shut))
-    (by_test (Stays m live) (stands_at m.holder c) (turned_closed m c) m (λ here. (closed_turn m c live round (stands_at-exact m.holder c here) shut, shut, refl)) (λ away. (round, shut, refl)))
+    (by_test (Stays m live) (stands_at m.holder c) (turned_closed m c) m
+    (λ here. (closed_turn m c live round (stands_at-exact m.holder c here) shut, shut, refl))
+    (λ away. (round, shut, refl)))
 
-star_goes : (deck : Deck) (w : World) (e : Event) → w.medium.star ≡ true → Goes (length deck.systems) w.medium → Goes (length deck.systems) (happens deck w e).medium
+star_goes : (deck : Deck) (w : World) (e : Event) → w.medium.star ≡ true → Goes (length deck.systems) w.medium
+    → Goes (length deck.systems) (happens deck w e).medium
 star_goes deck w e star g =
-    let all = each_in_star deck w e star (λ x b. Stays w.medium.message (live w.medium) x) (g.round, g.closed star, refl) (λ out. shut_goes w.medium.message e.system out (live w.medium) w.medium.rest g.round (g.closed star)) in
-    let same : live (happens deck w e).medium ≡ live w.medium = ap (λ i. others i (happens deck w e).medium.removed) all.2 ∙ ap (others w.medium.message.systems) (star_keeps deck w e star) in
-    record { round = subst (Round (happens deck w e).medium.message) (sym same) all.0; closed = λ z. all.1; around = all.2 ∙ g.around }
+    let all =
+    each_in_star deck w e star (λ x b. Stays w.medium.message (live w.medium) x) (g.round, g.closed star, refl)
+    (λ out. shut_goes w.medium.message e.system out (live w.medium) w.medium.rest g.round (g.closed star)) in
+    let same : live (happens deck w e).medium ≡ live w.medium =
+    ap (λ i. others i (happens deck w e).medium.removed) all.2
+    ∙ ap (others w.medium.message.systems) (star_keeps deck w e star) in
+    record {
+      round = subst (Round (happens deck w e).medium.message) (sym same) all.0;
+      closed = λ z. all.1;
+      around = all.2 ∙ g.around;
+    }
 
-ring_goes : (deck : Deck) (w : World) (e : Event) → IsRing deck w → Goes (length deck.systems) w.medium → Goes (length deck.systems) (happens deck w e).medium
+ring_goes : (deck : Deck) (w : World) (e : Event) → IsRing deck w → Goes (length deck.systems) w.medium
+    → Goes (length deck.systems) (happens deck w e).medium
 unfolding placed closed_by dropped
-ring_goes deck w e ring g = each_came deck w e (λ (x : World). Goes (length deck.systems) x.medium) ring (record { round = g.round; closed = g.closed; around = g.around }) (λ n o at alive came. by_case n o (live-there deck w ring e.system.0 n at alive) came)
+ring_goes deck w e ring g =
+    each_came deck w e (λ (x : World). Goes (length deck.systems) x.medium) ring
+    (record { round = g.round; closed = g.closed; around = g.around })
+    (λ n o at alive came. by_case n o (live-there deck w ring e.system.0 n at alive) came)
   where
     below : (u : ℕ) → has (live w.medium) u ≡ true → u < w.medium.message.systems
-    below u h = ltb-true u w.medium.message.systems (and_parts (nat_lt u w.medium.message.systems) (not (has w.medium.removed u)) (sym (has-live w.medium.message.systems w.medium.removed u) ∙ h)).0
+    below u h =
+        ltb-true u w.medium.message.systems (and_parts (nat_lt u w.medium.message.systems)
+        (not (has w.medium.removed u)) (sym (has-live w.medium.message.systems w.medium.removed u) ∙ h)).0
 
     -- a system is removed
-    without_one : (target : SysId) → is_live w.medium target ≡ true → Goes (length deck.systems) (without_system w.medium e.system target)
+    without_one : (target : SysId) → is_live w.medium target ≡ true
+        → Goes (length deck.systems) (without_system w.medium e.system target)
     without_one target lives =
         let n : ℕ = w.medium.message.systems in
         let now : ℕ = with_also w.medium.removed target.0 in
         record {
-          round = dropped_round w.medium.message e.system target (live w.medium) (others n now) g.round ring.unclosed (ltb-true target.0 n (and_parts (nat_lt target.0 n) (not (has w.medium.removed target.0)) lives).0)
-              (has-live n now target.0 ∙ and_right (nat_lt target.0 n) (not (has now target.0)) (ap not (has-with_same w.medium.removed target.0)))
-              (λ u ne. has-live n now u ∙ (ap (λ b. nat_lt u n && not b) (has-with_other w.medium.removed target.0 u ne) ∙ sym (has-live n w.medium.removed u)));
+          round =
+              dropped_round w.medium.message e.system target (live w.medium) (others n now) g.round ring.unclosed
+              (ltb-true target.0 n (and_parts (nat_lt target.0 n) (not (has w.medium.removed target.0)) lives).0)
+              (has-live n now target.0
+              ∙ and_right (nat_lt target.0 n) (not (has now target.0))
+              (ap not (has-with_same w.medium.removed target.0)))
+              (λ u ne.
+              has-live n now u
+              ∙ (ap (λ b. nat_lt u n && not b) (has-with_other w.medium.removed target.0 u ne)
+              ∙ sym (has-live n w.medium.removed u)));
           closed = λ z. absurd (let no : true ≡ false = sym z ∙ ring.mode in cc);
           around = g.around;
         }
 
-    by_case : (n : NodeState) (o : Turnout) → has (live w.medium) e.system.0 ≡ true → Came deck w e.system n o → Goes (length deck.systems) o.medium
+    by_case : (n : NodeState) (o : Turnout) → has (live w.medium) e.system.0 ≡ true → Came deck w e.system n o
+        → Goes (length deck.systems) o.medium
     by_case n o alive (nothing flags) = record { round = g.round; closed = g.closed; around = g.around }
     by_case n o alive (went_on t may) = g
     by_case n o alive informed = g
     by_case n o alive (no_such target next gone) = g
     by_case n o alive (removes_one target next there) = without_one target there
     by_case n o alive (turn flags here) = record {
-      round = open_round w.medium.message e.system (take most_additions n.outbox) (live w.medium) w.medium.rest g.round below alive (stands_at-exact w.medium.message.holder e.system here) ring.unclosed;
+      round =
+          open_round w.medium.message e.system (take most_additions n.outbox) (live w.medium) w.medium.rest g.round
+          below alive (stands_at-exact w.medium.message.holder e.system here) ring.unclosed;
       closed = λ z. absurd (let no : true ≡ false = sym z ∙ ring.mode in cc);
       around = g.around;
     }
     by_case n o alive (changed next idle) = record {
-      round = closed_round w.medium.message e.system (live w.medium) g.round (none_unseen e.system w.medium.message.entries idle);
+      round =
+          closed_round w.medium.message e.system (live w.medium) g.round
+          (none_unseen e.system w.medium.message.entries idle);
       closed = λ z. refl;
       around = g.around;
     }
@@ -138,17 +177,22 @@ ring_goes deck w e ring g = each_came deck w e (λ (x : World). Goes (length dec
 pub goes : (deck : Deck) → deck.star ≡ false → (es : List Event) → Goes (length deck.systems) (run deck es).medium
 goes deck h = each_run deck (λ es (w : World). Goes (length deck.systems) w.medium) (begun deck) step
   where
-    step : (es : List Event) (e : Event) → Goes (length deck.systems) (run deck es).medium → Goes (length deck.systems) (happens deck (run deck es) e).medium
+    step : (es : List Event) (e : Event) → Goes (length deck.systems) (run deck es).medium
+        → Goes (length deck.systems) (happens deck (run deck es) e).medium
     step es e g = go (run deck es).medium.star refl
       where
-        go : (b : Bool) → (run deck es).medium.star ≡ b → Goes (length deck.systems) (happens deck (run deck es) e).medium
+        go : (b : Bool) → (run deck es).medium.star ≡ b
+            → Goes (length deck.systems) (happens deck (run deck es) e).medium
         go true is = star_goes deck (run deck es) e is g
         go false is = ring_goes deck (run deck es) e (is_ring deck h es is) g
 
 -- So it is of a deck that begins in star mode, which stays in it.
-stays_star : (deck : Deck) → deck.star ≡ true → (es : List Event) → ((run deck es).medium.star ≡ true) × Goes (length deck.systems) (run deck es).medium
+stays_star : (deck : Deck) → deck.star ≡ true → (es : List Event)
+    → ((run deck es).medium.star ≡ true) × Goes (length deck.systems) (run deck es).medium
 unfolding first_world
-stays_star deck h = each_run deck (λ es w. (w.medium.star ≡ true) × Goes (length deck.systems) w.medium) (h, begun deck) (λ es e g. (star-stays deck (run deck es) e g.0, star_goes deck (run deck es) e g.0 g.1))
+stays_star deck h =
+    each_run deck (λ es w. (w.medium.star ≡ true) × Goes (length deck.systems) w.medium) (h, begun deck)
+    (λ es e g. (star-stays deck (run deck es) e g.0, star_goes deck (run deck es) e g.0 g.1))
 
 pub goes_on : (deck : Deck) (es : List Event) → Goes (length deck.systems) (run deck es).medium
 goes_on deck es = go deck.star refl
@@ -163,17 +207,25 @@ comes_back_last deck h es = last_at_home (run deck es).medium.message (live (run
 -- ---- what the next event gives
 -- Of these entries a system's own are left to it alone.
 abbrev Gives : SysId → List RingEntry → Type 0
-Gives s es = (before behind : List RingEntry) (entry : RingEntry) (q : Req) → es ≡ before ++ entry ∷ behind → entry.body ≡ Request q → entry.from ≡ s → OnlyLeft s entry
+Gives s es =
+    (before behind : List RingEntry) (entry : RingEntry) (q : Req) → es ≡ before ++ entry ∷ behind
+    → entry.body ≡ Request q → entry.from ≡ s → OnlyLeft s entry
 
 no_gift : (s : SysId) → Gives s []
 no_gift s [] behind entry q is body from = absurd cc
 no_gift s (x ∷ before) behind entry q is body from = absurd cc
 
-turn_gift : (m : MediumState) (s : SysId) (out : List Req) → Round m.message (live m) → Gives s (given_by (row m s (Turn out)).0)
+turn_gift : (m : MediumState) (s : SysId) (out : List Req) → Round m.message (live m)
+    → Gives s (given_by (row m s (Turn out)).0)
 unfolding row turn_row turn_reply
 turn_gift m s out round =
-    by_test (λ r. Gives s (given_by r)) (stands_at m.message.holder s) (Turned (unseen s m.message.entries) (cond m.message.closed 0 (length out)) m.message.closed) (NotYours m.message.holder)
-    (λ here before behind entry q is body from. left_at_home m.message.systems s (unseen s m.message.entries) before behind entry q (unseen_awaited m.message.systems s m.message.entries (round.awaited s (stands_at-exact m.message.holder s here))) is body from)
+    by_test (λ r. Gives s (given_by r)) (stands_at m.message.holder s)
+    (Turned (unseen s m.message.entries) (cond m.message.closed 0 (length out)) m.message.closed)
+    (NotYours m.message.holder)
+    (λ here before behind entry q is body from.
+    left_at_home m.message.systems s (unseen s m.message.entries) before behind entry q
+    (unseen_awaited m.message.systems s m.message.entries (round.awaited s (stands_at-exact m.message.holder s here)))
+    is body from)
     (λ away. no_gift s)
 
 -- No other call gives any.
@@ -182,7 +234,8 @@ unfolding row switch_row submit_row take_row mail_row leave_row leave_reply purg
 row_gift m s (Turn out) round = turn_gift m s out round
 row_gift m s (Switch words) round = go m.star (first_number (unseen s m.message.entries))
   where
-    go : (b : Bool) (o : Option ℕ) → Gives s (given_by (cond {A = Reply × MediumState} b (Already, m) (switch_ring m s words o)).0)
+    go : (b : Bool) (o : Option ℕ)
+        → Gives s (given_by (cond {A = Reply × MediumState} b (Already, m) (switch_ring m s words o)).0)
     go true o = no_gift s
     go false (Some first) = no_gift s
     go false None = no_gift s
@@ -198,19 +251,26 @@ row_gift m s Take round = go (inbox m s.0)
     go (mail ∷ ms) = no_gift s
 row_gift m s (Settle to mail) round = no_gift s
 row_gift m s (Tell to mail) round = no_gift s
-row_gift m s (Leave entry) round = by_test (λ r. Gives s (given_by r)) (is_kept (word m entry) s) (Kept (interest (word m entry))) Left (λ t. no_gift s) (λ t. no_gift s)
+row_gift m s (Leave entry) round =
+    by_test (λ r. Gives s (given_by r)) (is_kept (word m entry) s) (Kept (interest (word m entry))) Left
+    (λ t. no_gift s) (λ t. no_gift s)
 row_gift m s (Purge target) round = go m.star (is_live m target)
   where
-    go : (b d : Bool) → Gives s (given_by (cond {A = Reply × MediumState} b (InStar, m) (cond d (Purged, without_system m s target) (NoSuch, m))).0)
+    go : (b d : Bool)
+        → Gives s (given_by
+        (cond {A = Reply × MediumState} b (InStar, m) (cond d (Purged, without_system m s target) (NoSuch, m))).0)
     go true d = no_gift s
     go false true = no_gift s
     go false false = no_gift s
-row_gift m s Rest round = by_test (λ r. Gives s (given_by r)) (all_rest (resting m s) && medium_at_end (resting m s)) Over Resting (λ t. no_gift s) (λ t. no_gift s)
+row_gift m s Rest round =
+    by_test (λ r. Gives s (given_by r)) (all_rest (resting m s) && medium_at_end (resting m s)) Over Resting
+    (λ t. no_gift s) (λ t. no_gift s)
 
 prepared_gift : (m : MediumState) (s : SysId) (p : Prepared) → Round m.message (live m) → Gives s (given_when m s p)
 prepared_gift m s Nothing round = no_gift s
 prepared_gift m s Quiet round = no_gift s
-prepared_gift m s (Call call) round = each_answer m s call (λ a. Gives s (given_by a.0)) (no_gift s) (no_gift s) (row_gift m s call.act round)
+prepared_gift m s (Call call) round =
+    each_answer m s call (λ a. Gives s (given_by a.0)) (no_gift s) (no_gift s) (row_gift m s call.act round)
 
 pub processed_last : (deck : Deck) → deck.star ≡ false → (es : List Event) (e : Event) → ProcessedLast deck es e
 processed_last deck h es e = go (slice_get (run deck es).nodes e.system.0)

@@ -1,5 +1,6 @@
 -- Each told line is of an event, and of that event's system.
-use Rattle.std.proofs.Common.{◌≡◌, ◌+◌, ◌-◌, true, ℕ, List, [], ◌∷◌, ◌++◌, length, Option, Some, None, refl, ap, sym, ◌∙◌, subst, arith, length-append}
+use Rattle.std.proofs.Common.{◌≡◌, ◌+◌, ◌-◌, true, ℕ, List, [], ◌∷◌, ◌++◌, length, Option, Some, None, refl, ap, sym}
+use Rattle.std.proofs.Common.{◌∙◌, subst, arith, length-append}
 use Rattle.std.specs.Prelude.{slice_get, nat_lt}
 use Rattle.std.specs.List.{list_all}
 use Rattle.std.proofs.lemmas.Bool.{and_parts, eq-eqb, lt-ltb, and_from}
@@ -19,19 +20,26 @@ use Rattle.grs_world.proofs.run.Each.{each_event, each_run}
 of-longer : (es : List Event) (e : Event) (x : Told) → is_of_event es x ≡ true → is_of_event (es ++ e ∷ []) x ≡ true
 of-longer es e x h =
     let parts = and_parts (nat_lt 0 x.event) (is_event_of x.system (slice_get es (x.event - 1))) h in
-    and_from (nat_lt 0 x.event) (is_event_of x.system (slice_get (es ++ e ∷ []) (x.event - 1))) parts.0 (go (slice_get es (x.event - 1)) refl parts.1)
+    and_from (nat_lt 0 x.event) (is_event_of x.system (slice_get (es ++ e ∷ []) (x.event - 1))) parts.0
+    (go (slice_get es (x.event - 1)) refl parts.1)
   where
-    go : (o : Option Event) → slice_get es (x.event - 1) ≡ o → is_event_of x.system o ≡ true → is_event_of x.system (slice_get (es ++ e ∷ []) (x.event - 1)) ≡ true
+    go : (o : Option Event) → slice_get es (x.event - 1) ≡ o → is_event_of x.system o ≡ true
+        → is_event_of x.system (slice_get (es ++ e ∷ []) (x.event - 1)) ≡ true
     go None at f = absurd cc
-    go (Some y) at f = subst (λ o. is_event_of x.system o ≡ true) (sym (slice_get-append es (e ∷ []) (x.event - 1) y at)) f
+    go (Some y) at f =
+        subst (λ o. is_event_of x.system o ≡ true) (sym (slice_get-append es (e ∷ []) (x.event - 1) y at)) f
 
 -- The lines of the last event are of it.
-of-last : (es : List Event) (e : Event) (k : ℕ) (ls : List ToldLine) → k ≡ length es → list_all (is_of_event (es ++ e ∷ [])) (told_by (k + 1) e.system ls) ≡ true
+of-last : (es : List Event) (e : Event) (k : ℕ) (ls : List ToldLine) → k ≡ length es
+    → list_all (is_of_event (es ++ e ∷ [])) (told_by (k + 1) e.system ls) ≡ true
 of-last es e k [] count = refl
 of-last es e k (l ∷ ls) count =
     let place : k + 1 - 1 ≡ length es = omega (arith, count) in
-    let at : slice_get (es ++ e ∷ []) (k + 1 - 1) ≡ Some e = ap (slice_get (es ++ e ∷ [])) place ∙ slice_get-end es e [] in
-    and_from _ _ (and_from (nat_lt 0 (k + 1)) _ (lt-ltb 0 (k + 1) (omega arith)) (subst (λ o. is_event_of e.system o ≡ true) (sym at) (eq-eqb e.system.0 e.system.0 refl))) (of-last es e k ls count)
+    let at : slice_get (es ++ e ∷ []) (k + 1 - 1) ≡ Some e =
+    ap (slice_get (es ++ e ∷ [])) place ∙ slice_get-end es e [] in
+    and_from _ _ (and_from (nat_lt 0 (k + 1)) _ (lt-ltb 0 (k + 1) (omega arith))
+    (subst (λ o. is_event_of e.system o ≡ true) (sym at) (eq-eqb e.system.0 e.system.0 refl)))
+    (of-last es e k ls count)
 
 -- What holds of a run.
 record OfEvents (es : List Event) (w : World) : Type 0 where
@@ -41,7 +49,8 @@ record OfEvents (es : List Event) (w : World) : Type 0 where
 module _ (deck : Deck) where
   next : (es : List Event) (e : Event) (w : World) → OfEvents es w → OfEvents (es ++ e ∷ []) (happens deck w e)
   unfolding placed
-  next es e w g = each_event deck w e (OfEvents (es ++ e ∷ [])) idle (λ n at. went_on n (chosen deck w.medium e.system n e.choice))
+  next es e w g =
+      each_event deck w e (OfEvents (es ++ e ∷ [])) idle (λ n at. went_on n (chosen deck w.medium e.system n e.choice))
     where
       one_more : w.events + 1 ≡ length (es ++ e ∷ [])
       one_more = ap (λ k. k + 1) g.count ∙ sym (length-append es (e ∷ []))

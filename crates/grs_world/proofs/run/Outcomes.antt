@@ -1,5 +1,6 @@
 -- What an event of one system adds to the run, and where the system stands afterwards.
-use Rattle.std.proofs.Common.{◌≡◌, ℕ, List, [], ◌∷◌, ◌++◌, map, take, drop, refl, ap, sym, ◌∙◌, subst, append-nil, append_assoc, take-append-drop}
+use Rattle.std.proofs.Common.{◌≡◌, ℕ, List, [], ◌∷◌, ◌++◌, map, take, drop, refl, ap, sym, ◌∙◌, subst, append-nil}
+use Rattle.std.proofs.Common.{append_assoc, take-append-drop}
 use Rattle.std.specs.List.{list_all}
 use Rattle.std.proofs.lemmas.Bool.{eqb-true}
 use Rattle.grs_base.specs.declared.resource.SysId.{SysId}
@@ -22,7 +23,9 @@ use Rattle.grs_known.proofs.system.Says.{own_requests, ToldBy}
 
 -- What an event of a system comes to: what it fixed, of which this went with the message; where the system stands; and
 -- what was told.
-pub record Outcome (deck : Deck) (c : SysId) (P : List RunItem) (n : NodeState) (before' later' : List RunItem) (out : List Fixed) (step : Step) : Type 0 where
+pub record Outcome (deck : Deck) (c : SysId) (P : List RunItem) (n : NodeState) (before' later' : List RunItem)
+    (out : List Fixed) (step : Step) :
+    Type 0 where
   pub items : List RunItem
   pub new : List RunItem
   pub grows : Grows deck c P step.fixed items new
@@ -31,9 +34,11 @@ pub record Outcome (deck : Deck) (c : SysId) (P : List RunItem) (n : NodeState) 
   pub seen : Seen deck c.0 items before' later' (own_requests c.0 later') step.node
   pub news : ToldNews deck c.0 (history items) n.tasks.told step.node.tasks.told
 
-module _ (deck : Deck) (c : SysId) (P before later : List RunItem) (right : IsHistory deck P) (whole : rounds P ≡ before ++ later) (n : NodeState) where
+module _ (deck : Deck) (c : SysId) (P before later : List RunItem) (right : IsHistory deck P)
+    (whole : rounds P ≡ before ++ later) (n : NodeState) where
   -- a task goes on by itself
-  pub quiet_outcome : (step : Step) → QuietStep deck c.0 c P before later (own_requests c.0 later) n step → Outcome deck c P n before later [] step
+  pub quiet_outcome : (step : Step) → QuietStep deck c.0 c P before later (own_requests c.0 later) n step
+      → Outcome deck c P n before later [] step
   quiet_outcome step (keeps none seen told) = record {
     items = P;
     new = [];
@@ -46,7 +51,8 @@ module _ (deck : Deck) (c : SysId) (P before later : List RunItem) (right : IsHi
   quiet_outcome step (fixes q one home alone may seen told) =
       let x : RunItem = made_item c P (Asked q) in
       let nothing : rounds (x ∷ []) ≡ [] = filter-cons_left (λ z. goes_round z.fixed) x [] alone in
-      let grows : Grows deck c P (Asked q ∷ []) (P ++ x ∷ []) (rounds (x ∷ [])) = more [] P [] q same (eqb-true q.task.system.0 c.0 home) may in
+      let grows : Grows deck c P (Asked q ∷ []) (P ++ x ∷ []) (rounds (x ∷ [])) =
+      more [] P [] q same (eqb-true q.task.system.0 c.0 home) may in
       record {
         items = P ++ x ∷ [];
         new = rounds (x ∷ []);
@@ -58,7 +64,9 @@ module _ (deck : Deck) (c : SysId) (P before later : List RunItem) (right : IsHi
       }
 
   -- nothing happens to the system
-  pub still_outcome : (m : NodeState) → m.tasks.told ≡ n.tasks.told → Seen deck c.0 P before later (own_requests c.0 later) m → Outcome deck c P n before later [] (record { node = m; fixed = [] })
+  pub still_outcome : (m : NodeState) → m.tasks.told ≡ n.tasks.told
+      → Seen deck c.0 P before later (own_requests c.0 later) m
+      → Outcome deck c P n before later [] (record { node = m; fixed = [] })
   still_outcome m told seen = record {
     items = P;
     new = [];
@@ -70,9 +78,12 @@ module _ (deck : Deck) (c : SysId) (P before later : List RunItem) (right : IsHi
   }
 
   -- It has its Turn: its requests are put in, and then it processes what is due.
-  module _ (k : ℕ) (seen : Seen deck c.0 P before later (own_requests c.0 later) n) (es : List RingEntry) (given : Bodies (fixeds later) es) where
+  module _ (k : ℕ) (seen : Seen deck c.0 P before later (own_requests c.0 later) n) (es : List RingEntry)
+      (given : Bodies (fixeds later) es) where
     pub puts : PutIn deck c P before later right whole n (take k n.outbox)
-    puts = put-all deck c P before later right whole n seen (take k n.outbox) (drop k n.outbox) (sym (take-append-drop k n.outbox))
+    puts =
+        put-all deck c P before later right whole n seen (take k n.outbox) (drop k n.outbox)
+        (sym (take-append-drop k n.outbox))
 
     due : rounds puts.items ≡ before ++ (later ++ puts.new)
     due = grows-rounds puts.grows ∙ ap (λ zs. zs ++ puts.new) whole ∙ append_assoc before later puts.new
@@ -81,13 +92,24 @@ module _ (deck : Deck) (c : SysId) (P before later : List RunItem) (right : IsHi
     reads = reading deck c.0 puts.items (grows-history right puts.grows) puts.new later before n due puts.seen
 
     node_is : read_entries deck n es ≡ read_all n later
-    node_is = read-entries deck n later es (asks-behind deck before later (subst (AllAsk deck) whole (asks-rounds deck P right.asks))) (all-behind (λ x. goes_round x.fixed) before later (ap (list_all (λ x. goes_round x.fixed)) (sym whole) ∙ all-rounds P)) given
+    node_is =
+        read-entries deck n later es
+        (asks-behind deck before later (subst (AllAsk deck) whole (asks-rounds deck P right.asks)))
+        (all-behind (λ x. goes_round x.fixed) before later
+        (ap (list_all (λ x. goes_round x.fixed)) (sym whole) ∙ all-rounds P))
+        given
 
-    pub turn_told : ToldBy deck c.0 n.outbox (history puts.items) n.tasks.told (put_in (read_entries deck n es) k).node.tasks.told
-    turn_told = subst (λ (l : NodeState). ToldBy deck c.0 n.outbox (history puts.items) n.tasks.told (put_in l k).node.tasks.told) (sym node_is)
-        (subst (λ T. ToldBy deck c.0 n.outbox (history puts.items) n.tasks.told T) (sym (put_told (read_all n later) k)) reads.told)
+    pub turn_told :
+        ToldBy deck c.0 n.outbox (history puts.items) n.tasks.told (put_in (read_entries deck n es) k).node.tasks.told
+    turn_told =
+        subst (λ (l : NodeState).
+        ToldBy deck c.0 n.outbox (history puts.items) n.tasks.told (put_in l k).node.tasks.told)
+        (sym node_is)
+        (subst (λ T. ToldBy deck c.0 n.outbox (history puts.items) n.tasks.told T) (sym (put_told (read_all n later) k))
+        reads.told)
 
-    pub turn_outcome : Outcome deck c P n (rounds P) puts.new (map Asked (take k n.outbox)) (put_in (read_entries deck n es) k)
+    pub turn_outcome :
+        Outcome deck c P n (rounds P) puts.new (map Asked (take k n.outbox)) (put_in (read_entries deck n es) k)
     unfolding put_in
     turn_outcome =
         let m = read_all n later in
@@ -99,12 +121,20 @@ module _ (deck : Deck) (c : SysId) (P before later : List RunItem) (right : IsHi
           grows = subst (λ qs. Grows deck c P (map Asked qs) puts.items puts.new) (sym taken) puts.grows;
           message = puts.is;
           whole = grows-rounds puts.grows;
-          seen = subst (λ zs. Seen deck c.0 puts.items zs puts.new (own_requests c.0 puts.new) (put_in m k).node) (sym whole)
-              (subst (λ qs. Seen deck c.0 puts.items (before ++ later) puts.new qs (put_in m k).node) (taken ∙ sym puts.asked) (put deck c.0 puts.items (before ++ later) puts.new [] m k reads.seen));
-          news = told-news (subst (λ T. ToldBy deck c.0 n.outbox (history puts.items) n.tasks.told T) (sym (put_told m k)) reads.told);
+          seen =
+              subst (λ zs. Seen deck c.0 puts.items zs puts.new (own_requests c.0 puts.new) (put_in m k).node)
+              (sym whole)
+              (subst (λ qs. Seen deck c.0 puts.items (before ++ later) puts.new qs (put_in m k).node)
+              (taken ∙ sym puts.asked) (put deck c.0 puts.items (before ++ later) puts.new [] m k reads.seen));
+          news =
+              told-news (subst (λ T. ToldBy deck c.0 n.outbox (history puts.items) n.tasks.told T) (sym (put_told m k))
+              reads.told);
         })
 
 -- A system that processes all that is due has the table of all that went with the message.
-pub turn_table : (deck : Deck) (c : SysId) (P before later : List RunItem) → IsHistory deck P → rounds P ≡ before ++ later → (n : NodeState) → Seen deck c.0 P before later (own_requests c.0 later) n → (es : List RingEntry) → Bodies (fixeds later) es → (read_entries deck n es).shared ≡ lists (rounds P)
+pub turn_table : (deck : Deck) (c : SysId) (P before later : List RunItem) → IsHistory deck P
+    → rounds P ≡ before ++ later → (n : NodeState) → Seen deck c.0 P before later (own_requests c.0 later) n
+    → (es : List RingEntry) → Bodies (fixeds later) es → (read_entries deck n es).shared ≡ lists (rounds P)
 unfolding put_in
-turn_table deck c P before later right whole n seen es given = (turn_outcome deck c P before later right whole n 0 seen es given).seen.shared
+turn_table deck c P before later right whole n seen es given =
+    (turn_outcome deck c P before later right whole n 0 seen es given).seen.shared

@@ -1,5 +1,6 @@
 -- A system processes what the message gave it.
-use Rattle.std.proofs.Common.{◌≡◌, cond, Bool, true, false, ◌&&◌, ℕ, List, [], ◌∷◌, ◌++◌, Some, refl, ap, sym, ◌∙◌, subst, append-nil, append_assoc}
+use Rattle.std.proofs.Common.{◌≡◌, cond, Bool, true, false, ◌&&◌, ℕ, List, [], ◌∷◌, ◌++◌, Some, refl, ap, sym, ◌∙◌}
+use Rattle.std.proofs.Common.{subst, append-nil, append_assoc}
 use Rattle.std.specs.List.{list_all}
 use Rattle.std.proofs.lemmas.Bool.{and_parts}
 use Rattle.grs_base.specs.State.{is_systems}
@@ -14,7 +15,8 @@ use Rattle.grs_wire.specs.declared.request.Fixed.TheVariants.{Asked, LocalLook, 
 use Rattle.grs_wire.specs.declared.request.Req.{Req}
 use Rattle.ring_mode.specs.Ring.{Side, process, process_entry}
 use Rattle.grs_known.specs.Items.{RunItem, goes_round, rounds, history}
-use Rattle.grs_known.proofs.known.Histories.{IsAsk, AsksOrRemoves, an_ask, a_removal, AllAsk, IsHistory, goes-ask, asks-behind}
+use Rattle.grs_known.proofs.known.Histories.{IsAsk, AsksOrRemoves, an_ask, a_removal, AllAsk, IsHistory, goes-ask}
+use Rattle.grs_known.proofs.known.Histories.{asks-behind}
 use Rattle.grs_known.proofs.lists.Facts.{all-middle}
 use Rattle.grs_world.proofs.message.Stands.{Bodies, none, more, body_of}
 use Rattle.grs_world.proofs.run.Growing.{fixeds, asks-rounds}
@@ -36,7 +38,9 @@ abbrev pub read_all : NodeState → List RunItem → NodeState
 read_all n [] = n
 read_all n (x ∷ xs) = read_all (read_item n x.fixed) xs
 
-read-one : (deck : Deck) (n : NodeState) (x : RunItem) (a : IsAsk deck x) → is_systems a.res ≡ true → (e : RingEntry) (es : List RingEntry) → body_of x.fixed ≡ Some e.body → read_entries deck n (e ∷ es) ≡ read_entries deck (read_item n x.fixed) es
+read-one : (deck : Deck) (n : NodeState) (x : RunItem) (a : IsAsk deck x) → is_systems a.res ≡ true
+    → (e : RingEntry) (es : List RingEntry) → body_of x.fixed ≡ Some e.body
+    → read_entries deck n (e ∷ es) ≡ read_entries deck (read_item n x.fixed) es
 unfolding read_entries process_entry
 read-one deck n x a wide e es body =
     let q : Req = a.req in
@@ -52,20 +56,25 @@ read-one deck n x a wide e es body =
     some_body f = cc
 
 -- a removal
-read-away : (deck : Deck) (n : NodeState) (x : RunItem) (target : SysId) → x.fixed ≡ Purged target → (e : RingEntry) (es : List RingEntry) → body_of x.fixed ≡ Some e.body → read_entries deck n (e ∷ es) ≡ read_entries deck (read_item n x.fixed) es
+read-away : (deck : Deck) (n : NodeState) (x : RunItem) (target : SysId) → x.fixed ≡ Purged target
+    → (e : RingEntry) (es : List RingEntry) → body_of x.fixed ≡ Some e.body
+    → read_entries deck n (e ∷ es) ≡ read_entries deck (read_item n x.fixed) es
 unfolding read_entries
 read-away deck n x target purged e es body =
-    ap (λ b. read_entries deck (read_entry deck n b) es) (some_body (sym body ∙ ap body_of purged)) ∙ ap (λ f. read_entries deck (read_item n f) es) (sym purged)
+    ap (λ b. read_entries deck (read_entry deck n b) es) (some_body (sym body ∙ ap body_of purged))
+    ∙ ap (λ f. read_entries deck (read_item n f) es) (sym purged)
   where
     some_body : {b d : RingBody} → Some b ≡ Some d → b ≡ d
     some_body f = cc
 
-pub read-entries : (deck : Deck) (n : NodeState) (xs : List RunItem) (es : List RingEntry) → AllAsk deck xs → list_all (λ x. goes_round x.fixed) xs ≡ true → Bodies (fixeds xs) es → read_entries deck n es ≡ read_all n xs
+pub read-entries : (deck : Deck) (n : NodeState) (xs : List RunItem) (es : List RingEntry) → AllAsk deck xs
+    → list_all (λ x. goes_round x.fixed) xs ≡ true → Bodies (fixeds xs) es → read_entries deck n es ≡ read_all n xs
 unfolding read_entries
 read-entries deck n [] [] a round none = refl
 read-entries deck n [] (_ ∷ _) a round b = elim b [ ]
 read-entries deck n (x ∷ xs) [] a round b = elim b [ ]
-read-entries deck n (x ∷ xs) (e ∷ es) a round (more body b) = first a.0 ∙ read-entries deck (read_item n x.fixed) xs es a.1 (and_parts _ _ round).1 b
+read-entries deck n (x ∷ xs) (e ∷ es) a round (more body b) =
+    first a.0 ∙ read-entries deck (read_item n x.fixed) xs es a.1 (and_parts _ _ round).1 b
   where
     wide : (i : IsAsk deck x) → is_systems i.res ≡ true
     wide i = sym (goes-ask deck x i) ∙ (and_parts (goes_round x.fixed) (list_all (λ y. goes_round y.fixed) xs) round).0
@@ -79,7 +88,8 @@ pub all-rounds : (xs : List RunItem) → list_all (λ x. goes_round x.fixed) (ro
 all-rounds [] = refl
 all-rounds (x ∷ xs) = go (goes_round x.fixed) refl (all-rounds xs)
   where
-    go : (b : Bool) → goes_round x.fixed ≡ b → list_all (λ y. goes_round y.fixed) (rounds xs) ≡ true → list_all (λ y. goes_round y.fixed) (cond b (x ∷ rounds xs) (rounds xs)) ≡ true
+    go : (b : Bool) → goes_round x.fixed ≡ b → list_all (λ y. goes_round y.fixed) (rounds xs) ≡ true
+        → list_all (λ y. goes_round y.fixed) (cond b (x ∷ rounds xs) (rounds xs)) ≡ true
     go true e ih = ap (λ b. b && list_all (λ y. goes_round y.fixed) (rounds xs)) e ∙ ih
     go false e ih = ih
 
@@ -91,34 +101,56 @@ module _ (deck : Deck) (s : ℕ) (P : List RunItem) (right : IsHistory deck P) (
     pub told : ToldBy deck s n.outbox (history P) n.tasks.told m.tasks.told
     pub outbox : m.outbox ≡ n.outbox
 
-  pub reading : (later before : List RunItem) (n : NodeState) → rounds P ≡ before ++ (later ++ extra) → Seen deck s P before (later ++ extra) (own_requests s later) n → ReadTo (before ++ later) n (read_all n later)
-  reading [] before n whole seen = record { seen = subst (λ zs. Seen deck s P zs extra [] n) (sym (append-nil before)) seen; told = told.none; outbox = refl }
+  pub reading : (later before : List RunItem) (n : NodeState) → rounds P ≡ before ++ (later ++ extra)
+      → Seen deck s P before (later ++ extra) (own_requests s later) n → ReadTo (before ++ later) n (read_all n later)
+  reading [] before n whole seen = record {
+    seen = subst (λ zs. Seen deck s P zs extra [] n) (sym (append-nil before)) seen;
+    told = told.none;
+    outbox = refl;
+  }
   reading (x ∷ later) before n whole seen =
-      let rest : rounds P ≡ (before ++ x ∷ []) ++ (later ++ extra) = whole ∙ sym (append_assoc before (x ∷ []) (later ++ extra)) in
-      by_item (λ m now. reading later (before ++ x ∷ []) m rest now) (asks-behind deck before (x ∷ later ++ extra) (subst (AllAsk deck) whole (asks-rounds deck P right.asks))).0
+      let rest : rounds P ≡ (before ++ x ∷ []) ++ (later ++ extra) =
+      whole ∙ sym (append_assoc before (x ∷ []) (later ++ extra)) in
+      by_item (λ m now. reading later (before ++ x ∷ []) m rest now)
+      (asks-behind deck before (x ∷ later ++ extra) (subst (AllAsk deck) whole (asks-rounds deck P right.asks))).0
     where
       out : List Req
       out = own_requests s later
 
       -- how what is left is processed
       More : Type 0
-      More = (m : NodeState) → Seen deck s P (before ++ x ∷ []) (later ++ extra) (own_requests s later) m → ReadTo ((before ++ x ∷ []) ++ later) m (read_all m later)
+      More =
+          (m : NodeState) → Seen deck s P (before ++ x ∷ []) (later ++ extra) (own_requests s later) m
+          → ReadTo ((before ++ x ∷ []) ++ later) m (read_all m later)
 
-      then : More → (m : NodeState) → Seen deck s P (before ++ x ∷ []) (later ++ extra) (own_requests s later) m → ToldBy deck s n.outbox (history P) n.tasks.told m.tasks.told → m.outbox ≡ n.outbox → ReadTo (before ++ x ∷ later) n (read_all m later)
+      then : More → (m : NodeState) → Seen deck s P (before ++ x ∷ []) (later ++ extra) (own_requests s later) m
+          → ToldBy deck s n.outbox (history P) n.tasks.told m.tasks.told → m.outbox ≡ n.outbox
+          → ReadTo (before ++ x ∷ later) n (read_all m later)
       then goes m now told box =
           let on = goes m now in
           record {
-            seen = subst (λ zs. Seen deck s P zs extra [] (read_all m later)) (append_assoc before (x ∷ []) later) on.seen;
-            told = told-then told (subst (λ qs. ToldBy deck s qs (history P) m.tasks.told (read_all m later).tasks.told) box on.told);
+            seen =
+                subst (λ zs. Seen deck s P zs extra [] (read_all m later)) (append_assoc before (x ∷ []) later) on.seen;
+            told =
+                told-then told
+                (subst (λ qs. ToldBy deck s qs (history P) m.tasks.told (read_all m later).tasks.told) box on.told);
             outbox = on.outbox ∙ box;
           }
 
       by_item : More → AsksOrRemoves deck x → ReadTo (before ++ x ∷ later) n (read_all (read_item n x.fixed) later)
       by_item goes (an_ask a) =
-          let round : goes_round x.fixed ≡ true = all-middle (λ y. goes_round y.fixed) before x (later ++ extra) (ap (list_all (λ y. goes_round y.fixed)) (sym whole) ∙ all-rounds P) in
+          let round : goes_round x.fixed ≡ true =
+          all-middle (λ y. goes_round y.fixed) before x (later ++ extra)
+          (ap (list_all (λ y. goes_round y.fixed)) (sym whole) ∙ all-rounds P) in
           let reads : Reads deck s P before x (later ++ extra) out n a.req =
-          read deck s P before right x (later ++ extra) whole n out a (sym (goes-ask deck x a) ∙ round) (subst (λ f. Seen deck s P before (x ∷ later ++ extra) (own_asked s f ++ out) n) a.asked seen) in
-          subst (λ f. ReadTo (before ++ x ∷ later) n (read_all (read_item n f) later)) (sym a.asked) (then goes (after_read n a.req) reads.seen (told-fewer (λ t. among-back t out n.outbox) reads.told) refl)
+          read deck s P before right x (later ++ extra) whole n out a (sym (goes-ask deck x a) ∙ round)
+          (subst (λ f. Seen deck s P before (x ∷ later ++ extra) (own_asked s f ++ out) n) a.asked seen) in
+          subst (λ f. ReadTo (before ++ x ∷ later) n (read_all (read_item n f) later)) (sym a.asked)
+          (then goes (after_read n a.req) reads.seen (told-fewer (λ t. among-back t out n.outbox) reads.told) refl)
       by_item goes (a_removal target purged) =
-          let frees : Frees deck s P before x (later ++ extra) out n target = read-removal deck s P before right x (later ++ extra) whole n out target purged (subst (λ f. Seen deck s P before (x ∷ later ++ extra) (own_asked s f ++ out) n) purged seen) in
-          subst (λ f. ReadTo (before ++ x ∷ later) n (read_all (read_item n f) later)) (sym purged) (then goes (process_removal n target) frees.seen (told-fewer (λ t. among-back t out n.outbox) frees.told) refl)
+          let frees : Frees deck s P before x (later ++ extra) out n target =
+          read-removal deck s P before right x (later ++ extra) whole n out target purged
+          (subst (λ f. Seen deck s P before (x ∷ later ++ extra) (own_asked s f ++ out) n) purged seen) in
+          subst (λ f. ReadTo (before ++ x ∷ later) n (read_all (read_item n f) later)) (sym purged)
+          (then goes (process_removal n target) frees.seen (told-fewer (λ t. among-back t out n.outbox) frees.told)
+          refl)

@@ -1,5 +1,7 @@
 -- Who is removed in a run is who was removed by what was fixed, and each removal is told by the event that fixes it.
-use Rattle.std.proofs.Common.{◌≡◌, ◌+◌, ◌-◌, ℕ, zero, suc, Bool, true, false, ◌&&◌, ◌||◌, List, [], ◌∷◌, ◌++◌, length, take, drop, Option, Some, None, refl, ap, sym, ◌∙◌, subst, arith, length-append, take-append-drop}
+use Rattle.std.proofs.Common.{◌≡◌, ◌+◌, ◌-◌, ℕ, zero, suc, Bool, true, false, ◌&&◌, ◌||◌, List, [], ◌∷◌, ◌++◌, length}
+use Rattle.std.proofs.Common.{take, drop, Option, Some, None, refl, ap, sym, ◌∙◌, subst, arith, length-append}
+use Rattle.std.proofs.Common.{take-append-drop}
 use Rattle.std.specs.Prelude.{◌==◌, slice_get}
 use Rattle.std.specs.List.{list_any}
 use Rattle.std.proofs.Math.Bool.{or-false}
@@ -14,7 +16,8 @@ use Rattle.grs_base.specs.declared.resource.TaskId.{TaskId}
 use Rattle.grs_medium.specs.Apply.{without_system}
 use Rattle.grs_node.specs.Log.{told_in}
 use Rattle.grs_node.specs.Node.{NodeState, next_order, purged}
-use Rattle.grs_wire.specs.History.{removes, look_entries, entries_for, fixed_entries, after_fixed, answered_from, answered}
+use Rattle.grs_wire.specs.History.{removes, look_entries, entries_for, fixed_entries, after_fixed, answered_from}
+use Rattle.grs_wire.specs.History.{answered}
 use Rattle.grs_wire.specs.Masks.{has, with_also}
 use Rattle.grs_wire.specs.declared.deck.Choice.TheVariants as choices
 use Rattle.grs_wire.specs.declared.deck.Deck.{Deck}
@@ -31,7 +34,8 @@ use Rattle.grs_wire.proofs.MaskLaws.{has-zero, has-with_same, has-with_other}
 use Rattle.grs_known.proofs.lists.Truths.{false_by, no_truth}
 use Rattle.grs_world.specs.Agree.{is_purge, purges, is_removal, is_vary, order_of, fixed_in, RemovalsTold}
 use Rattle.grs_world.specs.Removing.{RemovedAreInHistory}
-use Rattle.grs_world.specs.World.{World, Turnout, chosen, placed, first_world, fixed_by, told_by, happens, run_from, run}
+use Rattle.grs_world.specs.World.{World, Turnout, chosen, placed, first_world, fixed_by, told_by, happens, run_from}
+use Rattle.grs_world.specs.World.{run}
 use Rattle.grs_world.proofs.run.Desks.{order-is}
 use Rattle.grs_world.proofs.run.Each.{each_event, each_live, each_run, run-push}
 use Rattle.grs_world.proofs.run.Purges.{Removes, RemovesNone, nobody, one, what_removes}
@@ -42,7 +46,8 @@ use Rattle.grs_world.proofs.system.Desks.{desk-told}
 abbrev pub takes_out : SysId → List (SysId × Fixed) → Bool
 takes_out s fs = list_any (λ x. is_purge s x.1) fs
 
-looks-keep : (st : State) (t : TaskId) (first count : ℕ) (f : Filter) (s : SysId) → list_any (removes s) (look_entries st t first count f) ≡ false
+looks-keep : (st : State) (t : TaskId) (first count : ℕ) (f : Filter) (s : SysId)
+    → list_any (removes s) (look_entries st t first count f) ≡ false
 looks-keep st t first zero f s = refl
 looks-keep st t first (suc count) f s = looks-keep st t (suc first) count f s
 
@@ -52,12 +57,14 @@ asked-keep st t (wants.Deq r have) s = refl
 asked-keep st t (wants.Release r) s = refl
 asked-keep st t (wants.Look first count f) s = looks-keep st t first count f s
 
-one-removes : (st : State) (by : SysId) (f : Fixed) (s : SysId) → list_any (removes s) (fixed_entries st by f) ≡ is_purge s f
+one-removes : (st : State) (by : SysId) (f : Fixed) (s : SysId)
+    → list_any (removes s) (fixed_entries st by f) ≡ is_purge s f
 one-removes st by (Asked q) s = asked-keep st q.task q.want s
 one-removes st by (LocalLook t f) s = refl
 one-removes st by (Purged target) s = or-false (s.0 == target.0)
 
-from-fixed : (st : State) (fs : List (SysId × Fixed)) (s : SysId) → list_any (removes s) (answered_from st fs) ≡ takes_out s fs
+from-fixed : (st : State) (fs : List (SysId × Fixed)) (s : SysId)
+    → list_any (removes s) (answered_from st fs) ≡ takes_out s fs
 from-fixed st [] s = refl
 from-fixed st (f ∷ fs) s =
     list_any-append (removes s) (fixed_entries st f.0 f.1) (answered_from (after_fixed st f.1) fs)
@@ -78,26 +85,48 @@ AreTakenOut w = (s : SysId) → has w.medium.removed s.0 ≡ takes_out s w.fixed
 module _ (deck : Deck) where
   taken_next : (w : World) (e : Event) → AreTakenOut w → AreTakenOut (happens deck w e)
   unfolding placed purged
-  taken_next w e g = each_event deck w e AreTakenOut g (λ n at. by_event n (what_removes deck w.medium e.system n e.choice))
+  taken_next w e g =
+      each_event deck w e AreTakenOut g (λ n at. by_event n (what_removes deck w.medium e.system n e.choice))
     where
-      grown : (o : Turnout) (s : SysId) → takes_out s (w.fixed ++ fixed_by e.system o.step.fixed) ≡ (takes_out s w.fixed || list_any (is_purge s) o.step.fixed)
-      grown o s = list_any-append (λ (x : SysId × Fixed). is_purge s x.1) w.fixed (fixed_by e.system o.step.fixed) ∙ ap (λ b. takes_out s w.fixed || b) (by-system s e.system o.step.fixed)
+      grown : (o : Turnout) (s : SysId)
+          → takes_out s (w.fixed ++ fixed_by e.system o.step.fixed)
+          ≡ (takes_out s w.fixed || list_any (is_purge s) o.step.fixed)
+      grown o s =
+          list_any-append (λ (x : SysId × Fixed). is_purge s x.1) w.fixed (fixed_by e.system o.step.fixed)
+          ∙ ap (λ b. takes_out s w.fixed || b) (by-system s e.system o.step.fixed)
 
-      same : (o : Turnout) → o.medium.removed ≡ w.medium.removed → RemovesNone o.step.fixed → (n : NodeState) → AreTakenOut (placed w e.system n o)
-      same o kept none n s = ap (λ i. has i s.0) kept ∙ (g s ∙ sym (grown o s ∙ (ap (λ b. takes_out s w.fixed || b) (none s) ∙ or-false (takes_out s w.fixed))))
+      same : (o : Turnout) → o.medium.removed ≡ w.medium.removed → RemovesNone o.step.fixed → (n : NodeState)
+          → AreTakenOut (placed w e.system n o)
+      same o kept none n s =
+          ap (λ i. has i s.0) kept
+          ∙ (g s ∙ sym (grown o s ∙ (ap (λ b. takes_out s w.fixed || b) (none s) ∙ or-false (takes_out s w.fixed))))
 
       -- one more
-      with_one : (target : SysId) (s : SysId) (b : Bool) → (s.0 == target.0) ≡ b → has (with_also w.medium.removed target.0) s.0 ≡ (takes_out s w.fixed || (b || false))
-      with_one target s true is = ap (has (with_also w.medium.removed target.0)) (eqb-true s.0 target.0 is) ∙ (has-with_same w.medium.removed target.0 ∙ sym (or_right (takes_out s w.fixed) true refl))
-      with_one target s false is = has-with_other w.medium.removed target.0 s.0 (eqb-false s.0 target.0 is) ∙ (g s ∙ sym (or-false (takes_out s w.fixed)))
+      with_one : (target : SysId) (s : SysId) (b : Bool) → (s.0 == target.0) ≡ b
+          → has (with_also w.medium.removed target.0) s.0 ≡ (takes_out s w.fixed || (b || false))
+      with_one target s true is =
+          ap (has (with_also w.medium.removed target.0)) (eqb-true s.0 target.0 is)
+          ∙ (has-with_same w.medium.removed target.0 ∙ sym (or_right (takes_out s w.fixed) true refl))
+      with_one target s false is =
+          has-with_other w.medium.removed target.0 s.0 (eqb-false s.0 target.0 is)
+          ∙ (g s ∙ sym (or-false (takes_out s w.fixed)))
 
-      removal : (n : NodeState) (target : SysId) → AreTakenOut (placed w e.system n (record { medium = without_system w.medium e.system target; step = purged n (choices.Purge target) }))
+      removal : (n : NodeState) (target : SysId)
+          → AreTakenOut (placed w e.system n
+          (record { medium = without_system w.medium e.system target; step = purged n (choices.Purge target) }))
       removal n target s =
-          with_one target s (s.0 == target.0) refl ∙ sym (grown (record { medium = without_system w.medium e.system target; step = purged n (choices.Purge target) }) s)
+          with_one target s (s.0 == target.0) refl
+          ∙ sym (grown (record {
+            medium = without_system w.medium e.system target;
+            step = purged n (choices.Purge target);
+          })
+          s)
 
-      by_event : (n : NodeState) → Removes deck w.medium e.system n e.choice (chosen deck w.medium e.system n e.choice) → AreTakenOut (placed w e.system n (chosen deck w.medium e.system n e.choice))
+      by_event : (n : NodeState) → Removes deck w.medium e.system n e.choice (chosen deck w.medium e.system n e.choice)
+          → AreTakenOut (placed w e.system n (chosen deck w.medium e.system n e.choice))
       by_event n (nobody kept none) = same (chosen deck w.medium e.system n e.choice) kept none n
-      by_event n (one target choice next lives ring is) = subst (λ (o : Turnout). AreTakenOut (placed w e.system n o)) (sym is) (removal n target)
+      by_event n (one target choice next lives ring is) =
+          subst (λ (o : Turnout). AreTakenOut (placed w e.system n o)) (sym is) (removal n target)
 
   taken_first : AreTakenOut (first_world deck)
   unfolding first_world
@@ -115,7 +144,8 @@ dropped-all [] = refl
 dropped-all (x ∷ xs) = dropped-all xs
 
 -- the first elements, and one more, if there is one
-take-more : (es : List Event) (k : ℕ) (e : Event) → slice_get es k ≡ Some e → (take (suc k) es ≡ take k es ++ e ∷ []) × (length (take k es) ≡ k)
+take-more : (es : List Event) (k : ℕ) (e : Event) → slice_get es k ≡ Some e
+    → (take (suc k) es ≡ take k es ++ e ∷ []) × (length (take k es) ≡ k)
 take-more [] k e at = absurd (cc)
 take-more (x ∷ es) zero e at = (ap (λ z. z ∷ []) (same_Some x e at), refl)
 take-more (x ∷ es) (suc k) e at = let more = take-more es k e at in (ap (λ ys. x ∷ ys) more.0, ap suc more.1)
@@ -130,88 +160,136 @@ module _ (deck : Deck) where
   counted_events : (es : List Event) → (run deck es).events ≡ length es
   unfolding placed first_world
   counted_events es = each_run deck (λ us w. w.events ≡ length us) refl
-      (λ us e g. each_event deck (run deck us) e (λ w. w.events ≡ length (us ++ e ∷ [])) (ap (λ k. k + 1) g ∙ sym (length-append us (e ∷ []))) (λ n at. ap (λ k. k + 1) g ∙ sym (length-append us (e ∷ [])))) es
+      (λ us e g.
+      each_event deck (run deck us) e (λ w. w.events ≡ length (us ++ e ∷ []))
+      (ap (λ k. k + 1) g ∙ sym (length-append us (e ∷ [])))
+      (λ n at. ap (λ k. k + 1) g ∙ sym (length-append us (e ∷ []))))
+      es
 
   -- what was told stays, whatever events come
   run-behind : (w : World) (xs ys : List Event) → run_from deck w (xs ++ ys) ≡ run_from deck (run_from deck w xs) ys
   run-behind w [] ys = refl
   run-behind w (x ∷ xs) ys = run-behind (happens deck w x) xs ys
 
-  told-stays : (p : Told → Bool) (w : World) (es : List Event) → list_any p w.told ≡ true → list_any p (run_from deck w es).told ≡ true
+  told-stays : (p : Told → Bool) (w : World) (es : List Event) → list_any p w.told ≡ true
+      → list_any p (run_from deck w es).told ≡ true
   unfolding placed
   told-stays p w [] h = h
   told-stays p w (e ∷ es) h = told-stays p (happens deck w e) es (each_event deck w e (λ x. list_any p x.told ≡ true) h
       (λ n at. list_any-append p w.told _ ∙ or_left (list_any p w.told) _ h))
 
   purges-none : (s target c : SysId) (fs : List Fixed) → RemovesNone fs → purges s target (fixed_by c fs) ≡ false
-  purges-none s target c fs none = false_by (purges s target (fixed_by c fs)) (λ h. no_truth (list_any (is_purge target) fs) (among fs h) (none target))
+  purges-none s target c fs none =
+      false_by (purges s target (fixed_by c fs))
+      (λ h. no_truth (list_any (is_purge target) fs) (among fs h) (none target))
     where
       among : (gs : List Fixed) → purges s target (fixed_by c gs) ≡ true → list_any (is_purge target) gs ≡ true
       among [] h = h
       among (g ∷ gs) h = go (is_purge target g) (c.0 == s.0) h (among gs)
         where
-          go : (b d : Bool) → ((d && b) || purges s target (fixed_by c gs)) ≡ true → (purges s target (fixed_by c gs) ≡ true → list_any (is_purge target) gs ≡ true) → (b || list_any (is_purge target) gs) ≡ true
+          go : (b d : Bool) → ((d && b) || purges s target (fixed_by c gs)) ≡ true
+              → (purges s target (fixed_by c gs) ≡ true → list_any (is_purge target) gs ≡ true)
+              → (b || list_any (is_purge target) gs) ≡ true
           go true d k more = refl
           go false true k more = more k
           go false false k more = more k
 
   -- a system shows its number where it is live
   abbrev pub AreHome : List Event → Type 0
-  AreHome es = (s : ℕ) (n : NodeState) → slice_get (run deck es).nodes s ≡ Some n → has (run deck es).medium.removed s ≡ false → n.tasks.system ≡ s
+  AreHome es =
+      (s : ℕ) (n : NodeState) → slice_get (run deck es).nodes s ≡ Some n → has (run deck es).medium.removed s ≡ false
+      → n.tasks.system ≡ s
 
   module _ (vs : List Event) (e : Event) (home : AreHome vs) (s target : SysId) where
     abbrev w : World
     w = run deck vs
 
     abbrev Told_in : World → Type 0
-    Told_in x = purges s target (drop (length (run deck vs).fixed) x.fixed) ≡ true → list_any (is_removal deck (length vs + 1) s target) x.told ≡ true
+    Told_in x =
+        purges s target (drop (length (run deck vs).fixed) x.fixed) ≡ true
+        → list_any (is_removal deck (length vs + 1) s target) x.told ≡ true
 
     -- the event removed a system
-    removal_told : (n : NodeState) (named : SysId) → slice_get w.nodes e.system.0 ≡ Some n → has w.medium.removed e.system.0 ≡ false → next_order deck n ≡ Some (orders.Vary named) →
-        Told_in (placed w e.system n (record { medium = without_system w.medium e.system named; step = purged n (choices.Purge named) }))
+    removal_told : (n : NodeState) (named : SysId) → slice_get w.nodes e.system.0 ≡ Some n
+        → has w.medium.removed e.system.0 ≡ false → next_order deck n ≡ Some (orders.Vary named) →
+        Told_in (placed w e.system n
+        (record { medium = without_system w.medium e.system named; step = purged n (choices.Purge named) }))
     unfolding placed purged
     removal_told n named at alive next h =
         let c : SysId = e.system in
-        let parts = and_parts (c.0 == s.0) (target.0 == named.0) (sym (or-false ((c.0 == s.0) && (target.0 == named.0))) ∙ (ap (purges s target) (sym (drop-append_seam w.fixed (fixed_by c (Purged named ∷ [])))) ∙ h)) in
+        let parts =
+        and_parts (c.0 == s.0) (target.0 == named.0) (sym (or-false ((c.0 == s.0) && (target.0 == named.0)))
+        ∙ (ap (purges s target) (sym (drop-append_seam w.fixed (fixed_by c (Purged named ∷ [])))) ∙ h)) in
         let same : c ≡ s = ap (λ (k : ℕ). let z : SysId = record { 0 = k } in z) (eqb-true c.0 s.0 parts.0) in
-        let order = ap (λ (z : SysId). order_of deck z (n.done + 1)) (sym same) ∙ order-is deck c n (orders.Vary named) (home c.0 n at alive) next in
-        let number : (w.events + 1 == length vs + 1) ≡ true = eq-eqb (w.events + 1) (length vs + 1) (ap (λ k. k + 1) (counted_events vs)) in
+        let order =
+        ap (λ (z : SysId). order_of deck z (n.done + 1)) (sym same)
+        ∙ order-is deck c n (orders.Vary named) (home c.0 n at alive) next in
+        let number : (w.events + 1 == length vs + 1) ≡ true =
+        eq-eqb (w.events + 1) (length vs + 1) (ap (λ k. k + 1) (counted_events vs)) in
         let line : Told = record { event = w.events + 1; system = c; line = lines.Desk (n.done + 1) saids.VaryDone } in
         let told_is : told_by (w.events + 1) c (told_in n (purged n (choices.Purge named))) ≡ line ∷ [] =
-        ap (λ ls. told_by (w.events + 1) c (drop (length n.tasks.told) ls)) (desk-told n saids.VaryDone) ∙ ap (told_by (w.events + 1) c) (drop-append_seam n.tasks.told (lines.Desk (n.done + 1) saids.VaryDone ∷ [])) in
-        let here : is_removal deck (length vs + 1) s target line ≡ true = and_from _ _ number (and_from _ _ parts.0 (ap (is_vary target) order ∙ parts.1)) in
-        list_any-append (is_removal deck (length vs + 1) s target) w.told (told_by (w.events + 1) c (told_in n (purged n (choices.Purge named))))
-        ∙ or_right (list_any (is_removal deck (length vs + 1) s target) w.told) _ (ap (list_any (is_removal deck (length vs + 1) s target)) told_is ∙ or_left _ false here)
+        ap (λ ls. told_by (w.events + 1) c (drop (length n.tasks.told) ls)) (desk-told n saids.VaryDone)
+        ∙ ap (told_by (w.events + 1) c) (drop-append_seam n.tasks.told (lines.Desk (n.done + 1) saids.VaryDone ∷ [])) in
+        let here : is_removal deck (length vs + 1) s target line ≡ true =
+        and_from _ _ number (and_from _ _ parts.0 (ap (is_vary target) order ∙ parts.1)) in
+        list_any-append (is_removal deck (length vs + 1) s target) w.told
+        (told_by (w.events + 1) c (told_in n (purged n (choices.Purge named))))
+        ∙ or_right (list_any (is_removal deck (length vs + 1) s target) w.told) _
+        (ap (list_any (is_removal deck (length vs + 1) s target)) told_is ∙ or_left _ false here)
 
-    by_event : (n : NodeState) → slice_get w.nodes e.system.0 ≡ Some n → has w.medium.removed e.system.0 ≡ false → (o : Turnout) → Removes deck w.medium e.system n e.choice o → Told_in (placed w e.system n o)
+    by_event : (n : NodeState) → slice_get w.nodes e.system.0 ≡ Some n → has w.medium.removed e.system.0 ≡ false
+        → (o : Turnout) → Removes deck w.medium e.system n e.choice o → Told_in (placed w e.system n o)
     unfolding placed
     by_event n at alive o (nobody kept none) h =
-        no_truth (purges s target (fixed_by e.system o.step.fixed)) (ap (purges s target) (sym (drop-append_seam w.fixed (fixed_by e.system o.step.fixed))) ∙ h) (purges-none s target e.system o.step.fixed none)
-    by_event n at alive o (one named choice next lives ring is) h = subst (λ (x : Turnout). Told_in (placed w e.system n x)) (sym is) (removal_told n named at alive next) h
+        no_truth (purges s target (fixed_by e.system o.step.fixed))
+        (ap (purges s target) (sym (drop-append_seam w.fixed (fixed_by e.system o.step.fixed))) ∙ h)
+        (purges-none s target e.system o.step.fixed none)
+    by_event n at alive o (one named choice next lives ring is) h =
+        subst (λ (x : Turnout). Told_in (placed w e.system n x)) (sym is) (removal_told n named at alive next) h
 
     told_by_event : Told_in (run deck (vs ++ e ∷ []))
     told_by_event = subst Told_in (sym (run-push deck vs (first_world deck) e))
-        (each_live deck w e Told_in (λ h. absurd (let none : false ≡ true = ap (purges s target) (sym (dropped-all w.fixed)) ∙ h in cc)) (λ n at alive. by_event n at alive (chosen deck w.medium e.system n e.choice) (what_removes deck w.medium e.system n e.choice)))
+        (each_live deck w e Told_in
+        (λ h. absurd (let none : false ≡ true = ap (purges s target) (sym (dropped-all w.fixed)) ∙ h in cc))
+        (λ n at alive.
+        by_event n at alive (chosen deck w.medium e.system n e.choice)
+        (what_removes deck w.medium e.system n e.choice)))
 
-  pub removals_told : ((vs : List Event) → AreHome vs) → (es : List Event) (e : ℕ) → RemovalsTold deck e (fixed_in deck es e) (run deck es).told
-  removals_told home es zero s target h = absurd (let none : false ≡ true = ap (purges s target) (sym (dropped-all (run deck []).fixed)) ∙ h in cc)
+  pub removals_told : ((vs : List Event) → AreHome vs) → (es : List Event) (e : ℕ)
+      → RemovalsTold deck e (fixed_in deck es e) (run deck es).told
+  removals_told home es zero s target h =
+      absurd (let none : false ≡ true = ap (purges s target) (sym (dropped-all (run deck []).fixed)) ∙ h in cc)
   removals_told home es (suc k) s target h = go (slice_get es k) refl
     where
       less : suc k - 1 ≡ k
       less = omega arith
 
       now : purges s target (drop (length (run deck (take k es)).fixed) (run deck (take (suc k) es)).fixed) ≡ true
-      now = ap (λ i. purges s target (drop (length (run deck (take i es)).fixed) (run deck (take (suc k) es)).fixed)) (sym less) ∙ h
+      now =
+          ap (λ i. purges s target (drop (length (run deck (take i es)).fixed) (run deck (take (suc k) es)).fixed))
+          (sym less)
+          ∙ h
 
-      go : (o : Option Event) → slice_get es k ≡ o → list_any (is_removal deck (suc k) s target) (run deck es).told ≡ true
-      go None at = absurd (let none : false ≡ true = ap (purges s target) (sym (dropped-all (run deck (take k es)).fixed)) ∙ (ap (λ us. purges s target (drop (length (run deck (take k es)).fixed) (run deck us).fixed)) (sym (take-no_more es k at)) ∙ now) in cc)
+      go : (o : Option Event) → slice_get es k ≡ o
+          → list_any (is_removal deck (suc k) s target) (run deck es).told ≡ true
+      go None at =
+          absurd (let none : false ≡ true =
+          ap (purges s target) (sym (dropped-all (run deck (take k es)).fixed))
+          ∙ (ap (λ us. purges s target (drop (length (run deck (take k es)).fixed) (run deck us).fixed))
+          (sym (take-no_more es k at))
+          ∙ now) in
+          cc)
       go (Some e) at =
           let more = take-more es k e at in
           let vs : List Event = take k es in
           let number : length vs + 1 ≡ suc k = omega (arith, more.1) in
           let told : list_any (is_removal deck (length vs + 1) s target) (run deck (vs ++ e ∷ [])).told ≡ true =
-          told_by_event vs e (home vs) s target (subst (λ us. purges s target (drop (length (run deck vs).fixed) (run deck us).fixed) ≡ true) more.0 now) in
-          let all : es ≡ (vs ++ e ∷ []) ++ drop (suc k) es = sym (take-append-drop (suc k) es) ∙ ap (λ us. us ++ drop (suc k) es) more.0 in
+          told_by_event vs e (home vs) s target
+          (subst (λ us. purges s target (drop (length (run deck vs).fixed) (run deck us).fixed) ≡ true) more.0 now) in
+          let all : es ≡ (vs ++ e ∷ []) ++ drop (suc k) es =
+          sym (take-append-drop (suc k) es) ∙ ap (λ us. us ++ drop (suc k) es) more.0 in
           subst (λ us. list_any (is_removal deck (suc k) s target) (run deck us).told ≡ true) (sym all)
-          (subst (λ (x : World). list_any (is_removal deck (suc k) s target) x.told ≡ true) (sym (run-behind (first_world deck) (vs ++ e ∷ []) (drop (suc k) es)))
-          (told-stays (is_removal deck (suc k) s target) (run deck (vs ++ e ∷ [])) (drop (suc k) es) (subst (λ j. list_any (is_removal deck j s target) (run deck (vs ++ e ∷ [])).told ≡ true) number told)))
+          (subst (λ (x : World). list_any (is_removal deck (suc k) s target) x.told ≡ true)
+          (sym (run-behind (first_world deck) (vs ++ e ∷ []) (drop (suc k) es)))
+          (told-stays (is_removal deck (suc k) s target) (run deck (vs ++ e ∷ [])) (drop (suc k) es)
+          (subst (λ j. list_any (is_removal deck j s target) (run deck (vs ++ e ∷ [])).told ≡ true) number told)))

@@ -1,5 +1,6 @@
 -- One event of a run in ring mode, and when a run is sound.
-use Rattle.std.proofs.Common.{◌≡◌, ◌<◌, ◌+◌, ◌-◌, Bool, true, false, ℕ, zero, suc, List, [], ◌∷◌, ◌++◌, length, map, take, not, ◌&&◌, Some, refl, ap, sym, ◌∙◌, subst, arith, append-nil}
+use Rattle.std.proofs.Common.{◌≡◌, ◌<◌, ◌+◌, ◌-◌, Bool, true, false, ℕ, zero, suc, List, [], ◌∷◌, ◌++◌, length, map}
+use Rattle.std.proofs.Common.{take, not, ◌&&◌, Some, refl, ap, sym, ◌∙◌, subst, arith, append-nil}
 use Rattle.std.proofs.lemmas.Option.{same_Some}
 use Rattle.std.specs.Prelude.{slice_get, filter, nat_lt}
 use Rattle.std.specs.List.{list_any}
@@ -9,7 +10,8 @@ use Rattle.grs_base.specs.declared.resource.TaskId.{TaskId}
 use Rattle.grs_legal.specs.Legal.{Legal}
 use Rattle.grs_medium.specs.Apply.{is_live}
 use Rattle.grs_medium.specs.Medium.{MediumState, live, first_medium}
-use Rattle.grs_node.specs.Node.{NodeState, Step, desk_told, finish_quiet, purged, read_entries, put_in, may_go, first_node, only}
+use Rattle.grs_node.specs.Node.{NodeState, Step, desk_told, finish_quiet, purged, read_entries, put_in, may_go}
+use Rattle.grs_node.specs.Node.{first_node, only}
 use Rattle.grs_base.specs.Limits.{most_additions}
 use Rattle.grs_wire.specs.Masks.{has}
 use Rattle.grs_wire.specs.declared.deck.Deck.{Deck}
@@ -47,7 +49,8 @@ use Rattle.grs_known.proofs.system.Says.{own_requests, is_line_of}
 use Rattle.grs_legal.specs.Asks.{lines_of}
 use Rattle.grs_node.proofs.Keeping.{stays-task, stays-turned}
 use Rattle.grs_wire.specs.declared.request.Fixed.{Fixed}
-use Rattle.grs_world.proofs.run.InRing.{Came, IsRing, changed, informed, live-there, no_such, nothing, removes_one, turn, went_on}
+use Rattle.grs_world.proofs.run.InRing.{Came, IsRing, changed, informed, live-there, no_such, nothing, removes_one}
+use Rattle.grs_world.proofs.run.InRing.{turn, went_on}
 use Rattle.grs_world.proofs.run.Desks.{EventTells, tells_no_such, tells_removed, tells_tasks}
 use Rattle.grs_world.proofs.run.Growing.{fixeds, grows-items}
 use Rattle.grs_known.proofs.told.News.{ToldNews}
@@ -57,7 +60,8 @@ pub desk-done : (n : NodeState) (said : Said) → (desk_told n said).done ≡ n.
 unfolding desk_told
 desk-done n said = refl
 
-pub removed-told : (n : NodeState) (target : SysId) → (purged n (choices.Purge target)).node.tasks.told ≡ n.tasks.told ++ lines.Desk (n.done + 1) saids.VaryDone ∷ []
+pub removed-told : (n : NodeState) (target : SysId)
+    → (purged n (choices.Purge target)).node.tasks.told ≡ n.tasks.told ++ lines.Desk (n.done + 1) saids.VaryDone ∷ []
 unfolding purged
 removed-told n target = desk-told n saids.VaryDone
 
@@ -70,7 +74,8 @@ unfolding purged
 removed-fixed n target = refl
 
 -- ---- one event, behind which the medium is still in ring mode
-module _ (deck : Deck) (es : List Event) (e : Event) (ring : IsRing deck (run deck es)) (g : GoodWorld deck es (run deck es)) where
+module _ (deck : Deck) (es : List Event) (e : Event) (ring : IsRing deck (run deck es))
+    (g : GoodWorld deck es (run deck es)) where
   abbrev c : SysId
   c = e.system
 
@@ -92,7 +97,8 @@ module _ (deck : Deck) (es : List Event) (e : Event) (ring : IsRing deck (run de
     systems = g.systems;
   }
 
-  module _ (n : NodeState) (at : slice_get (run deck es).nodes e.system.0 ≡ Some n) (alive : has (run deck es).medium.removed e.system.0 ≡ false) where
+  module _ (n : NodeState) (at : slice_get (run deck es).nodes e.system.0 ≡ Some n)
+      (alive : has (run deck es).medium.removed e.system.0 ≡ false) where
     abbrev s : ℕ
     s = e.system.0
 
@@ -103,22 +109,34 @@ module _ (deck : Deck) (es : List Event) (e : Event) (ring : IsRing deck (run de
     lives : has (live (run deck es).medium) e.system.0 ≡ true
     lives = live-there deck w ring s n at alive
 
-    seen : Seen deck e.system.0 P (g.before e.system.0) (g.later e.system.0) (own_requests e.system.0 (g.later e.system.0)) n
+    seen :
+        Seen deck e.system.0 P (g.before e.system.0) (g.later e.system.0) (own_requests e.system.0 (g.later e.system.0))
+        n
     seen = g.systems s n at lives
 
     -- the world after this came of the event
     abbrev Leads : Turnout → Type 0
-    Leads o = happens deck (run deck es) e ≡ placed (run deck es) e.system n o → Good (placed (run deck es) e.system n o)
+    Leads o =
+        happens deck (run deck es) e ≡ placed (run deck es) e.system n o → Good (placed (run deck es) e.system n o)
 
     -- nothing was put into the message
-    quiet_push : (m : MediumState) (st : Step) → m.message ≡ (run deck es).medium.message → live m ≡ live (run deck es).medium → Outcome deck e.system P n (g.before e.system.0) (g.later e.system.0) [] st → Leads (record { medium = m; step = st })
-    quiet_push m st same alive o is = push deck es e g n at m (g.before s) (g.later s) [] st o is alive (message-same w.medium m (message_log P) g.before s same alive g.message)
+    quiet_push : (m : MediumState) (st : Step) → m.message ≡ (run deck es).medium.message
+        → live m ≡ live (run deck es).medium
+        → Outcome deck e.system P n (g.before e.system.0) (g.later e.system.0) [] st
+        → Leads (record { medium = m; step = st })
+    quiet_push m st same alive o is =
+        push deck es e g n at m (g.before s) (g.later s) [] st o is alive
+        (message-same w.medium m (message_log P) g.before s same alive g.message)
 
     nothing_outcome : Outcome deck e.system P n (g.before e.system.0) (g.later e.system.0) [] (only n)
     nothing_outcome = still_outcome deck c P (g.before s) (g.later s) g.history (g.whole s) n n refl seen
 
-    task_outcome : (t : TaskId) → may_go deck n t ≡ true → Outcome deck e.system P n (g.before e.system.0) (g.later e.system.0) [] (finish_quiet deck n (choices.Task t))
-    task_outcome t may = quiet_outcome deck c P (g.before s) (g.later s) g.history (g.whole s) n (finish_quiet deck n (choices.Task t)) (quiet deck s c P (g.before s) (g.later s) (own_requests s (g.later s)) n t (ring.alone s n at) g.history seen may)
+    task_outcome : (t : TaskId) → may_go deck n t ≡ true
+        → Outcome deck e.system P n (g.before e.system.0) (g.later e.system.0) [] (finish_quiet deck n (choices.Task t))
+    task_outcome t may =
+        quiet_outcome deck c P (g.before s) (g.later s) g.history (g.whole s) n (finish_quiet deck n (choices.Task t))
+        (quiet deck s c P (g.before s) (g.later s) (own_requests s (g.later s)) n t (ring.alone s n at) g.history seen
+        may)
 
     task_done : (t : TaskId) → (finish_quiet deck n (choices.Task t)).node.done ≡ n.done
     unfolding finish_quiet
@@ -128,59 +146,114 @@ module _ (deck : Deck) (es : List Event) (e : Event) (ring : IsRing deck (run de
     given = given-later w.medium c g.before (g.later s) P (g.whole s) lives g.message
 
     abbrev puts_new : List RunItem
-    puts_new = (puts deck e.system P (g.before e.system.0) (g.later e.system.0) g.history (g.whole e.system.0) n (length (take most_additions n.outbox)) seen (unseen e.system (run deck es).medium.message.entries) given).new
+    puts_new =
+        (puts deck e.system P (g.before e.system.0) (g.later e.system.0) g.history (g.whole e.system.0) n
+        (length (take most_additions n.outbox)) seen (unseen e.system (run deck es).medium.message.entries) given).new
 
-    turned_outcome : Outcome deck e.system P n (rounds P) puts_new (map Asked (take (length (take most_additions n.outbox)) n.outbox)) (put_in (read_entries deck n (unseen e.system (run deck es).medium.message.entries)) (length (take most_additions n.outbox)))
-    turned_outcome = turn_outcome deck c P (g.before s) (g.later s) g.history (g.whole s) n (length (take most_additions n.outbox)) seen (unseen c w.medium.message.entries) given
+    turned_outcome :
+        Outcome deck e.system P n (rounds P) puts_new
+        (map Asked (take (length (take most_additions n.outbox)) n.outbox))
+        (put_in (read_entries deck n (unseen e.system (run deck es).medium.message.entries))
+        (length (take most_additions n.outbox)))
+    turned_outcome =
+        turn_outcome deck c P (g.before s) (g.later s) g.history (g.whole s) n (length (take most_additions n.outbox))
+        seen (unseen c w.medium.message.entries) given
 
-    good_turn : (flags : ℕ) → Leads (record { medium = record w.medium { message = turned_open w.medium.message c (take most_additions n.outbox) (live w.medium) w.medium.rest; rest = flags }; step = put_in (read_entries deck n (unseen c w.medium.message.entries)) (length (take most_additions n.outbox)) })
+    good_turn : (flags : ℕ)
+        → Leads (record {
+          medium =
+              record w.medium {
+                message = turned_open w.medium.message c (take most_additions n.outbox) (live w.medium) w.medium.rest;
+                rest = flags;
+              };
+          step =
+              put_in (read_entries deck n (unseen c w.medium.message.entries)) (length (take most_additions n.outbox));
+        })
     good_turn flags is =
         let out : List Req = take most_additions n.outbox in
-        let m : MediumState = record w.medium { message = turned_open w.medium.message c out (live w.medium) w.medium.rest; rest = flags } in
-        push deck es e g n at m (rounds P) puts_new (map Asked (take (length out) n.outbox)) (put_in (read_entries deck n (unseen c w.medium.message.entries)) (length out)) turned_outcome is refl
-        (subst (λ qs. GoodMessage m (message_log P ++ map Asked qs) (seen_at (put_at g.before s (rounds P)))) (sym (take-taken most_additions n.outbox))
+        let m : MediumState =
+        record w.medium { message = turned_open w.medium.message c out (live w.medium) w.medium.rest; rest = flags } in
+        push deck es e g n at m (rounds P) puts_new (map Asked (take (length out) n.outbox))
+        (put_in (read_entries deck n (unseen c w.medium.message.entries)) (length out)) turned_outcome is refl
+        (subst (λ qs. GoodMessage m (message_log P ++ map Asked qs) (seen_at (put_at g.before s (rounds P))))
+        (sym (take-taken most_additions n.outbox))
         (message-turned w.medium m c out w.medium.rest g.before g.later P g.whole refl refl g.message))
 
     -- it is told which systems were removed
-    informed_outcome : Outcome deck e.system P n (g.before e.system.0) (g.later e.system.0) [] (only (record n { known = (run deck es).medium.removed }))
-    informed_outcome = still_outcome deck c P (g.before s) (g.later s) g.history (g.whole s) n (record n { known = w.medium.removed }) refl (seen-known deck s P (g.before s) (g.later s) (own_requests s (g.later s)) n w.medium.removed seen)
+    informed_outcome :
+        Outcome deck e.system P n (g.before e.system.0) (g.later e.system.0) []
+        (only (record n { known = (run deck es).medium.removed }))
+    informed_outcome =
+        still_outcome deck c P (g.before s) (g.later s) g.history (g.whole s) n (record n { known = w.medium.removed })
+        refl (seen-known deck s P (g.before s) (g.later s) (own_requests s (g.later s)) n w.medium.removed seen)
 
     -- whatever came of it, but the change to star mode
-    pub good_came : (o : Turnout) → Came deck (run deck es) e.system n o → o.medium.star ≡ false → GoodTold deck (es ++ e ∷ []) (placed (run deck es) e.system n o) → Leads o
-    good_came o (nothing flags) mode told = quiet_push (record w.medium { rest = flags }) (only n) refl refl nothing_outcome
-    good_came o (went_on t may) mode told = quiet_push w.medium (finish_quiet deck n (choices.Task t)) refl refl (task_outcome t may)
+    pub good_came : (o : Turnout) → Came deck (run deck es) e.system n o → o.medium.star ≡ false
+        → GoodTold deck (es ++ e ∷ []) (placed (run deck es) e.system n o) → Leads o
+    good_came o (nothing flags) mode told =
+        quiet_push (record w.medium { rest = flags }) (only n) refl refl nothing_outcome
+    good_came o (went_on t may) mode told =
+        quiet_push w.medium (finish_quiet deck n (choices.Task t)) refl refl (task_outcome t may)
     good_came o (turn flags here) mode told = good_turn flags
     good_came o (changed next idle) mode told = absurd (cc)
-    good_came o informed mode told = quiet_push w.medium (only (record n { known = w.medium.removed })) refl refl informed_outcome
-    good_came o (removes_one target next there) mode told = λ is. removed_world deck es e ring g n at alive target next there told
-    good_came o (no_such target next gone) mode told = λ is. desk_world deck es e ring g n at alive saids.VaryNoSuch told
+    good_came o informed mode told =
+        quiet_push w.medium (only (record n { known = w.medium.removed })) refl refl informed_outcome
+    good_came o (removes_one target next there) mode
+        told = λ is. removed_world deck es e ring g n at alive target next there told
+    good_came o (no_such target next gone) mode
+        told = λ is. desk_world deck es e ring g n at alive saids.VaryNoSuch told
 
     -- what it tells
-    tells : (m : MediumState) (st : Step) (before' later' : List RunItem) (out : List Fixed) → m.star ≡ w.medium.star → st.node.done ≡ n.done → Outcome deck e.system P n before' later' out st → EventTells deck e.system (history (items (w.fixed ++ fixed_by e.system st.fixed))) st.fixed n st.node w.medium.star m.star
-    tells m st before' later' out mode done o = tells_tasks (subst (λ U. ToldNews deck c.0 (history U) n.tasks.told st.node.tasks.told) (sym (grows-items w.fixed o.grows)) o.news) done mode
+    tells : (m : MediumState) (st : Step) (before' later' : List RunItem) (out : List Fixed) → m.star ≡ w.medium.star
+        → st.node.done ≡ n.done → Outcome deck e.system P n before' later' out st
+        → EventTells deck e.system (history (items (w.fixed ++ fixed_by e.system st.fixed))) st.fixed n st.node
+        w.medium.star m.star
+    tells m st before' later' out mode done o =
+        tells_tasks (subst (λ U. ToldNews deck c.0 (history U) n.tasks.told st.node.tasks.told)
+        (sym (grows-items w.fixed o.grows)) o.news)
+        done mode
 
-    pub came_tells : (o : Turnout) → Came deck (run deck es) e.system n o → o.medium.star ≡ false → EventTells deck e.system (history (items ((run deck es).fixed ++ fixed_by e.system o.step.fixed))) o.step.fixed n o.step.node (run deck es).medium.star o.medium.star
-    came_tells o (nothing flags) mode = tells (record w.medium { rest = flags }) (only n) (g.before s) (g.later s) [] refl refl nothing_outcome
-    came_tells o (went_on t may) mode = tells w.medium (finish_quiet deck n (choices.Task t)) (g.before s) (g.later s) [] refl (task_done t) (task_outcome t may)
-    came_tells o (turn flags here) mode = tells o.medium o.step (rounds P) puts_new (map Asked (take (length (take most_additions n.outbox)) n.outbox)) refl (stays-turned deck n (unseen c w.medium.message.entries) (length (take most_additions n.outbox))).done turned_outcome
+    pub came_tells : (o : Turnout) → Came deck (run deck es) e.system n o → o.medium.star ≡ false
+        → EventTells deck e.system (history (items ((run deck es).fixed ++ fixed_by e.system o.step.fixed)))
+        o.step.fixed n o.step.node (run deck es).medium.star o.medium.star
+    came_tells o (nothing flags) mode =
+        tells (record w.medium { rest = flags }) (only n) (g.before s) (g.later s) [] refl refl nothing_outcome
+    came_tells o (went_on t may) mode =
+        tells w.medium (finish_quiet deck n (choices.Task t)) (g.before s) (g.later s) [] refl (task_done t)
+        (task_outcome t may)
+    came_tells o (turn flags here) mode =
+        tells o.medium o.step (rounds P) puts_new (map Asked (take (length (take most_additions n.outbox)) n.outbox))
+        refl (stays-turned deck n (unseen c w.medium.message.entries) (length (take most_additions n.outbox))).done
+        turned_outcome
     came_tells o (changed next idle) mode = absurd (cc)
-    came_tells o informed mode = tells w.medium (only (record n { known = w.medium.removed })) (g.before s) (g.later s) [] refl refl informed_outcome
-    came_tells o (removes_one target next there) mode = tells_removed target next (removed-told n target) (removed-done n target) refl (removed-fixed n target)
-    came_tells o (no_such target next gone) mode = tells_no_such target next (desk-told n saids.VaryNoSuch) (desk-done n saids.VaryNoSuch) refl (λ fit.
+    came_tells o informed mode =
+        tells w.medium (only (record n { known = w.medium.removed })) (g.before s) (g.later s) [] refl refl
+        informed_outcome
+    came_tells o (removes_one target next there) mode =
+        tells_removed target next (removed-told n target) (removed-done n target) refl (removed-fixed n target)
+    came_tells o (no_such target next gone) mode =
+        tells_no_such target next (desk-told n saids.VaryNoSuch) (desk-done n saids.VaryNoSuch) refl (λ fit.
         let below = (target-fits deck n target fit next).0 in
-        ap (λ gs. list_any (removes target) (history (items gs))) (append-nil w.fixed) ∙ (ap (list_any (removes target)) (items_are_history w.fixed).0 ∙ (sym (removed_in_history deck es target) ∙ was_removed (lt-ltb target.0 w.medium.message.systems (omega (arith, below, ring.around))) gone)))
+        ap (λ gs. list_any (removes target) (history (items gs))) (append-nil w.fixed)
+        ∙ (ap (list_any (removes target)) (items_are_history w.fixed).0
+        ∙ (sym (removed_in_history deck es target)
+        ∙ was_removed (lt-ltb target.0 w.medium.message.systems (omega (arith, below, ring.around))) gone)))
       where
-        was_removed : nat_lt target.0 (run deck es).medium.message.systems ≡ true → is_live (run deck es).medium target ≡ false → has (run deck es).medium.removed target.0 ≡ true
-        was_removed below out = go (has w.medium.removed target.0) (sym (ap (λ b. b && not (has w.medium.removed target.0)) below) ∙ out)
+        was_removed : nat_lt target.0 (run deck es).medium.message.systems ≡ true
+            → is_live (run deck es).medium target ≡ false → has (run deck es).medium.removed target.0 ≡ true
+        was_removed below out =
+            go (has w.medium.removed target.0) (sym (ap (λ b. b && not (has w.medium.removed target.0)) below) ∙ out)
           where
             go : (b : Bool) → (true && not b) ≡ false → b ≡ true
             go true h = refl
             go false h = absurd (cc)
 
 -- ---- the first world
-first_at : (deck : Deck) (k : ℕ) (ds : List SystemDef) (i : ℕ) (n : NodeState) → slice_get (first_nodes deck k ds) i ≡ Some n → (n ≡ first_node deck (k + i)) × (i < length ds)
+first_at : (deck : Deck) (k : ℕ) (ds : List SystemDef) (i : ℕ) (n : NodeState)
+    → slice_get (first_nodes deck k ds) i ≡ Some n → (n ≡ first_node deck (k + i)) × (i < length ds)
 first_at deck k [] i n h = absurd (cc)
-first_at deck k (d ∷ ds) zero n h = (sym (same_Some (first_node deck k) n h) ∙ ap (first_node deck) (plus_zero k), omega arith)
+first_at deck k (d ∷ ds) zero n
+    h = (sym (same_Some (first_node deck k) n h) ∙ ap (first_node deck) (plus_zero k), omega arith)
   where
     plus_zero : (a : ℕ) → a ≡ a + 0
     plus_zero a = omega arith
@@ -191,13 +264,15 @@ first_at deck k (d ∷ ds) (suc i) n h =
     next : (a b : ℕ) → a + 1 + b ≡ a + suc b
     next a b = omega arith
 
-pub first_is : (deck : Deck) (s : ℕ) (n : NodeState) → slice_get (first_nodes deck 0 deck.systems) s ≡ Some n → n ≡ first_node deck s
+pub first_is : (deck : Deck) (s : ℕ) (n : NodeState) → slice_get (first_nodes deck 0 deck.systems) s ≡ Some n
+    → n ≡ first_node deck s
 first_is deck s n h = (first_at deck 0 deck.systems s n h).0 ∙ ap (first_node deck) (zero_plus s)
   where
     zero_plus : (a : ℕ) → 0 + a ≡ a
     zero_plus a = omega arith
 
-pub first_message : (deck : Deck) → GoodMessage (first_medium (length deck.systems) deck.entries deck.star) [] (seen_at (λ u. []))
+pub first_message : (deck : Deck)
+    → GoodMessage (first_medium (length deck.systems) deck.entries deck.star) [] (seen_at (λ u. []))
 first_message deck = go deck.star
   where
     go : (b : Bool) → GoodMessage (first_medium (length deck.systems) deck.entries b) [] (seen_at (λ u. []))
@@ -206,7 +281,14 @@ first_message deck = go deck.star
 
 pub first_good_told : (deck : Deck) → GoodTold deck [] (first_world deck)
 unfolding first_world
-first_good_told deck = record { counted = refl; by_now = tt; agree = λ fit. tt; lines = λ s n h. ap (λ (m : NodeState). filter (is_line_of s) m.tasks.told) (first_is deck s n h) ∙ ap (filter (is_line_of s)) (first_told deck s) }
+first_good_told deck = record {
+  counted = refl;
+  by_now = tt;
+  agree = λ fit. tt;
+  lines = λ s n h.
+      ap (λ (m : NodeState). filter (is_line_of s) m.tasks.told) (first_is deck s n h)
+      ∙ ap (filter (is_line_of s)) (first_told deck s);
+}
 
 pub first_history : (deck : Deck) → IsHistory deck []
 first_history deck = record { made = tt; count = tt; asks = tt; stand = refl; legal = λ fit. tt }
@@ -220,12 +302,14 @@ first_good deck = record {
   later = λ u. [];
   whole = λ u. refl;
   message = first_message deck;
-  systems = λ s n h lives. subst (λ (m : NodeState). Seen deck s [] [] [] [] m) (sym (first_is deck s n h)) (first_seen deck s);
+  systems = λ s n h lives.
+      subst (λ (m : NodeState). Seen deck s [] [] [] [] m) (sym (first_is deck s n h)) (first_seen deck s);
 }
 
--- ---- So a run is sound, if what was fixed makes a history, what was told agrees, and live systems show their numbers, and the
--- desks' commands are of other systems that are there.
-pub sound-of : (deck : Deck) → OrdersFit deck → ((us : List Event) → AreHome deck us) → (es : List Event) → IsHistory deck (items (run deck es).fixed) → GoodTold deck es (run deck es) → Sound deck es
+-- ---- So a run is sound, if what was fixed makes a history, what was told agrees, and live systems show their numbers,
+-- and the desks' commands are of other systems that are there.
+pub sound-of : (deck : Deck) → OrdersFit deck → ((us : List Event) → AreHome deck us) → (es : List Event)
+    → IsHistory deck (items (run deck es).fixed) → GoodTold deck es (run deck es) → Sound deck es
 sound-of deck fit home es right told = record {
   legal = subst (Legal deck) (items_are_history (run deck es).fixed).0 (right.legal fit);
   agree = record {

@@ -6,7 +6,8 @@ use Rattle.grs_base.specs.declared.resource.Ret.TheVariants.{RetNone, RetEcb}
 use Rattle.grs_base.specs.declared.resource.SysId.{SysId}
 use Rattle.grs_base.specs.declared.decision.Code.TheVariants.{C00, C04, C08, Wait}
 use Rattle.grs_base.specs.declared.line.Scope.TheVariants.{System}
-use Rattle.grs_node.specs.Node.{decide, post, ask, wait, take_line, end_step, ready_step, phase_step, may_go, prepare, finish_quiet, finish, first_node}
+use Rattle.grs_node.specs.Node.{decide, post, ask, wait, take_line, end_step, ready_step, phase_step, may_go, prepare}
+use Rattle.grs_node.specs.Node.{finish_quiet, finish, first_node}
 use Rattle.grs_wire.specs.Masks.{has}
 use Rattle.grs_wire.specs.declared.deck.Deck.{Deck}
 use Rattle.grs_wire.specs.declared.deck.Event.{Event}
@@ -22,8 +23,10 @@ use Rattle.grs_wire.specs.declared.told.ToldLine.{ToldLine}
 use Rattle.grs_wire.specs.declared.told.ToldLine.TheVariants.{Coded, Post, Ended, Desk}
 use Rattle.grs_wire.specs.declared.told.Said.TheVariants.{StarDone, StarAlready, VaryDone, VaryNoSuch, VaryInStar}
 use Rattle.grs_wire.specs.declared.told.Verb.TheVariants as verbs
-use Rattle.task_state.specs.Replies.{tell_code, record_enq, after_code, replied, passes_wait, tell_line, tell_untold, tell_control, tell_all, tell_new}
-use Rattle.task_state.specs.View.{state_of, with_state, with_line, with_phase, with_outstanding, with_record, without_record, with_told, with_exclusive, telling}
+use Rattle.task_state.specs.Replies.{tell_code, record_enq, after_code, replied, passes_wait, tell_line, tell_untold}
+use Rattle.task_state.specs.Replies.{tell_control, tell_all, tell_new}
+use Rattle.task_state.specs.View.{state_of, with_state, with_line, with_phase, with_outstanding, with_record}
+use Rattle.task_state.specs.View.{without_record, with_told, with_exclusive, telling}
 use Rattle.grs_world.specs.Agree.{Agrees, Moment, RemovalsTold, is_of_event}
 use Rattle.grs_world.specs.World.{first_world, carry_out, chosen, placed, happens_at, happens, hist, told}
 use Rattle.grs_world.proofs.samples.Samples.{system, task_of, own, enq, deq, wait_for, deck_of, goes, at}
@@ -31,20 +34,25 @@ use Rattle.grs_world.proofs.samples.Samples.{system, task_of, own, enq, deq, wai
 -- ---- a WAIT for an element that was queued anew
 -- The first task has a resource, gives it up, and asks for it once more, by ECB, while the second has it.
 abbrev asks_again : Deck
-asks_again = deck_of (((enq 66 E System RetNone ∷ deq 66 System ∷ enq 66 E System RetEcb ∷ wait_for 66 ∷ []) ∷ (enq 66 E System RetNone ∷ deq 66 System ∷ []) ∷ []) ∷ [])
+asks_again =
+    deck_of (((enq 66 E System RetNone ∷ deq 66 System ∷ enq 66 E System RetEcb ∷ wait_for 66 ∷ [])
+    ∷ (enq 66 E System RetNone ∷ deq 66 System ∷ []) ∷ [])
+    ∷ [])
 
 abbrev again_events : List Event
 again_events = goes 0 0 ∷ goes 0 0 ∷ goes 0 1 ∷ goes 0 0 ∷ goes 0 1 ∷ goes 0 0 ∷ []
 
 abbrev again_history : List HistEntry
 again_history =
-    Enq (task_of 0 0) (own 66) E RetNone C00 ∷ Deq (task_of 0 0) (own 66) false C00 ∷ Enq (task_of 0 1) (own 66) E RetNone C00
+    Enq (task_of 0 0) (own 66) E RetNone C00 ∷ Deq (task_of 0 0) (own 66) false C00
+    ∷ Enq (task_of 0 1) (own 66) E RetNone C00
     ∷ Enq (task_of 0 0) (own 66) E RetEcb C04 ∷ Deq (task_of 0 1) (own 66) false C00 ∷ []
 
 -- what is told before the post, the post, and the WAIT line
 abbrev before_post : List Told
 before_post =
-    at 1 0 (Coded (task_of 0 0) 1 0 verbs.Enq C00) ∷ at 2 0 (Coded (task_of 0 0) 2 0 verbs.Deq C00) ∷ at 3 0 (Coded (task_of 0 1) 1 0 verbs.Enq C00)
+    at 1 0 (Coded (task_of 0 0) 1 0 verbs.Enq C00) ∷ at 2 0 (Coded (task_of 0 0) 2 0 verbs.Deq C00)
+    ∷ at 3 0 (Coded (task_of 0 1) 1 0 verbs.Enq C00)
     ∷ at 4 0 (Coded (task_of 0 0) 3 0 verbs.Enq C04) ∷ at 5 0 (Coded (task_of 0 1) 2 0 verbs.Deq C00) ∷ []
 
 abbrev the_post : Told
@@ -60,7 +68,10 @@ behind history before = record { history = history; fixed = []; before = before 
 runs_again :
     (hist asks_again again_events ≡ again_history)
     × (told asks_again again_events ≡ before_post ++ the_post ∷ the_wait ∷ [])
-unfolding state_of with_state with_line with_phase with_outstanding with_record without_record with_told with_exclusive telling tell_code record_enq after_code replied passes_wait tell_line tell_untold tell_control tell_all tell_new decide post ask wait take_line end_step ready_step phase_step may_go prepare finish_quiet finish has first_node first_world carry_out chosen placed happens_at happens
+unfolding state_of with_state with_line with_phase with_outstanding with_record without_record with_told with_exclusive
+    telling tell_code record_enq after_code replied passes_wait tell_line tell_untold tell_control tell_all tell_new
+    decide post ask wait take_line end_step ready_step phase_step may_go prepare finish_quiet finish has first_node
+    first_world carry_out chosen placed happens_at happens
 runs_again = (refl, refl)
 
 -- behind the post the WAIT may be told 00
@@ -75,7 +86,10 @@ waits_untold a = let e : false ≡ true = a.1.1.1.1 in absurd (cc)
 abbrev asks_once : Deck
 asks_once = deck_of (((enq 66 E System RetNone ∷ wait_for 66 ∷ []) ∷ []) ∷ [])
 
-waits_at_once : Agrees asks_once (behind (Enq (task_of 0 0) (own 66) E RetNone C00 ∷ []) (at 1 0 (Coded (task_of 0 0) 1 0 verbs.Enq C00) ∷ [])) (at 2 0 (Coded (task_of 0 0) 2 0 verbs.Wait C00))
+waits_at_once :
+    Agrees asks_once
+    (behind (Enq (task_of 0 0) (own 66) E RetNone C00 ∷ []) (at 1 0 (Coded (task_of 0 0) 1 0 verbs.Enq C00) ∷ []))
+    (at 2 0 (Coded (task_of 0 0) 2 0 verbs.Wait C00))
 waits_at_once = (refl, (refl, (omega arith, (refl, refl), refl, refl)))
 
 -- ---- a task's lines that are wrong, or told out of their order
@@ -96,7 +110,11 @@ part_wrong : Agrees asks_again (behind again_history []) (told_first 1 (Coded (t
 part_wrong a = absurd (omega (arith, a.0))
 
 -- no control where another task has it
-control_early : Agrees asks_again (behind (Enq (task_of 0 1) (own 66) E RetNone C00 ∷ Enq (task_of 0 0) (own 66) E RetNone Wait ∷ []) []) (told_first 2 first_code) → ⊥
+control_early :
+    Agrees asks_again
+    (behind (Enq (task_of 0 1) (own 66) E RetNone C00 ∷ Enq (task_of 0 0) (own 66) E RetNone Wait ∷ []) [])
+    (told_first 2 first_code)
+    → ⊥
 control_early a = let e : false ≡ true = a.1.1.1.1 refl in absurd (cc)
 
 post_early : Agrees asks_again (behind again_history []) the_post → ⊥
@@ -105,17 +123,27 @@ post_early a = let e : false ≡ true = a.1.2 in absurd (cc)
 post_twice : Agrees asks_again (behind again_history (before_post ++ the_post ∷ [])) the_post → ⊥
 post_twice a = let e : true ≡ false = a.1.3 in absurd (cc)
 
-codes_backwards : Agrees asks_again (behind again_history (told_first 2 (Coded (task_of 0 0) 2 0 verbs.Deq C00) ∷ [])) (told_first 3 first_code) → ⊥
+codes_backwards :
+    Agrees asks_again (behind again_history (told_first 2 (Coded (task_of 0 0) 2 0 verbs.Deq C00) ∷ []))
+    (told_first 3 first_code)
+    → ⊥
 codes_backwards a = let e : false ≡ true = a.1.1.2 in absurd (cc)
 
-behind_end : Agrees asks_again (behind again_history (told_first 1 (Ended (task_of 0 0) 0) ∷ [])) (told_first 2 first_code) → ⊥
+behind_end :
+    Agrees asks_again (behind again_history (told_first 1 (Ended (task_of 0 0) 0) ∷ [])) (told_first 2 first_code)
+    → ⊥
 behind_end a = let e : true ≡ false = a.1.1.3 in absurd (cc)
 
-ends_early : Agrees asks_again (behind (Enq (task_of 0 0) (own 66) E RetNone C00 ∷ []) []) (told_first 2 (Ended (task_of 0 0) 0)) → ⊥
+ends_early :
+    Agrees asks_again (behind (Enq (task_of 0 0) (own 66) E RetNone C00 ∷ []) []) (told_first 2 (Ended (task_of 0 0) 0))
+    → ⊥
 ends_early a = let e : own 66 ∷ [] ≡ [] = a.1.0 in absurd (cc)
 
 -- nor is a WAIT told 08 where an element is
-waits_for_none : Agrees asks_again (behind again_history (before_post ++ the_post ∷ [])) (told_first 6 (Coded (task_of 0 0) 4 0 verbs.Wait C08)) → ⊥
+waits_for_none :
+    Agrees asks_again (behind again_history (before_post ++ the_post ∷ []))
+    (told_first 6 (Coded (task_of 0 0) 4 0 verbs.Wait C08))
+    → ⊥
 waits_for_none a = let e : true ≡ false = a.1.1.1 in absurd (cc)
 
 -- ---- who tells
@@ -131,7 +159,9 @@ other_system : system 1 ≡ system 0 → ⊥
 other_system e = let f : false ≡ true = ap (λ (s : SysId). s.0 == 0) e in absurd (cc)
 
 -- no system tells the tasks of another
-told_elsewhere : Agrees asks_again (behind again_history (before_post ++ the_post ∷ [])) (record the_wait { system = system 1 }) → ⊥
+told_elsewhere :
+    Agrees asks_again (behind again_history (before_post ++ the_post ∷ [])) (record the_wait { system = system 1 })
+    → ⊥
 told_elsewhere a = other_system a.1.0
 
 -- ---- desks
@@ -153,7 +183,8 @@ abbrev star_done : Told
 star_done = at 1 0 (Desk 1 StarDone)
 
 -- the first to command it changes the complex, and the next is told that it has changed
-pub star_once : Agrees desks (fixing [] []) star_done × Agrees desks (fixing [] (star_done ∷ [])) (at 2 1 (Desk 1 StarAlready))
+pub star_once : Agrees desks (fixing [] []) star_done
+    × Agrees desks (fixing [] (star_done ∷ [])) (at 2 1 (Desk 1 StarAlready))
 star_once = ((omega arith, refl, refl), (omega arith, refl, refl))
 
 star_twice : Agrees desks (fixing [] (star_done ∷ [])) (at 2 1 (Desk 1 StarDone)) → ⊥

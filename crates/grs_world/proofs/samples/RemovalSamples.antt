@@ -1,5 +1,5 @@
--- A worked run in which a system of a ring is removed while it owns, has the message, and has a request in it, by which the
--- definitions are checked: what is answered, fixed, told and kept is what the rules of the service give by hand.
+-- A worked run in which a system of a ring is removed while it owns, has the message, and has a request in it, by which
+-- the definitions are checked: what is answered, fixed, told and kept is what the rules of the service give by hand.
 use Rattle.std.proofs.Common.{◌≡◌, ℕ, true, false, List, [], ◌∷◌, ◌++◌, Some, map, drop, refl}
 use Rattle.grs_base.specs.declared.decision.Code.TheVariants.{C00, Wait}
 use Rattle.grs_base.specs.declared.line.Scope.TheVariants.{Systems}
@@ -7,7 +7,9 @@ use Rattle.grs_base.specs.declared.resource.Ctl.TheVariants.{E}
 use Rattle.grs_base.specs.declared.resource.Elem.{Elem}
 use Rattle.grs_base.specs.declared.resource.Ret.TheVariants.{RetNone}
 use Rattle.grs_medium.specs.Apply.{row, apply, turn_row, purge_row}
-use Rattle.grs_node.specs.Node.{post, ask, take_line, end_step, ready_step, phase_step, may_go, prepare, finish_quiet, finish_call, finish, first_node, read_entries, all_sent, put_in, desk_told, purged, turned as system_turned}
+use Rattle.grs_node.specs.Node.{post, ask, take_line, end_step, ready_step, phase_step, may_go, prepare, finish_quiet}
+use Rattle.grs_node.specs.Node.{finish_call, finish, first_node, read_entries, all_sent, put_in, desk_told, purged}
+use Rattle.grs_node.specs.Node.{turned as system_turned}
 use Rattle.grs_wire.specs.Masks.{has, without, with_also}
 use Rattle.grs_wire.specs.declared.deck.Deck.{Deck}
 use Rattle.grs_wire.specs.declared.deck.Event.{Event}
@@ -21,11 +23,14 @@ use Rattle.grs_wire.specs.declared.told.Said.TheVariants.{VaryDone, VaryNoSuch}
 use Rattle.grs_wire.specs.declared.told.ToldLine.TheVariants.{Coded, Desk}
 use Rattle.grs_wire.specs.declared.told.Verb.TheVariants as verbs
 use Rattle.ring_mode.specs.Ring.{answer_own, process, process_entry}
-use Rattle.rsa_message.specs.Message.{first_after, any_unseen, cleared, stamped, turn_reply, wakes, rest_after_turn, dropped, turned}
+use Rattle.rsa_message.specs.Message.{first_after, any_unseen, cleared, stamped, turn_reply, wakes, rest_after_turn}
+use Rattle.rsa_message.specs.Message.{dropped, turned}
 use Rattle.grs_wire.specs.Unseen.{unseen}
 use Rattle.system_purge.specs.Purge.{tell_freed}
-use Rattle.task_state.specs.Replies.{tell_code, record_enq, after_code, replied, passes_wait, tell_line, tell_untold, tell_control, tell_all, tell_new, recalled, tell_answer, tell_answer_any}
-use Rattle.task_state.specs.View.{state_of, with_state, with_line, with_phase, with_outstanding, with_record, without_record, with_told, with_exclusive, telling}
+use Rattle.task_state.specs.Replies.{tell_code, record_enq, after_code, replied, passes_wait, tell_line, tell_untold}
+use Rattle.task_state.specs.Replies.{tell_control, tell_all, tell_new, recalled, tell_answer, tell_answer_any}
+use Rattle.task_state.specs.View.{state_of, with_state, with_line, with_phase, with_outstanding, with_record}
+use Rattle.task_state.specs.View.{without_record, with_told, with_exclusive, telling}
 use Rattle.grs_world.specs.Kept.{kept, places}
 use Rattle.grs_world.specs.Removing.{reply_of}
 use Rattle.grs_world.specs.Running.{is_live, task_end}
@@ -35,21 +40,29 @@ use Rattle.grs_world.proofs.samples.Samples.{system, task_of, shared, enq, deck_
 abbrev purges : ℕ → ℕ → Event
 purges s target = record { system = system s; choice = choices.Purge (system target) }
 
--- A ring of three systems, each with a task that asks for exclusive control of the same resource, and with a desk that commands
--- the removal of the third.
+-- A ring of three systems, each with a task that asks for exclusive control of the same resource, and with a desk that
+-- commands the removal of the third.
 abbrev ring : Deck
-ring = deck_of (((enq 66 E Systems RetNone ∷ []) ∷ []) ∷ ((enq 66 E Systems RetNone ∷ []) ∷ []) ∷ ((enq 66 E Systems RetNone ∷ []) ∷ []) ∷ [])
+ring =
+    deck_of (((enq 66 E Systems RetNone ∷ []) ∷ []) ∷ ((enq 66 E Systems RetNone ∷ []) ∷ [])
+    ∷ ((enq 66 E Systems RetNone ∷ []) ∷ []) ∷ [])
 
 abbrev removing : Deck
-removing = record ring { systems = map (λ (s : SystemDef). record s { desk = record { at = 0; order = orders.Vary (system 2) } ∷ [] }) ring.systems }
+removing =
+    record ring {
+      systems =
+          map (λ (s : SystemDef). record s { desk = record { at = 0; order = orders.Vary (system 2) } ∷ [] })
+          ring.systems;
+    }
 
--- The third system's request goes in first (4), then the first one's (6). Both come past the second, and the message stands at
--- the third (7).
+-- The third system's request goes in first (4), then the first one's (6). Both come past the second, and the message
+-- stands at the third (7).
 abbrev before : List Event
 before = goes 2 0 ∷ turn 0 ∷ turn 1 ∷ turn 2 ∷ goes 0 0 ∷ turn 0 ∷ turn 1 ∷ []
 
--- The first system removes the third (8). The second doesn't know it (9), and then finds no such system (10); the third does
--- nothing any more (11). The first one's task is answered that it waits, and is told control in the same event (12).
+-- The first system removes the third (8). The second doesn't know it (9), and then finds no such system (10); the third
+-- does nothing any more (11). The first one's task is answered that it waits, and is told control in the same event
+-- (12).
 abbrev behind : List Event
 behind = purges 1 2 ∷ purges 1 2 ∷ turn 2 ∷ turn 0 ∷ []
 
@@ -63,10 +76,14 @@ pub samples :
     (reply_of removing (run removing before) (purges 0 2) ≡ Some replies.Purged)
     × (reply_of removing (run removing removed) (purges 1 2) ≡ Some (replies.Stale 4))
     × (reply_of removing (run removing (removed ++ purges 1 2 ∷ [])) (purges 1 2) ≡ Some replies.NoSuch)
-    × (hist removing before ≡ Enq (task_of 2 0) (shared 66) E RetNone C00 ∷ Enq (task_of 0 0) (shared 66) E RetNone Wait ∷ [])
-    × (hist removing (removed ++ behind) ≡ Enq (task_of 2 0) (shared 66) E RetNone C00 ∷ Enq (task_of 0 0) (shared 66) E RetNone Wait ∷ Remove (system 0) (system 2) ∷ [])
+    × (hist removing before
+    ≡ Enq (task_of 2 0) (shared 66) E RetNone C00 ∷ Enq (task_of 0 0) (shared 66) E RetNone Wait ∷ [])
+    × (hist removing (removed ++ behind)
+    ≡ Enq (task_of 2 0) (shared 66) E RetNone C00 ∷ Enq (task_of 0 0) (shared 66) E RetNone Wait
+    ∷ Remove (system 0) (system 2) ∷ [])
     × (told removing removed ≡ at 8 0 (Desk 1 VaryDone) ∷ [])
-    × (drop 1 (told removing (removed ++ behind)) ≡ at 10 1 (Desk 1 VaryNoSuch) ∷ at 12 0 (Coded (task_of 0 0) 1 0 verbs.Enq C00) ∷ [])
+    × (drop 1 (told removing (removed ++ behind))
+    ≡ at 10 1 (Desk 1 VaryNoSuch) ∷ at 12 0 (Coded (task_of 0 0) 1 0 verbs.Enq C00) ∷ [])
     × (places removing before (shared 66) ≡ elem 2 ∷ elem 0 ∷ [])
     × (places removing removed (shared 66) ≡ elem 0 ∷ [])
     × (kept removing (run removing removed) (system 0) (shared 66) ≡ elem 0 ∷ [])
@@ -79,5 +96,10 @@ pub samples :
     × (map (λ x. x.mask) (run removing removed).medium.message.entries ≡ 1 ∷ 3 ∷ [])
     × (task_end (run removing removed).medium.removed (run removing removed).nodes (task_of 2 0) ≡ ends.Removed)
     × (task_end (run removing removed).medium.removed (run removing removed).nodes (task_of 0 0) ≡ ends.Open)
-unfolding state_of with_state with_line with_phase with_outstanding with_record without_record with_told with_exclusive telling tell_code record_enq after_code replied passes_wait tell_line tell_untold tell_control tell_all tell_new recalled tell_answer tell_answer_any tell_freed post ask take_line end_step ready_step phase_step may_go prepare finish_quiet finish_call finish read_entries all_sent put_in desk_told purged system_turned answer_own process process_entry has without with_also turn_row purge_row row apply first_after unseen any_unseen cleared stamped turn_reply wakes rest_after_turn dropped turned first_node first_world carry_out chosen placed happens_at happens
+unfolding state_of with_state with_line with_phase with_outstanding with_record without_record with_told with_exclusive
+    telling tell_code record_enq after_code replied passes_wait tell_line tell_untold tell_control tell_all tell_new
+    recalled tell_answer tell_answer_any tell_freed post ask take_line end_step ready_step phase_step may_go prepare
+    finish_quiet finish_call finish read_entries all_sent put_in desk_told purged system_turned answer_own process
+    process_entry has without with_also turn_row purge_row row apply first_after unseen any_unseen cleared stamped
+    turn_reply wakes rest_after_turn dropped turned first_node first_world carry_out chosen placed happens_at happens
 samples = (refl, refl, refl, refl, refl, refl, refl, refl, refl, refl, refl, refl, refl, refl, refl, refl, refl, refl)

@@ -22,15 +22,18 @@ use Rattle.grs_legal.specs.Asks.{lines_of}
 use Rattle.grs_legal.specs.Legal.{line_entries}
 use Rattle.grs_legal.specs.declared.meaning.Meaning.{Meaning}
 use Rattle.grs_medium.specs.Medium.{medium_at_end}
-use Rattle.grs_node.specs.Node.{decide, post, ask, wait, take_line, end_step, ready_step, phase_step, is_pending, may_go, prepare, finish_quiet, finish, first_node}
+use Rattle.grs_node.specs.Node.{decide, post, ask, wait, take_line, end_step, ready_step, phase_step, is_pending}
+use Rattle.grs_node.specs.Node.{may_go, prepare, finish_quiet, finish, first_node}
 use Rattle.grs_wire.specs.Masks.{has}
 use Rattle.grs_wire.specs.declared.deck.Deck.{Deck}
 use Rattle.grs_wire.specs.declared.deck.Event.{Event}
 use Rattle.grs_wire.specs.declared.history.HistEntry.{HistEntry}
 use Rattle.grs_wire.specs.declared.history.HistEntry.TheVariants.{Enq}
 use Rattle.grs_wire.specs.declared.seen.TaskEnd.TheVariants.{Waits}
-use Rattle.task_state.specs.Replies.{tell_code, record_enq, after_code, replied, passes_wait, tell_line, tell_untold, tell_control, tell_all, tell_new}
-use Rattle.task_state.specs.View.{state_of, with_state, with_line, with_phase, with_outstanding, with_record, without_record, with_told, with_exclusive, telling}
+use Rattle.task_state.specs.Replies.{tell_code, record_enq, after_code, replied, passes_wait, tell_line, tell_untold}
+use Rattle.task_state.specs.Replies.{tell_control, tell_all, tell_new}
+use Rattle.task_state.specs.View.{state_of, with_state, with_line, with_phase, with_outstanding, with_record}
+use Rattle.task_state.specs.View.{without_record, with_told, with_exclusive, telling}
 use Rattle.grs_world.specs.Agree.{lines_of_told}
 use Rattle.grs_world.specs.AtRest.{first_uncoded, goes_on_with, is_coded, is_reserve, lists_after, unit_count}
 use Rattle.grs_world.specs.Running.{at_rest, task_end, units_of}
@@ -48,13 +51,14 @@ abbrev excluded : ℕ → RnlEntry
 excluded r = record { which = which.Excl; form = Specific; q = 86 ∷ []; r = Some (r ∷ []) }
 
 abbrev crossed : Deck
-crossed = record (deck_of (((reserve 49 6657 ∷ reserve 50 6658 ∷ []) ∷ (reserve 50 6658 ∷ reserve 49 6657 ∷ []) ∷ []) ∷ [])) {
-  lists = record {
-    incl = no_entries which.Incl;
-    excl = record { which = which.Excl; entries = excluded 49 ∷ excluded 50 ∷ [] };
-    con = no_entries which.Con;
-  };
-}
+crossed =
+    record (deck_of (((reserve 49 6657 ∷ reserve 50 6658 ∷ []) ∷ (reserve 50 6658 ∷ reserve 49 6657 ∷ []) ∷ []) ∷ [])) {
+      lists = record {
+        incl = no_entries which.Incl;
+        excl = record { which = which.Excl; entries = excluded 49 ∷ excluded 50 ∷ [] };
+        con = no_entries which.Con;
+      };
+    }
 
 abbrev both : List Event
 both = goes 0 0 ∷ goes 0 1 ∷ goes 0 0 ∷ goes 0 1 ∷ []
@@ -68,8 +72,8 @@ script = unwrap_or (lines_of crossed first) []
 abbrev asked : List HistEntry
 asked = line_entries first (hist crossed both)
 
--- Each has one volume and waits for the other: the first is told control of its own and no code of its second line, and goes
--- on only with the other. Line 0, which there isn't, would have the entry of line 1.
+-- Each has one volume and waits for the other: the first is told control of its own and no code of its second line, and
+-- goes on only with the other. Line 0, which there isn't, would have the entry of line 1.
 pub crosses :
     (at_rest crossed (run crossed both) ≡ true)
     × (at_rest crossed (run crossed (goes 0 0 ∷ goes 0 1 ∷ [])) ≡ false)
@@ -90,12 +94,37 @@ pub crosses :
     × (count_by (is_reserve crossed (hist crossed both) (system 0) 6657) (lists_after crossed both) ≡ 1)
     × (unit_count (system 0) 6659 (units_of (run crossed both).nodes) ≡ 0)
     × (count_by (is_reserve crossed (hist crossed both) (system 0) 6659) (lists_after crossed both) ≡ 0)
-unfolding state_of with_state with_line with_phase with_record telling tell_code record_enq after_code replied tell_all tell_new decide ask take_line end_step ready_step phase_step is_pending may_go prepare finish_quiet finish has medium_at_end first_node first_world carry_out chosen placed happens_at happens at_rest
-crosses = (refl, refl, refl, refl, refl, refl, refl, refl, refl, refl, refl, refl, refl, refl, refl, refl, refl, refl, refl)
+unfolding state_of with_state with_line with_phase with_record telling tell_code record_enq after_code replied tell_all
+    tell_new decide ask take_line end_step ready_step phase_step is_pending may_go prepare finish_quiet finish has
+    medium_at_end first_node first_world carry_out chosen placed happens_at happens at_rest
+crosses = (
+  refl,
+  refl,
+  refl,
+  refl,
+  refl,
+  refl,
+  refl,
+  refl,
+  refl,
+  refl,
+  refl,
+  refl,
+  refl,
+  refl,
+  refl,
+  refl,
+  refl,
+  refl,
+  refl,
+)
 
 -- a task that is to get two resources by ECB, which the other has, and waits for the one and then for the other
 abbrev waits_twice : Deck
-waits_twice = deck_of (((enq 65 E System RetNone ∷ enq 66 E System RetNone ∷ deq 65 System ∷ []) ∷ (enq 65 E System RetEcb ∷ enq 66 E System RetEcb ∷ wait_for 65 ∷ wait_for 66 ∷ []) ∷ []) ∷ [])
+waits_twice =
+    deck_of (((enq 65 E System RetNone ∷ enq 66 E System RetNone ∷ deq 65 System ∷ [])
+    ∷ (enq 65 E System RetEcb ∷ enq 66 E System RetEcb ∷ wait_for 65 ∷ wait_for 66 ∷ []) ∷ [])
+    ∷ [])
 
 abbrev held_first : List Event
 held_first = goes 0 0 ∷ goes 0 0 ∷ goes 0 1 ∷ goes 0 1 ∷ goes 0 1 ∷ []
@@ -110,14 +139,26 @@ second = task_of 0 1
 abbrev its_lines : List Meaning
 its_lines = unwrap_or (lines_of waits_twice second) []
 
--- It goes on only with the resource of the first WAIT line that has no code line: the one behind it is no reason to wait.
+-- It goes on only with the resource of the first WAIT line that has no code line: the one behind it is no reason to
+-- wait.
 pub waits_in_order :
     (first_uncoded second its_lines (lines_of_told (told waits_twice held_first)) ≡ Some 3)
-    × (goes_on_with second its_lines (hist waits_twice held_first) (lines_of_told (told waits_twice held_first)) (own 65) ≡ true)
-    × (goes_on_with second its_lines (hist waits_twice held_first) (lines_of_told (told waits_twice held_first)) (own 66) ≡ false)
+    × (goes_on_with second its_lines (hist waits_twice held_first) (lines_of_told (told waits_twice held_first))
+    (own 65)
+    ≡ true)
+    × (goes_on_with second its_lines (hist waits_twice held_first) (lines_of_told (told waits_twice held_first))
+    (own 66)
+    ≡ false)
     × (first_uncoded second its_lines (lines_of_told (told waits_twice held_second)) ≡ Some 4)
-    × (goes_on_with second its_lines (hist waits_twice held_second) (lines_of_told (told waits_twice held_second)) (own 65) ≡ false)
-    × (goes_on_with second its_lines (hist waits_twice held_second) (lines_of_told (told waits_twice held_second)) (own 66) ≡ true)
+    × (goes_on_with second its_lines (hist waits_twice held_second) (lines_of_told (told waits_twice held_second))
+    (own 65)
+    ≡ false)
+    × (goes_on_with second its_lines (hist waits_twice held_second) (lines_of_told (told waits_twice held_second))
+    (own 66)
+    ≡ true)
     × (task_end (run waits_twice held_second).medium.removed (run waits_twice held_second).nodes second ≡ Waits)
-unfolding state_of with_state with_line with_phase with_outstanding with_record without_record with_told with_exclusive telling tell_code record_enq after_code replied passes_wait tell_line tell_untold tell_control tell_all tell_new decide post ask wait take_line end_step ready_step phase_step may_go prepare finish_quiet finish has first_node first_world carry_out chosen placed happens_at happens
+unfolding state_of with_state with_line with_phase with_outstanding with_record without_record with_told with_exclusive
+    telling tell_code record_enq after_code replied passes_wait tell_line tell_untold tell_control tell_all tell_new
+    decide post ask wait take_line end_step ready_step phase_step may_go prepare finish_quiet finish has first_node
+    first_world carry_out chosen placed happens_at happens
 waits_in_order = (refl, refl, refl, refl, refl, refl, refl)

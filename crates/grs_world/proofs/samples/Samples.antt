@@ -21,7 +21,9 @@ use Rattle.grs_base.specs.declared.rnl.RnlEntry.{RnlEntry}
 use Rattle.grs_base.specs.Rnl.{no_entries}
 use Rattle.grs_medium.specs.Apply.{turn_row, rest_row, row, apply, reply_to}
 use Rattle.grs_medium.specs.Medium.{medium_at_end}
-use Rattle.grs_node.specs.Node.{decide, post, ask, wait, take_line, end_step, ready_step, phase_step, is_pending, may_go, prepare, finish_quiet, read_entries, all_sent, put_in, finish_star, finish_call, finish, first_node, turned as system_turned}
+use Rattle.grs_node.specs.Node.{decide, post, ask, wait, take_line, end_step, ready_step, phase_step, is_pending}
+use Rattle.grs_node.specs.Node.{may_go, prepare, finish_quiet, read_entries, all_sent, put_in, finish_star, finish_call}
+use Rattle.grs_node.specs.Node.{finish, first_node, turned as system_turned}
 use Rattle.grs_wire.specs.Masks.{has, without, with_also}
 use Rattle.grs_wire.specs.declared.deck.Deck.{Deck}
 use Rattle.grs_wire.specs.declared.deck.Event.{Event}
@@ -35,11 +37,14 @@ use Rattle.grs_wire.specs.declared.told.ToldLine.{ToldLine}
 use Rattle.grs_wire.specs.declared.told.ToldLine.TheVariants.{Coded, Post, Ended}
 use Rattle.grs_wire.specs.declared.told.Verb.TheVariants as verbs
 use Rattle.ring_mode.specs.Ring.{answer_own, process, process_entry}
-use Rattle.rsa_message.specs.Message.{first_after, any_unseen, cleared, stamped, turn_reply, wakes, rest_after_turn, turned}
+use Rattle.rsa_message.specs.Message.{first_after, any_unseen, cleared, stamped, turn_reply, wakes, rest_after_turn}
+use Rattle.rsa_message.specs.Message.{turned}
 use Rattle.grs_wire.specs.Unseen.{unseen}
 use Rattle.task_state.specs.declared.state.Rec.{Rec}
-use Rattle.task_state.specs.Replies.{tell_code, record_enq, after_code, replied, passes_wait, tell_line, tell_untold, tell_control, tell_all, tell_new, recalled, tell_answer, tell_answer_any}
-use Rattle.task_state.specs.View.{state_of, with_state, with_line, with_phase, with_outstanding, with_record, without_record, with_told, with_exclusive, telling}
+use Rattle.task_state.specs.Replies.{tell_code, record_enq, after_code, replied, passes_wait, tell_line, tell_untold}
+use Rattle.task_state.specs.Replies.{tell_control, tell_all, tell_new, recalled, tell_answer, tell_answer_any}
+use Rattle.task_state.specs.View.{state_of, with_state, with_line, with_phase, with_outstanding, with_record}
+use Rattle.task_state.specs.View.{without_record, with_told, with_exclusive, telling}
 use Rattle.grs_world.specs.World.{World, first_world, carry_out, chosen, placed, happens_at, happens, run, hist, told}
 
 abbrev pub system : ℕ → SysId
@@ -72,7 +77,13 @@ deck_of systems = record {
   entries = 1;
   limit = 4096;
   lists = record { incl = no_entries which.Incl; excl = no_entries which.Excl; con = no_entries which.Con };
-  systems = map (λ tasks. record { name = 83 ∷ []; desk = []; jobs = record { name = 74 ∷ []; tasks = map (λ ls. record { name = 84 ∷ []; lines = ls }) tasks } ∷ [] }) systems;
+  systems =
+      map (λ tasks. record {
+        name = 83 ∷ [];
+        desk = [];
+        jobs = record { name = 74 ∷ []; tasks = map (λ ls. record { name = 84 ∷ []; lines = ls }) tasks } ∷ [];
+      })
+      systems;
   events = [];
 }
 
@@ -97,35 +108,55 @@ records w = map (λ n. map (λ t. t.records) n.tasks.tasks) w.nodes
 -- ---- one system with resources of its own
 -- a waiting exclusive ECB holds a later shared request; the end of its task lets that one in
 abbrev behind_ecb : Deck
-behind_ecb = deck_of (((enq 66 S System RetNone ∷ []) ∷ (enq 66 E System RetEcb ∷ []) ∷ (enq 66 S System RetNone ∷ []) ∷ []) ∷ [])
+behind_ecb =
+    deck_of (((enq 66 S System RetNone ∷ []) ∷ (enq 66 E System RetEcb ∷ []) ∷ (enq 66 S System RetNone ∷ []) ∷ [])
+    ∷ [])
 
 -- codes 08 and 14, and an end with 138
 abbrev two_codes : Deck
-two_codes = deck_of (((enq 66 E System RetNone ∷ enq 66 E System RetHave ∷ []) ∷ (enq 66 E System RetEcb ∷ enq 66 E System RetHave ∷ enq 66 E System RetNone ∷ []) ∷ []) ∷ [])
+two_codes =
+    deck_of (((enq 66 E System RetNone ∷ enq 66 E System RetHave ∷ [])
+    ∷ (enq 66 E System RetEcb ∷ enq 66 E System RetHave ∷ enq 66 E System RetNone ∷ []) ∷ [])
+    ∷ [])
 
 -- a task that is held at a WAIT line for its ECB; its first WAIT is for nothing that it asked for
 abbrev waits_for_ecb : Deck
-waits_for_ecb = deck_of (((enq 66 E System RetNone ∷ deq 66 System ∷ []) ∷ (wait_for 66 ∷ enq 66 E System RetEcb ∷ wait_for 66 ∷ []) ∷ []) ∷ [])
+waits_for_ecb =
+    deck_of (((enq 66 E System RetNone ∷ deq 66 System ∷ []) ∷ (wait_for 66 ∷ enq 66 E System RetEcb ∷ wait_for 66 ∷ [])
+    ∷ [])
+    ∷ [])
 
 -- two tasks, each of which asks for what the other has
 abbrev deadlock : Deck
-deadlock = deck_of (((enq 88 E System RetNone ∷ enq 89 E System RetNone ∷ []) ∷ (enq 89 E System RetNone ∷ enq 88 E System RetNone ∷ []) ∷ []) ∷ [])
+deadlock =
+    deck_of (((enq 88 E System RetNone ∷ enq 89 E System RetNone ∷ [])
+    ∷ (enq 89 E System RetNone ∷ enq 88 E System RetNone ∷ []) ∷ [])
+    ∷ [])
 
 pub samples :
     (hist behind_ecb (goes 0 0 ∷ goes 0 1 ∷ goes 0 2 ∷ goes 0 1 ∷ goes 0 1 ∷ [])
-    ≡ Enq (task_of 0 0) (own 66) S RetNone C00 ∷ Enq (task_of 0 1) (own 66) E RetEcb C04 ∷ Enq (task_of 0 2) (own 66) S RetNone Wait ∷ Release (task_of 0 1) (own 66) ∷ [])
+    ≡ Enq (task_of 0 0) (own 66) S RetNone C00 ∷ Enq (task_of 0 1) (own 66) E RetEcb C04
+    ∷ Enq (task_of 0 2) (own 66) S RetNone Wait ∷ Release (task_of 0 1) (own 66) ∷ [])
     × (told behind_ecb (goes 0 0 ∷ goes 0 1 ∷ goes 0 2 ∷ goes 0 1 ∷ goes 0 1 ∷ [])
-    ≡ at 1 0 (Coded (task_of 0 0) 1 0 verbs.Enq C00) ∷ at 2 0 (Coded (task_of 0 1) 1 0 verbs.Enq C04) ∷ at 4 0 (Coded (task_of 0 2) 1 0 verbs.Enq C00) ∷ at 5 0 (Ended (task_of 0 1) 0) ∷ [])
+    ≡ at 1 0 (Coded (task_of 0 0) 1 0 verbs.Enq C00) ∷ at 2 0 (Coded (task_of 0 1) 1 0 verbs.Enq C04)
+    ∷ at 4 0 (Coded (task_of 0 2) 1 0 verbs.Enq C00) ∷ at 5 0 (Ended (task_of 0 1) 0) ∷ [])
     × (told two_codes (goes 0 0 ∷ goes 0 0 ∷ goes 0 1 ∷ goes 0 1 ∷ goes 0 1 ∷ goes 0 1 ∷ goes 0 1 ∷ [])
-    ≡ at 1 0 (Coded (task_of 0 0) 1 0 verbs.Enq C00) ∷ at 2 0 (Coded (task_of 0 0) 2 0 verbs.Enq C08) ∷ at 3 0 (Coded (task_of 0 1) 1 0 verbs.Enq C04)
-    ∷ at 4 0 (Coded (task_of 0 1) 2 0 verbs.Enq C14) ∷ at 5 0 (Coded (task_of 0 1) 3 0 verbs.Enq (End 138)) ∷ at 7 0 (Ended (task_of 0 1) 138) ∷ [])
+    ≡ at 1 0 (Coded (task_of 0 0) 1 0 verbs.Enq C00) ∷ at 2 0 (Coded (task_of 0 0) 2 0 verbs.Enq C08)
+    ∷ at 3 0 (Coded (task_of 0 1) 1 0 verbs.Enq C04)
+    ∷ at 4 0 (Coded (task_of 0 1) 2 0 verbs.Enq C14) ∷ at 5 0 (Coded (task_of 0 1) 3 0 verbs.Enq (End 138))
+    ∷ at 7 0 (Ended (task_of 0 1) 138) ∷ [])
     -- the post comes first, then the 00 of the WAIT line
     × (told waits_for_ecb (goes 0 0 ∷ goes 0 1 ∷ goes 0 1 ∷ goes 0 1 ∷ goes 0 1 ∷ goes 0 0 ∷ [])
-    ≡ at 1 0 (Coded (task_of 0 0) 1 0 verbs.Enq C00) ∷ at 2 0 (Coded (task_of 0 1) 1 0 verbs.Wait C08) ∷ at 3 0 (Coded (task_of 0 1) 2 0 verbs.Enq C04)
-    ∷ at 6 0 (Coded (task_of 0 0) 2 0 verbs.Deq C00) ∷ at 6 0 (Post (task_of 0 1) 2) ∷ at 6 0 (Coded (task_of 0 1) 3 0 verbs.Wait C00) ∷ [])
+    ≡ at 1 0 (Coded (task_of 0 0) 1 0 verbs.Enq C00) ∷ at 2 0 (Coded (task_of 0 1) 1 0 verbs.Wait C08)
+    ∷ at 3 0 (Coded (task_of 0 1) 2 0 verbs.Enq C04)
+    ∷ at 6 0 (Coded (task_of 0 0) 2 0 verbs.Deq C00) ∷ at 6 0 (Post (task_of 0 1) 2)
+    ∷ at 6 0 (Coded (task_of 0 1) 3 0 verbs.Wait C00) ∷ [])
     × (told deadlock (goes 0 0 ∷ goes 0 1 ∷ goes 0 0 ∷ goes 0 1 ∷ goes 0 0 ∷ [])
     ≡ at 1 0 (Coded (task_of 0 0) 1 0 verbs.Enq C00) ∷ at 2 0 (Coded (task_of 0 1) 1 0 verbs.Enq C00) ∷ [])
-unfolding state_of with_state with_line with_phase with_outstanding with_record without_record with_told with_exclusive telling tell_code record_enq after_code replied passes_wait tell_line tell_untold tell_control tell_all tell_new decide post ask wait take_line end_step ready_step phase_step may_go prepare finish_quiet finish has first_node first_world carry_out chosen placed happens_at happens
+unfolding state_of with_state with_line with_phase with_outstanding with_record without_record with_told with_exclusive
+    telling tell_code record_enq after_code replied passes_wait tell_line tell_untold tell_control tell_all tell_new
+    decide post ask wait take_line end_step ready_step phase_step may_go prepare finish_quiet finish has first_node
+    first_world carry_out chosen placed happens_at happens
 samples = (refl, refl, refl, refl, refl)
 
 -- ---- RESERVE of volumes
@@ -157,11 +188,21 @@ volumes = record (deck_of (((reserve 49 6657 ∷ reserve 50 6658 ∷ reserve 51 
 -- The excluded volume is the system's own, and its unit is reserved. The converted one goes through the message,
 -- without its unit: it has its place in the history at event 3, and is told at event 4.
 reserves :
-    (hist volumes (goes 0 0 ∷ goes 0 0 ∷ turn 0 ∷ turn 0 ∷ []) ≡ Enq (task_of 0 0) (own_volume 49) E RetNone C00 ∷ Enq (task_of 0 0) (shared_volume 50) E RetNone C00 ∷ [])
-    × (told volumes (goes 0 0 ∷ goes 0 0 ∷ turn 0 ∷ turn 0 ∷ []) ≡ at 1 0 (Coded (task_of 0 0) 1 0 verbs.Enq C00) ∷ at 4 0 (Coded (task_of 0 0) 2 0 verbs.Enq C00) ∷ [])
+    (hist volumes (goes 0 0 ∷ goes 0 0 ∷ turn 0 ∷ turn 0 ∷ [])
+    ≡ Enq (task_of 0 0) (own_volume 49) E RetNone C00 ∷ Enq (task_of 0 0) (shared_volume 50) E RetNone C00 ∷ [])
+    × (told volumes (goes 0 0 ∷ goes 0 0 ∷ turn 0 ∷ turn 0 ∷ [])
+    ≡ at 1 0 (Coded (task_of 0 0) 1 0 verbs.Enq C00) ∷ at 4 0 (Coded (task_of 0 0) 2 0 verbs.Enq C00) ∷ [])
     × (records (run volumes (goes 0 0 ∷ goes 0 0 ∷ turn 0 ∷ turn 0 ∷ []))
-    ≡ ((record { res = own_volume 49; ctl = E; rank = 0; told = true; unit = Some 6657; line = 1 } ∷ record { res = shared_volume 50; ctl = E; rank = 0; told = true; unit = None; line = 2 } ∷ []) ∷ []) ∷ [])
-unfolding state_of with_state with_line with_phase with_outstanding with_record without_record with_told with_exclusive telling tell_code record_enq after_code replied passes_wait tell_line tell_untold tell_control tell_all tell_new recalled tell_answer tell_answer_any answer_own process process_entry decide post ask wait take_line end_step ready_step phase_step may_go prepare finish_quiet read_entries system_turned all_sent put_in finish_call finish has without with_also first_after unseen any_unseen cleared stamped turn_reply wakes rest_after_turn turned turn_row row apply first_node first_world carry_out chosen placed happens_at happens
+    ≡ ((record { res = own_volume 49; ctl = E; rank = 0; told = true; unit = Some 6657; line = 1 }
+    ∷ record { res = shared_volume 50; ctl = E; rank = 0; told = true; unit = None; line = 2 } ∷ [])
+    ∷ [])
+    ∷ [])
+unfolding state_of with_state with_line with_phase with_outstanding with_record without_record with_told with_exclusive
+    telling tell_code record_enq after_code replied passes_wait tell_line tell_untold tell_control tell_all tell_new
+    recalled tell_answer tell_answer_any answer_own process process_entry decide post ask wait take_line end_step
+    ready_step phase_step may_go prepare finish_quiet read_entries system_turned all_sent put_in finish_call finish has
+    without with_also first_after unseen any_unseen cleared stamped turn_reply wakes rest_after_turn turned turn_row row
+    apply first_node first_world carry_out chosen placed happens_at happens
 reserves = (refl, refl, refl)
 
 -- ---- a ring
@@ -175,7 +216,8 @@ at_once_events = goes 1 0 ∷ goes 0 0 ∷ turn 0 ∷ turn 1 ∷ turn 2 ∷ turn
 
 -- One task asks for a resource and gives it back, and a task of the next system waits for it meanwhile.
 abbrev ring_of_three : Deck
-ring_of_three = deck_of (((enq 66 E Systems RetNone ∷ deq 66 Systems ∷ []) ∷ []) ∷ ((enq 66 E Systems RetNone ∷ []) ∷ []) ∷ [] ∷ [])
+ring_of_three =
+    deck_of (((enq 66 E Systems RetNone ∷ deq 66 Systems ∷ []) ∷ []) ∷ ((enq 66 E Systems RetNone ∷ []) ∷ []) ∷ [] ∷ [])
 
 abbrev ring_events : List Event
 ring_events =
@@ -184,7 +226,9 @@ ring_events =
 
 -- The first task gives the resource back while the second, which has an ECB, is about to.
 abbrev about_to_leave : Deck
-about_to_leave = deck_of (((enq 66 E Systems RetNone ∷ deq 66 Systems ∷ []) ∷ []) ∷ ((enq 66 E Systems RetEcb ∷ deq 66 Systems ∷ []) ∷ []) ∷ [])
+about_to_leave =
+    deck_of (((enq 66 E Systems RetNone ∷ deq 66 Systems ∷ []) ∷ [])
+    ∷ ((enq 66 E Systems RetEcb ∷ deq 66 Systems ∷ []) ∷ []) ∷ [])
 
 -- up to where both have asked for their DEQ and the first of these is in the message; then the message goes on
 abbrev both_leave : List Event
@@ -198,21 +242,33 @@ abbrev asked_first : Bool → Rec
 asked_first is_told = record { res = shared 66; ctl = E; rank = 0; told = is_told; unit = None; line = 1 }
 
 rings :
-    (hist at_once at_once_events ≡ Enq (task_of 0 0) (shared 66) E RetUse C00 ∷ Enq (task_of 1 0) (shared 66) E RetUse C04 ∷ [])
-    × (told at_once at_once_events ≡ at 6 0 (Coded (task_of 0 0) 1 0 verbs.Enq C00) ∷ at 7 1 (Coded (task_of 1 0) 1 0 verbs.Enq C04) ∷ [])
+    (hist at_once at_once_events
+    ≡ Enq (task_of 0 0) (shared 66) E RetUse C00 ∷ Enq (task_of 1 0) (shared 66) E RetUse C04 ∷ [])
+    × (told at_once at_once_events
+    ≡ at 6 0 (Coded (task_of 0 0) 1 0 verbs.Enq C00) ∷ at 7 1 (Coded (task_of 1 0) 1 0 verbs.Enq C04) ∷ [])
     × (hist ring_of_three ring_events
-    ≡ Enq (task_of 0 0) (shared 66) E RetNone C00 ∷ Enq (task_of 1 0) (shared 66) E RetNone Wait ∷ Deq (task_of 0 0) (shared 66) false C00 ∷ Release (task_of 1 0) (shared 66) ∷ [])
+    ≡ Enq (task_of 0 0) (shared 66) E RetNone C00 ∷ Enq (task_of 1 0) (shared 66) E RetNone Wait
+    ∷ Deq (task_of 0 0) (shared 66) false C00 ∷ Release (task_of 1 0) (shared 66) ∷ [])
     × (told ring_of_three ring_events
-    ≡ at 6 0 (Coded (task_of 0 0) 1 0 verbs.Enq C00) ∷ at 11 1 (Coded (task_of 1 0) 1 0 verbs.Enq C00) ∷ at 13 0 (Coded (task_of 0 0) 2 0 verbs.Deq C00)
+    ≡ at 6 0 (Coded (task_of 0 0) 1 0 verbs.Enq C00) ∷ at 11 1 (Coded (task_of 1 0) 1 0 verbs.Enq C00)
+    ∷ at 13 0 (Coded (task_of 0 0) 2 0 verbs.Deq C00)
     ∷ at 14 0 (Ended (task_of 0 0) 0) ∷ at 20 1 (Ended (task_of 1 0) 0) ∷ [])
     × (hist about_to_leave (both_leave ++ message_goes_on)
-    ≡ Enq (task_of 0 0) (shared 66) E RetNone C00 ∷ Enq (task_of 1 0) (shared 66) E RetEcb C04 ∷ Deq (task_of 0 0) (shared 66) false C00 ∷ Deq (task_of 1 0) (shared 66) false C00 ∷ [])
+    ≡ Enq (task_of 0 0) (shared 66) E RetNone C00 ∷ Enq (task_of 1 0) (shared 66) E RetEcb C04
+    ∷ Deq (task_of 0 0) (shared 66) false C00 ∷ Deq (task_of 1 0) (shared 66) false C00 ∷ [])
     -- the ECB isn't posted, but the record says that its task is told
     × (told about_to_leave (both_leave ++ message_goes_on)
-    ≡ at 5 0 (Coded (task_of 0 0) 1 0 verbs.Enq C00) ∷ at 6 1 (Coded (task_of 1 0) 1 0 verbs.Enq C04) ∷ at 11 0 (Coded (task_of 0 0) 2 0 verbs.Deq C00) ∷ at 12 1 (Coded (task_of 1 0) 2 0 verbs.Deq C00) ∷ [])
+    ≡ at 5 0 (Coded (task_of 0 0) 1 0 verbs.Enq C00) ∷ at 6 1 (Coded (task_of 1 0) 1 0 verbs.Enq C04)
+    ∷ at 11 0 (Coded (task_of 0 0) 2 0 verbs.Deq C00) ∷ at 12 1 (Coded (task_of 1 0) 2 0 verbs.Deq C00) ∷ [])
     × (records (run about_to_leave both_leave) ≡ ((asked_first true ∷ []) ∷ []) ∷ ((asked_first false ∷ []) ∷ []) ∷ [])
-    × (records (run about_to_leave (both_leave ++ turn 1 ∷ [])) ≡ ((asked_first true ∷ []) ∷ []) ∷ ((asked_first true ∷ []) ∷ []) ∷ [])
-unfolding state_of with_state with_line with_phase with_outstanding with_record without_record with_told with_exclusive telling tell_code record_enq after_code replied passes_wait tell_line tell_untold tell_control tell_all tell_new recalled tell_answer tell_answer_any answer_own process process_entry decide post ask wait take_line end_step ready_step phase_step may_go prepare finish_quiet read_entries system_turned all_sent put_in finish_call finish has without with_also first_after unseen any_unseen cleared stamped turn_reply wakes rest_after_turn turned turn_row row apply first_node first_world carry_out chosen placed happens_at happens
+    × (records (run about_to_leave (both_leave ++ turn 1 ∷ []))
+    ≡ ((asked_first true ∷ []) ∷ []) ∷ ((asked_first true ∷ []) ∷ []) ∷ [])
+unfolding state_of with_state with_line with_phase with_outstanding with_record without_record with_told with_exclusive
+    telling tell_code record_enq after_code replied passes_wait tell_line tell_untold tell_control tell_all tell_new
+    recalled tell_answer tell_answer_any answer_own process process_entry decide post ask wait take_line end_step
+    ready_step phase_step may_go prepare finish_quiet read_entries system_turned all_sent put_in finish_call finish has
+    without with_also first_after unseen any_unseen cleared stamped turn_reply wakes rest_after_turn turned turn_row row
+    apply first_node first_world carry_out chosen placed happens_at happens
 rings = (refl, refl, refl, refl, refl, refl, refl, refl)
 
 -- ---- rest
@@ -234,5 +290,6 @@ rests :
     × (told idle_systems (rest 0 ∷ rest 1 ∷ []) ≡ [])
     × (hist idle_systems (rest 0 ∷ rest 1 ∷ []) ≡ [])
     × ((run at_once (rest 0 ∷ rest 2 ∷ [])).medium.rest ≡ 4)
-unfolding has with_also medium_at_end rest_row row apply is_pending prepare finish_star finish_call finish first_node first_world carry_out chosen placed happens_at happens
+unfolding has with_also medium_at_end rest_row row apply is_pending prepare finish_star finish_call finish first_node
+    first_world carry_out chosen placed happens_at happens
 rests = (refl, refl, refl, refl, refl, refl, refl)

@@ -1,5 +1,5 @@
--- Worked runs in star mode, by which the definitions are checked: each history, each told line and each lock word is what
--- the rules of the service give by hand.
+-- Worked runs in star mode, by which the definitions are checked: each history, each told line and each lock word is
+-- what the rules of the service give by hand.
 use Rattle.std.proofs.Common.{◌≡◌, ℕ, true, false, List, [], ◌∷◌, ◌++◌, map, drop, refl}
 use Rattle.grs_base.specs.declared.decision.Code.TheVariants.{C00, C04, Wait}
 use Rattle.grs_base.specs.declared.line.Line.{Line}
@@ -10,7 +10,8 @@ use Rattle.grs_base.specs.declared.resource.Elem.{Elem}
 use Rattle.grs_base.specs.declared.resource.Ret.TheVariants.{RetNone, RetEcb}
 use Rattle.grs_medium.specs.Apply.{row, apply, reply_to, submit_row, take_row, mail_row, leave_row, rest_row}
 use Rattle.grs_medium.specs.Medium.{medium_at_end}
-use Rattle.grs_node.specs.Node.{post, ask, take_line, end_step, ready_step, phase_step, is_pending, may_go, may_send, star_call, prepare, finish_quiet, finish_star, finish_call, finish, first_node}
+use Rattle.grs_node.specs.Node.{post, ask, take_line, end_step, ready_step, phase_step, is_pending, may_go, may_send}
+use Rattle.grs_node.specs.Node.{star_call, prepare, finish_quiet, finish_star, finish_call, finish, first_node}
 use Rattle.grs_node.specs.Star.{decide_own, took_mail}
 use Rattle.grs_wire.specs.LockWords.{manager, lock_word, submitted, leave_reply, leave_changes, left_word}
 use Rattle.grs_wire.specs.Masks.{has, without, with_also}
@@ -24,8 +25,10 @@ use Rattle.grs_wire.specs.declared.told.ToldLine.TheVariants.{Coded, Post, Ended
 use Rattle.grs_wire.specs.declared.told.Verb.TheVariants as verbs
 use Rattle.lock_structure.specs.Words.{route}
 use Rattle.star_client.specs.Client.{tell_answer_ranked, after_mail}
-use Rattle.task_state.specs.Replies.{tell_code, record_enq, after_code, replied, passes_wait, tell_line, tell_untold, tell_control, tell_all, tell_new, recalled, tell_answer, tell_answer_any}
-use Rattle.task_state.specs.View.{state_of, with_state, with_line, with_phase, with_outstanding, with_record, without_record, with_told, with_exclusive, with_rank, telling}
+use Rattle.task_state.specs.Replies.{tell_code, record_enq, after_code, replied, passes_wait, tell_line, tell_untold}
+use Rattle.task_state.specs.Replies.{tell_control, tell_all, tell_new, recalled, tell_answer, tell_answer_any}
+use Rattle.task_state.specs.View.{state_of, with_state, with_line, with_phase, with_outstanding, with_record}
+use Rattle.task_state.specs.View.{without_record, with_told, with_exclusive, with_rank, telling}
 use Rattle.grs_world.specs.Kept.{kept, places}
 use Rattle.grs_world.specs.Running.{at_rest}
 use Rattle.grs_world.specs.World.{first_world, carry_out, chosen, placed, happens_at, happens, run, hist, told}
@@ -57,18 +60,25 @@ star_of systems = record (deck_of systems) { star = true }
 -- ---- two systems that don't meet
 -- The first manages the entry; the second asks it, and both leave.
 abbrev apart : Deck
-apart = star_of (((enq 49 E Systems RetNone ∷ deq 49 Systems ∷ []) ∷ []) ∷ ((enq 50 E Systems RetNone ∷ deq 50 Systems ∷ []) ∷ []) ∷ [])
+apart =
+    star_of (((enq 49 E Systems RetNone ∷ deq 49 Systems ∷ []) ∷ [])
+    ∷ ((enq 50 E Systems RetNone ∷ deq 50 Systems ∷ []) ∷ []) ∷ [])
 
 abbrev asked : List Event
-asked = goes 0 0 ∷ sends 0 0 ∷ goes 1 0 ∷ sends 1 0 ∷ takes 0 ∷ settles 0 ∷ takes 1 ∷ goes 0 0 ∷ sends 0 0 ∷ goes 1 0 ∷ sends 1 0 ∷ takes 0 ∷ settles 0 ∷ takes 1 ∷ []
+asked =
+    goes 0 0 ∷ sends 0 0 ∷ goes 1 0 ∷ sends 1 0 ∷ takes 0 ∷ settles 0 ∷ takes 1 ∷ goes 0 0 ∷ sends 0 0 ∷ goes 1 0
+    ∷ sends 1 0 ∷ takes 0 ∷ settles 0 ∷ takes 1 ∷ []
 
 abbrev left : List Event
 left = leaves 0 ∷ leaves 1 ∷ leaves 0 ∷ goes 0 0 ∷ goes 1 0 ∷ rest 0 ∷ []
 
 lonely :
-    (hist apart (asked ++ left) ≡ Enq (task_of 0 0) (shared 49) E RetNone C00 ∷ Enq (task_of 1 0) (shared 50) E RetNone C00 ∷ Deq (task_of 0 0) (shared 49) false C00 ∷ Deq (task_of 1 0) (shared 50) false C00 ∷ [])
+    (hist apart (asked ++ left)
+    ≡ Enq (task_of 0 0) (shared 49) E RetNone C00 ∷ Enq (task_of 1 0) (shared 50) E RetNone C00
+    ∷ Deq (task_of 0 0) (shared 49) false C00 ∷ Deq (task_of 1 0) (shared 50) false C00 ∷ [])
     × (told apart (asked ++ left)
-    ≡ at 2 0 (Coded (task_of 0 0) 1 0 verbs.Enq C00) ∷ at 7 1 (Coded (task_of 1 0) 1 0 verbs.Enq C00) ∷ at 9 0 (Coded (task_of 0 0) 2 0 verbs.Deq C00) ∷ at 14 1 (Coded (task_of 1 0) 2 0 verbs.Deq C00)
+    ≡ at 2 0 (Coded (task_of 0 0) 1 0 verbs.Enq C00) ∷ at 7 1 (Coded (task_of 1 0) 1 0 verbs.Enq C00)
+    ∷ at 9 0 (Coded (task_of 0 0) 2 0 verbs.Deq C00) ∷ at 14 1 (Coded (task_of 1 0) 2 0 verbs.Deq C00)
     ∷ at 18 0 (Ended (task_of 0 0) 0) ∷ at 19 1 (Ended (task_of 1 0) 0) ∷ [])
     × ((run apart asked).medium.words ≡ 259 ∷ [])
     -- the manager doesn't leave the other behind
@@ -77,18 +87,28 @@ lonely :
     × ((run apart (asked ++ leaves 0 ∷ leaves 1 ∷ [])).medium.words ≡ 257 ∷ [])
     × ((run apart (asked ++ left)).medium.words ≡ 0 ∷ [])
     × (reply_to (run apart (asked ++ left)).medium (system 1) (record { known = 0; act = acts.Rest }) ≡ replies.Over)
-unfolding state_of with_state with_line with_phase with_outstanding with_record without_record with_told with_exclusive with_rank telling tell_code record_enq after_code replied passes_wait tell_line tell_untold tell_control tell_all tell_new recalled tell_answer tell_answer_any tell_answer_ranked after_mail decide_own took_mail post ask take_line end_step ready_step phase_step is_pending may_go may_send star_call prepare finish_quiet finish_star finish_call finish has without with_also manager lock_word submitted leave_reply leave_changes left_word route submit_row take_row mail_row leave_row medium_at_end rest_row row apply first_node first_world carry_out chosen placed happens_at happens
+unfolding state_of with_state with_line with_phase with_outstanding with_record without_record with_told with_exclusive
+    with_rank telling tell_code record_enq after_code replied passes_wait tell_line tell_untold tell_control tell_all
+    tell_new recalled tell_answer tell_answer_any tell_answer_ranked after_mail decide_own took_mail post ask take_line
+    end_step ready_step phase_step is_pending may_go may_send star_call prepare finish_quiet finish_star finish_call
+    finish has without with_also manager lock_word submitted leave_reply leave_changes left_word route submit_row
+    take_row mail_row leave_row medium_at_end rest_row row apply first_node first_world carry_out chosen placed
+    happens_at happens
 lonely = (refl, refl, refl, refl, refl, refl, refl, refl)
 
 -- ---- a wait and two grants
 -- A task of the second system waits for what one of the manager's own has, and is told control once that one gives it
 -- back; another of its tasks asks by ECB behind it, and is posted once the first gives it back too.
 abbrev waiting : Deck
-waiting = star_of (((enq 66 E Systems RetNone ∷ deq 66 Systems ∷ []) ∷ []) ∷ ((enq 66 E Systems RetNone ∷ deq 66 Systems ∷ []) ∷ (enq 66 S Systems RetEcb ∷ []) ∷ []) ∷ [])
+waiting =
+    star_of (((enq 66 E Systems RetNone ∷ deq 66 Systems ∷ []) ∷ [])
+    ∷ ((enq 66 E Systems RetNone ∷ deq 66 Systems ∷ []) ∷ (enq 66 S Systems RetEcb ∷ []) ∷ []) ∷ [])
 
 -- the manager's own task owns (event 2), one waits behind it (6), and one asks by ECB behind both (11)
 abbrev asks_all : List Event
-asks_all = goes 0 0 ∷ sends 0 0 ∷ goes 1 0 ∷ sends 1 0 ∷ takes 0 ∷ settles 0 ∷ takes 1 ∷ goes 1 1 ∷ sends 1 1 ∷ takes 0 ∷ settles 0 ∷ takes 1 ∷ []
+asks_all =
+    goes 0 0 ∷ sends 0 0 ∷ goes 1 0 ∷ sends 1 0 ∷ takes 0 ∷ settles 0 ∷ takes 1 ∷ goes 1 1 ∷ sends 1 1 ∷ takes 0
+    ∷ settles 0 ∷ takes 1 ∷ []
 
 -- the manager's own task gives the resource back (event 14), and the next owner is told (16)
 abbrev first_grant : List Event
@@ -98,7 +118,8 @@ first_grant = goes 0 0 ∷ sends 0 0 ∷ tells 0 ∷ takes 1 ∷ []
 abbrev second_grant : List Event
 second_grant = goes 1 0 ∷ sends 1 0 ∷ takes 0 ∷ settles 0 ∷ tells 0 ∷ takes 1 ∷ takes 1 ∷ []
 
--- the tasks end, the last of them once it has released what it has (event 29): the answer to that is in its system's inbox
+-- the tasks end, the last of them once it has released what it has (event 29): the answer to that is in its system's
+-- inbox
 abbrev releases : List Event
 releases = goes 0 0 ∷ goes 1 0 ∷ goes 1 1 ∷ sends 1 1 ∷ takes 0 ∷ settles 0 ∷ []
 
@@ -118,55 +139,87 @@ kept_after es = kept waiting (run waiting es) (system 1) (shared 66)
 abbrev words_after : List Event → List ℕ
 words_after es = (run waiting es).medium.words
 
--- Nothing is told to the task that waits. The word names the first system as the manager, and holds both from the second's
--- first request on.
+-- Nothing is told to the task that waits. The word names the first system as the manager, and holds both from the
+-- second's first request on.
 waits :
-    (hist waiting asks_all ≡ Enq (task_of 0 0) (shared 66) E RetNone C00 ∷ Enq (task_of 1 0) (shared 66) E RetNone Wait ∷ Enq (task_of 1 1) (shared 66) S RetEcb C04 ∷ [])
-    × (told waiting asks_all ≡ at 2 0 (Coded (task_of 0 0) 1 0 verbs.Enq C00) ∷ at 12 1 (Coded (task_of 1 1) 1 0 verbs.Enq C04) ∷ [])
+    (hist waiting asks_all
+    ≡ Enq (task_of 0 0) (shared 66) E RetNone C00 ∷ Enq (task_of 1 0) (shared 66) E RetNone Wait
+    ∷ Enq (task_of 1 1) (shared 66) S RetEcb C04 ∷ [])
+    × (told waiting asks_all
+    ≡ at 2 0 (Coded (task_of 0 0) 1 0 verbs.Enq C00) ∷ at 12 1 (Coded (task_of 1 1) 1 0 verbs.Enq C04) ∷ [])
     × (words_after (goes 0 0 ∷ sends 0 0 ∷ goes 1 0 ∷ []) ≡ 257 ∷ [])
     × (words_after (goes 0 0 ∷ sends 0 0 ∷ goes 1 0 ∷ sends 1 0 ∷ []) ≡ 259 ∷ [])
     × (kept_after asks_all ≡ elem 0 0 E ∷ elem 1 0 E ∷ elem 1 1 S ∷ [])
     × (places waiting asks_all (shared 66) ≡ elem 0 0 E ∷ elem 1 0 E ∷ elem 1 1 S ∷ [])
-unfolding state_of with_state with_line with_phase with_outstanding with_record without_record with_told with_exclusive with_rank telling tell_code record_enq after_code replied passes_wait tell_line tell_untold tell_control tell_all tell_new recalled tell_answer tell_answer_any tell_answer_ranked after_mail decide_own took_mail post ask take_line end_step ready_step phase_step is_pending may_go may_send star_call prepare finish_quiet finish_star finish_call finish has without with_also manager lock_word submitted leave_reply leave_changes left_word route submit_row take_row mail_row leave_row medium_at_end rest_row row apply first_node first_world carry_out chosen placed happens_at happens at_rest
+unfolding state_of with_state with_line with_phase with_outstanding with_record without_record with_told with_exclusive
+    with_rank telling tell_code record_enq after_code replied passes_wait tell_line tell_untold tell_control tell_all
+    tell_new recalled tell_answer tell_answer_any tell_answer_ranked after_mail decide_own took_mail post ask take_line
+    end_step ready_step phase_step is_pending may_go may_send star_call prepare finish_quiet finish_star finish_call
+    finish has without with_also manager lock_word submitted leave_reply leave_changes left_word route submit_row
+    take_row mail_row leave_row medium_at_end rest_row row apply first_node first_world carry_out chosen placed
+    happens_at happens at_rest
 waits = (refl, refl, refl, refl, refl, refl)
 
 first_granted :
     (hist waiting (asks_all ++ first_grant)
-    ≡ Enq (task_of 0 0) (shared 66) E RetNone C00 ∷ Enq (task_of 1 0) (shared 66) E RetNone Wait ∷ Enq (task_of 1 1) (shared 66) S RetEcb C04 ∷ Deq (task_of 0 0) (shared 66) false C00 ∷ [])
+    ≡ Enq (task_of 0 0) (shared 66) E RetNone C00 ∷ Enq (task_of 1 0) (shared 66) E RetNone Wait
+    ∷ Enq (task_of 1 1) (shared 66) S RetEcb C04 ∷ Deq (task_of 0 0) (shared 66) false C00 ∷ [])
     × (told waiting (asks_all ++ first_grant)
-    ≡ at 2 0 (Coded (task_of 0 0) 1 0 verbs.Enq C00) ∷ at 12 1 (Coded (task_of 1 1) 1 0 verbs.Enq C04) ∷ at 14 0 (Coded (task_of 0 0) 2 0 verbs.Deq C00) ∷ at 16 1 (Coded (task_of 1 0) 1 0 verbs.Enq C00) ∷ [])
+    ≡ at 2 0 (Coded (task_of 0 0) 1 0 verbs.Enq C00) ∷ at 12 1 (Coded (task_of 1 1) 1 0 verbs.Enq C04)
+    ∷ at 14 0 (Coded (task_of 0 0) 2 0 verbs.Deq C00) ∷ at 16 1 (Coded (task_of 1 0) 1 0 verbs.Enq C00) ∷ [])
     × (words_after (asks_all ++ first_grant) ≡ 259 ∷ [])
     × (kept_after (asks_all ++ first_grant) ≡ elem 1 0 E ∷ elem 1 1 S ∷ [])
     × (places waiting (asks_all ++ first_grant) (shared 66) ≡ elem 1 0 E ∷ elem 1 1 S ∷ [])
-unfolding state_of with_state with_line with_phase with_outstanding with_record without_record with_told with_exclusive with_rank telling tell_code record_enq after_code replied passes_wait tell_line tell_untold tell_control tell_all tell_new recalled tell_answer tell_answer_any tell_answer_ranked after_mail decide_own took_mail post ask take_line end_step ready_step phase_step is_pending may_go may_send star_call prepare finish_quiet finish_star finish_call finish has without with_also manager lock_word submitted leave_reply leave_changes left_word route submit_row take_row mail_row leave_row medium_at_end rest_row row apply first_node first_world carry_out chosen placed happens_at happens at_rest
+unfolding state_of with_state with_line with_phase with_outstanding with_record without_record with_told with_exclusive
+    with_rank telling tell_code record_enq after_code replied passes_wait tell_line tell_untold tell_control tell_all
+    tell_new recalled tell_answer tell_answer_any tell_answer_ranked after_mail decide_own took_mail post ask take_line
+    end_step ready_step phase_step is_pending may_go may_send star_call prepare finish_quiet finish_star finish_call
+    finish has without with_also manager lock_word submitted leave_reply leave_changes left_word route submit_row
+    take_row mail_row leave_row medium_at_end rest_row row apply first_node first_world carry_out chosen placed
+    happens_at happens at_rest
 first_granted = (refl, refl, refl, refl, refl)
 
 second_granted :
     (hist waiting both_grants
-    ≡ Enq (task_of 0 0) (shared 66) E RetNone C00 ∷ Enq (task_of 1 0) (shared 66) E RetNone Wait ∷ Enq (task_of 1 1) (shared 66) S RetEcb C04 ∷ Deq (task_of 0 0) (shared 66) false C00
+    ≡ Enq (task_of 0 0) (shared 66) E RetNone C00 ∷ Enq (task_of 1 0) (shared 66) E RetNone Wait
+    ∷ Enq (task_of 1 1) (shared 66) S RetEcb C04 ∷ Deq (task_of 0 0) (shared 66) false C00
     ∷ Deq (task_of 1 0) (shared 66) false C00 ∷ [])
     × (told waiting both_grants
-    ≡ at 2 0 (Coded (task_of 0 0) 1 0 verbs.Enq C00) ∷ at 12 1 (Coded (task_of 1 1) 1 0 verbs.Enq C04) ∷ at 14 0 (Coded (task_of 0 0) 2 0 verbs.Deq C00) ∷ at 16 1 (Coded (task_of 1 0) 1 0 verbs.Enq C00)
+    ≡ at 2 0 (Coded (task_of 0 0) 1 0 verbs.Enq C00) ∷ at 12 1 (Coded (task_of 1 1) 1 0 verbs.Enq C04)
+    ∷ at 14 0 (Coded (task_of 0 0) 2 0 verbs.Deq C00) ∷ at 16 1 (Coded (task_of 1 0) 1 0 verbs.Enq C00)
     ∷ at 22 1 (Coded (task_of 1 0) 2 0 verbs.Deq C00) ∷ at 23 1 (Post (task_of 1 1) 1) ∷ [])
     × (words_after both_grants ≡ 259 ∷ [])
     × (kept_after both_grants ≡ elem 1 1 S ∷ [])
     × (places waiting both_grants (shared 66) ≡ elem 1 1 S ∷ [])
-unfolding state_of with_state with_line with_phase with_outstanding with_record without_record with_told with_exclusive with_rank telling tell_code record_enq after_code replied passes_wait tell_line tell_untold tell_control tell_all tell_new recalled tell_answer tell_answer_any tell_answer_ranked after_mail decide_own took_mail post ask take_line end_step ready_step phase_step is_pending may_go may_send star_call prepare finish_quiet finish_star finish_call finish has without with_also manager lock_word submitted leave_reply leave_changes left_word route submit_row take_row mail_row leave_row medium_at_end rest_row row apply first_node first_world carry_out chosen placed happens_at happens at_rest
+unfolding state_of with_state with_line with_phase with_outstanding with_record without_record with_told with_exclusive
+    with_rank telling tell_code record_enq after_code replied passes_wait tell_line tell_untold tell_control tell_all
+    tell_new recalled tell_answer tell_answer_any tell_answer_ranked after_mail decide_own took_mail post ask take_line
+    end_step ready_step phase_step is_pending may_go may_send star_call prepare finish_quiet finish_star finish_call
+    finish has without with_also manager lock_word submitted leave_reply leave_changes left_word route submit_row
+    take_row mail_row leave_row medium_at_end rest_row row apply first_node first_world carry_out chosen placed
+    happens_at happens at_rest
 second_granted = (refl, refl, refl, refl, refl)
 
--- Where a mail is still in an inbox the complex isn't at rest, though nothing is pending at a system. Once it is taken, and
--- its task has ended, it is; the words hold both systems until these leave, the manager last.
+-- Where a mail is still in an inbox the complex isn't at rest, though nothing is pending at a system. Once it is taken,
+-- and its task has ended, it is; the words hold both systems until these leave, the manager last.
 rests :
     (map (is_pending waiting) (run waiting (both_grants ++ releases)).nodes ≡ false ∷ false ∷ [])
     × (at_rest waiting (run waiting (both_grants ++ releases)) ≡ false)
     × (at_rest waiting (run waiting (both_grants ++ releases ++ takes 1 ∷ [])) ≡ false)
     × (at_rest waiting (run waiting (both_grants ++ releases ++ ends)) ≡ true)
     × (drop 5 (hist waiting (both_grants ++ releases ++ ends)) ≡ Release (task_of 1 1) (shared 66) ∷ [])
-    × (drop 6 (told waiting (both_grants ++ releases ++ ends)) ≡ at 24 0 (Ended (task_of 0 0) 0) ∷ at 25 1 (Ended (task_of 1 0) 0) ∷ at 31 1 (Ended (task_of 1 1) 0) ∷ [])
+    × (drop 6 (told waiting (both_grants ++ releases ++ ends))
+    ≡ at 24 0 (Ended (task_of 0 0) 0) ∷ at 25 1 (Ended (task_of 1 0) 0) ∷ at 31 1 (Ended (task_of 1 1) 0) ∷ [])
     × (kept_after (both_grants ++ releases ++ ends) ≡ [])
     × (places waiting (both_grants ++ releases ++ ends) (shared 66) ≡ [])
     × (words_after (both_grants ++ releases ++ ends) ≡ 259 ∷ [])
     × (words_after (both_grants ++ releases ++ ends ++ leaves 1 ∷ []) ≡ 257 ∷ [])
     × (words_after (both_grants ++ releases ++ ends ++ leaves 1 ∷ leaves 0 ∷ []) ≡ 0 ∷ [])
-unfolding state_of with_state with_line with_phase with_outstanding with_record without_record with_told with_exclusive with_rank telling tell_code record_enq after_code replied passes_wait tell_line tell_untold tell_control tell_all tell_new recalled tell_answer tell_answer_any tell_answer_ranked after_mail decide_own took_mail post ask take_line end_step ready_step phase_step is_pending may_go may_send star_call prepare finish_quiet finish_star finish_call finish has without with_also manager lock_word submitted leave_reply leave_changes left_word route submit_row take_row mail_row leave_row medium_at_end rest_row row apply first_node first_world carry_out chosen placed happens_at happens at_rest
+unfolding state_of with_state with_line with_phase with_outstanding with_record without_record with_told with_exclusive
+    with_rank telling tell_code record_enq after_code replied passes_wait tell_line tell_untold tell_control tell_all
+    tell_new recalled tell_answer tell_answer_any tell_answer_ranked after_mail decide_own took_mail post ask take_line
+    end_step ready_step phase_step is_pending may_go may_send star_call prepare finish_quiet finish_star finish_call
+    finish has without with_also manager lock_word submitted leave_reply leave_changes left_word route submit_row
+    take_row mail_row leave_row medium_at_end rest_row row apply first_node first_world carry_out chosen placed
+    happens_at happens at_rest
 rests = (refl, refl, refl, refl, refl, refl, refl, refl, refl, refl, refl)

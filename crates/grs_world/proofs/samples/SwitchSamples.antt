@@ -1,6 +1,6 @@
 -- A worked run that changes from ring to star mode between the place at which a request is put into the message and its
--- answer, by which the definitions are checked: what is told, what is kept and each lock word are what the rules of the service
--- give by hand.
+-- answer, by which the definitions are checked: what is told, what is kept and each lock word are what the rules of the
+-- service give by hand.
 use Rattle.std.proofs.Common.{◌≡◌, ℕ, true, false, List, [], ◌∷◌, ◌++◌, map, drop, refl}
 use Rattle.std.specs.Prelude.{is_none, slice_get}
 use Rattle.grs_base.specs.declared.decision.Code.TheVariants.{C00, Wait}
@@ -9,7 +9,9 @@ use Rattle.grs_base.specs.declared.resource.Ctl.TheVariants.{E}
 use Rattle.grs_base.specs.declared.resource.Elem.{Elem}
 use Rattle.grs_base.specs.declared.resource.Ret.TheVariants.{RetNone}
 use Rattle.grs_medium.specs.Apply.{row, apply, turn_row, switch_row, submit_row, take_row, mail_row}
-use Rattle.grs_node.specs.Node.{post, ask, take_line, end_step, ready_step, phase_step, may_go, may_send, star_call, prepare, finish_quiet, finish_star, finish_call, finish, first_node, read_entries, all_sent, put_in, switched, desk_told, change_to_star, turned as system_turned}
+use Rattle.grs_node.specs.Node.{post, ask, take_line, end_step, ready_step, phase_step, may_go, may_send, star_call}
+use Rattle.grs_node.specs.Node.{prepare, finish_quiet, finish_star, finish_call, finish, first_node, read_entries}
+use Rattle.grs_node.specs.Node.{all_sent, put_in, switched, desk_told, change_to_star, turned as system_turned}
 use Rattle.grs_node.specs.Star.{decide_own, took_mail}
 use Rattle.grs_wire.specs.LockWords.{manager, lock_word, submitted}
 use Rattle.grs_wire.specs.Masks.{has, without, with_also}
@@ -24,11 +26,14 @@ use Rattle.grs_wire.specs.declared.told.ToldLine.TheVariants.{Coded, Desk}
 use Rattle.grs_wire.specs.declared.told.Verb.TheVariants as verbs
 use Rattle.lock_structure.specs.Words.{route}
 use Rattle.ring_mode.specs.Ring.{answer_own, process, process_entry}
-use Rattle.rsa_message.specs.Message.{first_after, any_unseen, cleared, stamped, turn_reply, wakes, rest_after_turn, closed_by, turned}
+use Rattle.rsa_message.specs.Message.{first_after, any_unseen, cleared, stamped, turn_reply, wakes, rest_after_turn}
+use Rattle.rsa_message.specs.Message.{closed_by, turned}
 use Rattle.grs_wire.specs.Unseen.{unseen}
 use Rattle.star_client.specs.Client.{tell_answer_ranked, after_mail}
-use Rattle.task_state.specs.Replies.{tell_code, record_enq, after_code, replied, passes_wait, tell_line, tell_untold, tell_control, tell_all, tell_new, recalled, tell_answer, tell_answer_any}
-use Rattle.task_state.specs.View.{state_of, with_state, with_line, with_phase, with_outstanding, with_record, without_record, with_told, with_exclusive, with_rank, telling}
+use Rattle.task_state.specs.Replies.{tell_code, record_enq, after_code, replied, passes_wait, tell_line, tell_untold}
+use Rattle.task_state.specs.Replies.{tell_control, tell_all, tell_new, recalled, tell_answer, tell_answer_any}
+use Rattle.task_state.specs.View.{state_of, with_state, with_line, with_phase, with_outstanding, with_record}
+use Rattle.task_state.specs.View.{without_record, with_told, with_exclusive, with_rank, telling}
 use Rattle.grs_world.specs.Decks.{may_be_star}
 use Rattle.grs_world.specs.Interest.{interest_at, manages_at}
 use Rattle.grs_world.specs.Kept.{kept, places}
@@ -39,25 +44,29 @@ use Rattle.grs_world.proofs.samples.StarSamples.{sends, takes, settles, tells}
 abbrev switches : ℕ → Event
 switches s = record { system = system s; choice = choices.Switch }
 
--- A ring of two systems with one lock entry. Each has a task that asks for exclusive control of the same resource, and a desk
--- that orders the change.
+-- A ring of two systems with one lock entry. Each has a task that asks for exclusive control of the same resource, and
+-- a desk that orders the change.
 abbrev ring : Deck
 ring = deck_of (((enq 66 E Systems RetNone ∷ []) ∷ []) ∷ ((enq 66 E Systems RetNone ∷ deq 66 Systems ∷ []) ∷ []) ∷ [])
 
 abbrev changing : Deck
-changing = record ring { systems = map (λ (s : SystemDef). record s { desk = record { at = 0; order = orders.Star } ∷ [] }) ring.systems }
+changing =
+    record ring {
+      systems = map (λ (s : SystemDef). record s { desk = record { at = 0; order = orders.Star } ∷ [] }) ring.systems;
+    }
 
--- The request of the second system is put in (event 3); the first isn't to change as long as it hasn't processed it (4), then
--- it does, and changes itself (6).
+-- The request of the second system is put in (event 3); the first isn't to change as long as it hasn't processed it
+-- (4), then it does, and changes itself (6).
 abbrev begun : List Event
 begun = goes 1 0 ∷ turn 0 ∷ turn 1 ∷ switches 0 ∷ turn 0 ∷ switches 0 ∷ []
 
--- The other desk is told that this was done (7). A task of the first system sends its request to the manager, who hasn't changed.
+-- The other desk is told that this was done (7). A task of the first system sends its request to the manager, who
+-- hasn't changed.
 abbrev waits : List Event
 waits = switches 1 ∷ goes 0 0 ∷ sends 0 0 ∷ []
 
--- The manager has its Turn at the closed message (10): its own request is answered, and it changes. Then it takes the other's
--- (11), which waits (12).
+-- The manager has its Turn at the closed message (10): its own request is answered, and it changes. Then it takes the
+-- other's (11), which waits (12).
 abbrev turns : List Event
 turns = turn 1 ∷ takes 1 ∷ settles 1 ∷ takes 0 ∷ []
 
@@ -78,9 +87,12 @@ pub samples :
     × (told changing begun ≡ at 6 0 (Desk 1 StarDone) ∷ [])
     × (told changing (begun ++ waits) ≡ at 6 0 (Desk 1 StarDone) ∷ at 7 1 (Desk 1 StarAlready) ∷ [])
     × (drop 2 (told changing (begun ++ waits ++ turns)) ≡ at 10 1 (Coded (task_of 1 0) 1 0 verbs.Enq C00) ∷ [])
-    × (drop 3 (told changing (begun ++ waits ++ turns ++ gives)) ≡ at 15 1 (Coded (task_of 1 0) 2 0 verbs.Deq C00) ∷ at 17 0 (Coded (task_of 0 0) 1 0 verbs.Enq C00) ∷ [])
+    × (drop 3 (told changing (begun ++ waits ++ turns ++ gives))
+    ≡ at 15 1 (Coded (task_of 1 0) 2 0 verbs.Deq C00) ∷ at 17 0 (Coded (task_of 0 0) 1 0 verbs.Enq C00) ∷ [])
     × (hist changing (begun ++ waits) ≡ Enq (task_of 1 0) (shared 66) E RetNone C00 ∷ [])
-    × (hist changing (begun ++ waits ++ turns ++ gives) ≡ Enq (task_of 1 0) (shared 66) E RetNone C00 ∷ Enq (task_of 0 0) (shared 66) E RetNone Wait ∷ Deq (task_of 1 0) (shared 66) false C00 ∷ [])
+    × (hist changing (begun ++ waits ++ turns ++ gives)
+    ≡ Enq (task_of 1 0) (shared 66) E RetNone C00 ∷ Enq (task_of 0 0) (shared 66) E RetNone Wait
+    ∷ Deq (task_of 1 0) (shared 66) false C00 ∷ [])
     -- the word names the second system, and holds the first from its request on
     × ((run changing begun).medium.words ≡ 514 ∷ [])
     × ((run changing (begun ++ waits)).medium.words ≡ 515 ∷ [])
@@ -94,5 +106,32 @@ pub samples :
     × (kept_after (begun ++ waits ++ turns) ≡ elem 1 ∷ elem 0 ∷ [])
     × (places changing (begun ++ waits ++ turns) (shared 66) ≡ elem 1 ∷ elem 0 ∷ [])
     × (kept_after (begun ++ waits ++ turns ++ gives) ≡ elem 0 ∷ [])
-unfolding state_of with_state with_line with_phase with_outstanding with_record without_record with_told with_exclusive with_rank telling tell_code record_enq after_code replied passes_wait tell_line tell_untold tell_control tell_all tell_new recalled tell_answer tell_answer_any tell_answer_ranked after_mail decide_own took_mail post ask take_line end_step ready_step phase_step may_go may_send star_call prepare finish_quiet finish_star finish_call finish read_entries all_sent put_in switched desk_told change_to_star system_turned answer_own process process_entry has without with_also manager lock_word submitted route turn_row switch_row submit_row take_row mail_row row apply first_after unseen any_unseen cleared stamped turn_reply wakes rest_after_turn closed_by turned first_node first_world carry_out chosen placed happens_at happens
-samples = (refl, refl, refl, refl, refl, refl, refl, refl, refl, refl, refl, refl, refl, refl, refl, refl, refl, refl, refl)
+unfolding state_of with_state with_line with_phase with_outstanding with_record without_record with_told with_exclusive
+    with_rank telling tell_code record_enq after_code replied passes_wait tell_line tell_untold tell_control tell_all
+    tell_new recalled tell_answer tell_answer_any tell_answer_ranked after_mail decide_own took_mail post ask take_line
+    end_step ready_step phase_step may_go may_send star_call prepare finish_quiet finish_star finish_call finish
+    read_entries all_sent put_in switched desk_told change_to_star system_turned answer_own process process_entry has
+    without with_also manager lock_word submitted route turn_row switch_row submit_row take_row mail_row row apply
+    first_after unseen any_unseen cleared stamped turn_reply wakes rest_after_turn closed_by turned first_node
+    first_world carry_out chosen placed happens_at happens
+samples = (
+  refl,
+  refl,
+  refl,
+  refl,
+  refl,
+  refl,
+  refl,
+  refl,
+  refl,
+  refl,
+  refl,
+  refl,
+  refl,
+  refl,
+  refl,
+  refl,
+  refl,
+  refl,
+  refl,
+)

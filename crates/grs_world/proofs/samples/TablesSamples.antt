@@ -17,7 +17,9 @@ use Rattle.grs_base.specs.declared.resource.TaskId.{TaskId}
 use Rattle.grs_base.specs.declared.rnl.Which.TheVariants as which
 use Rattle.grs_base.specs.Rnl.{no_entries}
 use Rattle.grs_medium.specs.Apply.{turn_row, row, apply}
-use Rattle.grs_node.specs.Node.{decide, post, ask, wait, take_line, end_step, ready_step, phase_step, may_go, prepare, finish_quiet, read_entries, all_sent, put_in, finish_call, finish, first_node, NodeState, turned as system_turned}
+use Rattle.grs_node.specs.Node.{decide, post, ask, wait, take_line, end_step, ready_step, phase_step, may_go, prepare}
+use Rattle.grs_node.specs.Node.{finish_quiet, read_entries, all_sent, put_in, finish_call, finish, first_node}
+use Rattle.grs_node.specs.Node.{NodeState, turned as system_turned}
 use Rattle.grs_node.specs.Star.{StarPart, first_part}
 use Rattle.grs_wire.specs.History.{answered, replay}
 use Rattle.grs_wire.specs.LockWords.{manager}
@@ -34,10 +36,13 @@ use Rattle.grs_wire.specs.declared.request.Want.TheVariants.{Enq, Look}
 use Rattle.grs_wire.specs.declared.told.ToldLine.TheVariants.{Coded}
 use Rattle.grs_wire.specs.declared.told.Verb.TheVariants as verbs
 use Rattle.ring_mode.specs.Ring.{answer_own, process, process_entry}
-use Rattle.rsa_message.specs.Message.{first_after, any_unseen, cleared, stamped, turn_reply, wakes, rest_after_turn, turned}
+use Rattle.rsa_message.specs.Message.{first_after, any_unseen, cleared, stamped, turn_reply, wakes, rest_after_turn}
+use Rattle.rsa_message.specs.Message.{turned}
 use Rattle.grs_wire.specs.Unseen.{unseen}
-use Rattle.task_state.specs.Replies.{tell_code, record_enq, after_code, replied, passes_wait, tell_line, tell_untold, tell_control, tell_all, tell_new, recalled, tell_answer, tell_answer_any}
-use Rattle.task_state.specs.View.{state_of, with_state, with_line, with_phase, with_outstanding, with_record, without_record, with_told, with_exclusive, telling}
+use Rattle.task_state.specs.Replies.{tell_code, record_enq, after_code, replied, passes_wait, tell_line, tell_untold}
+use Rattle.task_state.specs.Replies.{tell_control, tell_all, tell_new, recalled, tell_answer, tell_answer_any}
+use Rattle.task_state.specs.View.{state_of, with_state, with_line, with_phase, with_outstanding, with_record}
+use Rattle.task_state.specs.View.{without_record, with_told, with_exclusive, telling}
 use Rattle.grs_world.specs.Kept.{places, kept}
 use Rattle.grs_world.specs.Laps.{LeftHome, given, told_next}
 use Rattle.grs_world.specs.Tables.{before_number, first_unseen}
@@ -98,7 +103,22 @@ ring = record {
   entries = 1;
   limit = 4096;
   lists = record { incl = no_entries which.Incl; excl = no_entries which.Excl; con = no_entries which.Con };
-  systems = record { name = 83 ∷ []; desk = []; jobs = record { name = 74 ∷ []; tasks = record { name = 84 ∷ []; lines = lines.Enq (record { q = 65 ∷ []; r = 66 ∷ []; ctl = E; scope = Systems } ∷ []) RetNone true ∷ [] } ∷ [] } ∷ [] }
+  systems = record {
+    name = 83 ∷ [];
+    desk = [];
+    jobs =
+        record {
+          name = 74 ∷ [];
+          tasks =
+              record {
+                name = 84 ∷ [];
+                lines =
+                    lines.Enq (record { q = 65 ∷ []; r = 66 ∷ []; ctl = E; scope = Systems } ∷ []) RetNone true ∷ [];
+              }
+              ∷ [];
+        }
+        ∷ [];
+  }
       ∷ record { name = 83 ∷ []; desk = []; jobs = [] } ∷ [];
   events = [];
 }
@@ -141,8 +161,14 @@ keeps :
     × (given ring (run ring put) (turn 1) ≡ entry 3 ∷ [])
     × (given ring (run ring half_way) (turn 0) ≡ entry 1 ∷ [])
     × (told_next ring put (turn 1) ≡ [])
-    × (told_next ring half_way (turn 0) ≡ record { event = 4; system = sys 0; line = Coded (task_of 0) 1 0 verbs.Enq C00 } ∷ [])
-unfolding state_of with_state with_line with_phase with_outstanding with_record without_record with_told with_exclusive telling tell_code record_enq after_code replied passes_wait tell_line tell_untold tell_control tell_all tell_new recalled tell_answer tell_answer_any answer_own process process_entry decide post ask wait take_line end_step ready_step phase_step may_go prepare finish_quiet read_entries system_turned all_sent put_in finish_call finish has without with_also first_after unseen any_unseen cleared stamped turn_reply wakes rest_after_turn turned turn_row row apply first_node first_world carry_out chosen placed happens_at happens
+    × (told_next ring half_way (turn 0)
+    ≡ record { event = 4; system = sys 0; line = Coded (task_of 0) 1 0 verbs.Enq C00 } ∷ [])
+unfolding state_of with_state with_line with_phase with_outstanding with_record without_record with_told with_exclusive
+    telling tell_code record_enq after_code replied passes_wait tell_line tell_untold tell_control tell_all tell_new
+    recalled tell_answer tell_answer_any answer_own process process_entry decide post ask wait take_line end_step
+    ready_step phase_step may_go prepare finish_quiet read_entries system_turned all_sent put_in finish_call finish has
+    without with_also first_after unseen any_unseen cleared stamped turn_reply wakes rest_after_turn turned turn_row row
+    apply first_node first_world carry_out chosen placed happens_at happens
 keeps = (refl, refl, refl, refl, refl, refl, refl, refl, refl, refl, refl)
 
 -- ---- a complex that changes to star mode
@@ -163,14 +189,19 @@ manages_none = first_part (sys 1) 1
 
 abbrev manages_one : StarPart
 manages_one = record {
-  manager = record { system = sys 1; entries = Some (record { next = 2; items = record { res = shared; elem = element 1; rank = 1; untold = false } ∷ [] }) ∷ [] };
+  manager = record {
+    system = sys 1;
+    entries =
+        Some (record { next = 2; items = record { res = shared; elem = element 1; rank = 1; untold = false } ∷ [] })
+        ∷ [];
+  };
   held = [];
   interest = true ∷ [];
 }
 
--- Word 257 names the first system as the manager, and 515 the other one. A manager that hasn't changed keeps what its own
--- table has once it has processed its own unseen entries, whoever looks and whatever that system keeps; one that has
--- changed keeps its elements, whatever its table has; and where the word names none, nothing is kept.
+-- Word 257 names the first system as the manager, and 515 the other one. A manager that hasn't changed keeps what its
+-- own table has once it has processed its own unseen entries, whoever looks and whatever that system keeps; one that
+-- has changed keeps its elements, whatever its table has; and where the word names none, nothing is kept.
 keeps_in_change :
     (kept ring (changing 257 (Some manages_none)) (sys 1) shared ≡ element 0 ∷ [])
     × (kept ring (changing 257 (Some manages_one)) (sys 1) shared ≡ element 0 ∷ [])
@@ -178,13 +209,27 @@ keeps_in_change :
     × (kept ring (changing 515 (Some manages_one)) (sys 0) shared ≡ element 1 ∷ [])
     × (kept ring (changing 515 (Some manages_none)) (sys 0) shared ≡ [])
     × (kept ring (changing 0 (Some manages_one)) (sys 1) shared ≡ [])
-unfolding state_of with_state with_line with_phase with_outstanding with_record without_record with_told with_exclusive telling tell_code record_enq after_code replied passes_wait tell_line tell_untold tell_control tell_all tell_new recalled tell_answer tell_answer_any answer_own process process_entry decide post ask wait take_line end_step ready_step phase_step may_go prepare finish_quiet read_entries system_turned all_sent put_in finish_call finish has without with_also first_after unseen any_unseen cleared stamped turn_reply wakes rest_after_turn turned turn_row row apply first_node first_world carry_out chosen placed happens_at happens manager
+unfolding state_of with_state with_line with_phase with_outstanding with_record without_record with_told with_exclusive
+    telling tell_code record_enq after_code replied passes_wait tell_line tell_untold tell_control tell_all tell_new
+    recalled tell_answer tell_answer_any answer_own process process_entry decide post ask wait take_line end_step
+    ready_step phase_step may_go prepare finish_quiet read_entries system_turned all_sent put_in finish_call finish has
+    without with_also first_after unseen any_unseen cleared stamped turn_reply wakes rest_after_turn turned turn_row row
+    apply first_node first_world carry_out chosen placed happens_at happens manager
 keeps_in_change = (refl, refl, refl, refl, refl, refl)
 
--- Were the asker told by the Turn that puts its request in, it would be told too early: the message was empty before, but
--- behind that Turn the other system has still to process the request.
+-- Were the asker told by the Turn that puts its request in, it would be told too early: the message was empty before,
+-- but behind that Turn the other system has still to process the request.
 told_at_once :
     ((run ring (goes ∷ [])).medium.message.entries ≡ [])
     × (LeftHome (task_of 0) (run ring put).medium.message.entries → ⊥)
-unfolding state_of with_state with_line with_phase with_outstanding with_record without_record with_told with_exclusive telling tell_code record_enq after_code replied passes_wait tell_line tell_untold tell_control tell_all tell_new recalled tell_answer tell_answer_any answer_own process process_entry decide post ask wait take_line end_step ready_step phase_step may_go prepare finish_quiet read_entries system_turned all_sent put_in finish_call finish has without with_also first_after unseen any_unseen cleared stamped turn_reply wakes rest_after_turn turned turn_row row apply first_node first_world carry_out chosen placed happens_at happens
-told_at_once = (refl, λ law. let unseen_by_1 : true ≡ false = law [] [] (entry 3) (enq_by 0) refl refl refl 1 (λ e. omega arith) in absurd cc)
+unfolding state_of with_state with_line with_phase with_outstanding with_record without_record with_told with_exclusive
+    telling tell_code record_enq after_code replied passes_wait tell_line tell_untold tell_control tell_all tell_new
+    recalled tell_answer tell_answer_any answer_own process process_entry decide post ask wait take_line end_step
+    ready_step phase_step may_go prepare finish_quiet read_entries system_turned all_sent put_in finish_call finish has
+    without with_also first_after unseen any_unseen cleared stamped turn_reply wakes rest_after_turn turned turn_row row
+    apply first_node first_world carry_out chosen placed happens_at happens
+told_at_once = (
+  refl,
+  λ law. let unseen_by_1 : true ≡ false = law [] [] (entry 3) (enq_by 0) refl refl refl 1 (λ e. omega arith) in
+      absurd cc,
+)

@@ -1,7 +1,8 @@
 -- A system in star mode is read as one in the ring: its tasks and its own lists are the same; of the message nothing is
--- in its table or its outbox. `later` are the items that others fixed for its tasks and whose answers are still to come,
--- `out` the requests of its tasks that were sent and aren't answered yet.
-use Rattle.std.proofs.Common.{◌≡◌, ◌≢◌, ℕ, Bool, true, false, cond, List, [], ◌∷◌, ◌++◌, Option, Some, None, refl, ap, sym, ◌∙◌, subst, arith, append-nil}
+-- in its table or its outbox. `later` are the items that others fixed for its tasks and whose answers are still to
+-- come, `out` the requests of its tasks that were sent and aren't answered yet.
+use Rattle.std.proofs.Common.{◌≡◌, ◌≢◌, ℕ, Bool, true, false, cond, List, [], ◌∷◌, ◌++◌, Option, Some, None, refl, ap}
+use Rattle.std.proofs.Common.{sym, ◌∙◌, subst, arith, append-nil}
 use Rattle.std.specs.Prelude.{slice_get, ◌==◌}
 use Rattle.std.specs.List.{list_all}
 use Rattle.std.proofs.lemmas.Bool.{cases_Bool}
@@ -11,7 +12,8 @@ use Rattle.grs_base.specs.declared.resource.TaskId.{TaskId}
 use Rattle.grs_legal.specs.Asks.{lines_of}
 use Rattle.grs_legal.specs.declared.meaning.Meaning.{Meaning}
 use Rattle.grs_legal.specs.declared.meaning.Meaning.TheVariants as lines
-use Rattle.grs_node.specs.Node.{NodeState, Step, with_tasks, post, decide, ask, take_line, end_step, ready_step, phase_step, task_step, finish_quiet, has_most, may_go}
+use Rattle.grs_node.specs.Node.{NodeState, Step, with_tasks, post, decide, ask, take_line, end_step, ready_step}
+use Rattle.grs_node.specs.Node.{phase_step, task_step, finish_quiet, has_most, may_go}
 use Rattle.grs_wire.specs.Wants.{res_wanted}
 use Rattle.grs_wire.specs.declared.deck.Choice.TheVariants as choices
 use Rattle.grs_wire.specs.declared.deck.Deck.{Deck}
@@ -55,29 +57,46 @@ all-front p [] ys h = refl
 all-front p (x ∷ xs) ys h = grind (arith, h, all-front p xs ys, cases_Bool (p x))
 
 -- the same tasks, where these are open
-pub opens-as : (deck : Deck) (s : ℕ) (os os' : Opens) (T : List RunItem) (v : TasksView) → os'.out ≡ os.out → ((u : TaskId) (ls : List Meaning) → IsOurs deck s v u ls → mine u os'.later ≡ mine u os.later) →
-    ((u : TaskId) (o : Option Asked) → IsAskedBy u o os.all → IsAskedBy u o os'.all) → IsGood deck s os T v → IsGood deck s os' T v
+pub opens-as : (deck : Deck) (s : ℕ) (os os' : Opens) (T : List RunItem) (v : TasksView) → os'.out ≡ os.out
+    → ((u : TaskId) (ls : List Meaning) → IsOurs deck s v u ls → mine u os'.later ≡ mine u os.later) →
+    ((u : TaskId) (o : Option Asked) → IsAskedBy u o os.all → IsAskedBy u o os'.all) → IsGood deck s os T v
+    → IsGood deck s os' T v
 opens-as deck s os os' T v same due asked g = record {
-  tasks = record { each = λ u ls o. here-kept deck os os' T v.told v.told u ls (state_of v u) (due u ls o) (asked u (state_of v u).outstanding) (λ a. subst (λ qs. are_sent u (state_of v u).phase qs ≡ true) (sym same) a) (λ p leaving y j. j) (g.tasks.each u ls o) };
+  tasks = record {
+    each = λ u ls o.
+        here-kept deck os os' T v.told v.told u ls (state_of v u) (due u ls o) (asked u (state_of v u).outstanding)
+        (λ a. subst (λ qs. are_sent u (state_of v u).phase qs ≡ true) (sym same) a) (λ p leaving y j. j)
+        (g.tasks.each u ls o);
+  };
   here = g.here;
   system = g.system;
 }
 
 -- a system of the ring without its outbox
-pub without-box : (deck : Deck) (s : ℕ) (T later : List RunItem) (out : List Req) (n : NodeState) → Seen deck s T [] later out n → IsAt deck s T later out n
+pub without-box : (deck : Deck) (s : ℕ) (T later : List RunItem) (out : List Req) (n : NodeState)
+    → Seen deck s T [] later out n → IsAt deck s T later out n
 without-box deck s T later out n k = record {
-  good = opens-as deck s (opens_of later out n) (opens_of later out (ghosted n)) T n.tasks refl (λ u ls o. refl) (λ u o a. subst (IsAskedBy u o) (sym (append-nil out)) (asked-front u o out n.outbox a)) k.good;
+  good =
+      opens-as deck s (opens_of later out n) (opens_of later out (ghosted n)) T n.tasks refl (λ u ls o. refl)
+      (λ u o a. subst (IsAskedBy u o) (sym (append-nil out)) (asked-front u o out n.outbox a)) k.good;
   own = k.own;
   shared = refl;
-  homes = ap (list_all (λ q. is_home_at deck s q.task)) (append-nil out) ∙ all-front (λ q. is_home_at deck s q.task) out n.outbox k.homes;
+  homes =
+      ap (list_all (λ q. is_home_at deck s q.task)) (append-nil out)
+      ∙ all-front (λ q. is_home_at deck s q.task) out n.outbox k.homes;
   apart = ap (λ qs. stand_apart (askers qs)) (append-nil out) ∙ apart-front out n.outbox k.apart;
 }
 
 -- less is to come that is of no task of the system
-pub without-later : (deck : Deck) (s : ℕ) (T later xs : List RunItem) (out : List Req) (n : NodeState) → ((u : TaskId) (ls : List Meaning) → IsOurs deck s n.tasks u ls → mine u xs ≡ []) → IsAt deck s T (later ++ xs) out n → IsAt deck s T later out n
+pub without-later : (deck : Deck) (s : ℕ) (T later xs : List RunItem) (out : List Req) (n : NodeState)
+    → ((u : TaskId) (ls : List Meaning) → IsOurs deck s n.tasks u ls → mine u xs ≡ [])
+    → IsAt deck s T (later ++ xs) out n → IsAt deck s T later out n
 without-later deck s T later xs out n away k = record {
   good = opens-as deck s (opens_of (later ++ xs) out (ghosted n)) (opens_of later out (ghosted n)) T n.tasks refl
-      (λ u ls o. sym (filter-append (λ z. is_of u z.fixed) later xs ∙ (ap (λ ys. mine u later ++ ys) (away u ls o) ∙ append-nil (mine u later)))) (λ u o a. a) k.good;
+      (λ u ls o.
+      sym (filter-append (λ z. is_of u z.fixed) later xs
+      ∙ (ap (λ ys. mine u later ++ ys) (away u ls o) ∙ append-nil (mine u later))))
+      (λ u o a. a) k.good;
   own = k.own;
   shared = k.shared;
   homes = k.homes;
@@ -85,49 +104,64 @@ without-later deck s T later xs out n away k = record {
 }
 
 -- ---- another system's item
-pub at-other : (deck : Deck) (s : ℕ) (T later : List RunItem) (out : List Req) (n : NodeState) (x : RunItem) (a : IsAsk deck x) → a.req.task.system.0 ≢ s → IsAt deck s T later out n → IsAt deck s (T ++ x ∷ []) later out n
+pub at-other :
+    (deck : Deck) (s : ℕ) (T later : List RunItem) (out : List Req) (n : NodeState) (x : RunItem) (a : IsAsk deck x)
+    → a.req.task.system.0 ≢ s → IsAt deck s T later out n → IsAt deck s (T ++ x ∷ []) later out n
 at-other deck s T later out n x a ne k =
-    without-later deck s (T ++ x ∷ []) later (rounds (x ∷ [])) out n (λ u ls o. mine-left u [] x (not-ours deck s n.tasks x a ne u ls o)) (seen-other deck s T [] later out (ghosted n) x a k ne)
+    without-later deck s (T ++ x ∷ []) later (rounds (x ∷ [])) out n
+    (λ u ls o. mine-left u [] x (not-ours deck s n.tasks x a ne u ls o))
+    (seen-other deck s T [] later out (ghosted n) x a k ne)
 
 -- ---- a task goes on by itself: what it does to the system as it is read is what it does to the system
 pub record Shows (a b : Step) : Type 0 where
   pub node : ghosted a.node ≡ ghosted b.node
   pub fixed : a.fixed ≡ b.fixed
 
-shows-post : (k : NodeState) (t : TaskId) (w : Want) (unit : Option ℕ) → Shows (post (ghosted k) t w unit) (post k t w unit)
+shows-post : (k : NodeState) (t : TaskId) (w : Want) (unit : Option ℕ)
+    → Shows (post (ghosted k) t w unit) (post k t w unit)
 unfolding post
 shows-post k t w unit = record { node = refl; fixed = refl }
 
-shows-decide : (k : NodeState) (t : TaskId) (w : Want) (unit : Option ℕ) → Shows (decide (ghosted k) t w unit) (decide k t w unit)
+shows-decide : (k : NodeState) (t : TaskId) (w : Want) (unit : Option ℕ)
+    → Shows (decide (ghosted k) t w unit) (decide k t w unit)
 unfolding decide
 shows-decide k t w unit = record { node = refl; fixed = refl }
 
-shows-ask : (k : NodeState) (t : TaskId) (w : Want) (unit : Option ℕ) → Shows (ask (ghosted k) t w unit) (ask k t w unit)
+shows-ask : (k : NodeState) (t : TaskId) (w : Want) (unit : Option ℕ)
+    → Shows (ask (ghosted k) t w unit) (ask k t w unit)
 unfolding ask
 shows-ask k t w unit = go (is_for_all (res_wanted w))
   where
-    go : (b : Bool) → Shows (cond b (post (ghosted k) t w unit) (decide (ghosted k) t w unit)) (cond b (post k t w unit) (decide k t w unit))
+    go : (b : Bool)
+        → Shows (cond b (post (ghosted k) t w unit) (decide (ghosted k) t w unit))
+        (cond b (post k t w unit) (decide k t w unit))
     go true = shows-post k t w unit
     go false = shows-decide k t w unit
 
-shows-line : (limit : ℕ) (k : NodeState) (t : TaskId) (l : Meaning) → Shows (take_line limit (ghosted k) t l) (take_line limit k t l)
+shows-line : (limit : ℕ) (k : NodeState) (t : TaskId) (l : Meaning)
+    → Shows (take_line limit (ghosted k) t l) (take_line limit k t l)
 unfolding take_line
 shows-line limit k t (lines.Enq r c ret unit) = shows-ask k t (Enq r c ret (has_most limit k.tasks t)) unit
 shows-line limit k t (lines.Deq r have) = shows-ask k t (Deq r have) None
 shows-line limit k t (lines.Wait r) = record { node = refl; fixed = refl }
 shows-line limit k t lines.Nothing = record { node = refl; fixed = refl }
 
-shows-end : (k : NodeState) (t : TaskId) (code : ℕ) (xs : List Rec) → Shows (end_step (ghosted k) t code xs) (end_step k t code xs)
+shows-end : (k : NodeState) (t : TaskId) (code : ℕ) (xs : List Rec)
+    → Shows (end_step (ghosted k) t code xs) (end_step k t code xs)
 unfolding end_step
 shows-end k t code [] = record { node = refl; fixed = refl }
 shows-end k t code (x ∷ xs) = shows-ask k t (Release x.res) None
 
-shows-ready : (limit : ℕ) (k : NodeState) (t : TaskId) (l : Option Meaning) → Shows (ready_step limit (ghosted k) t l) (ready_step limit k t l)
+shows-ready : (limit : ℕ) (k : NodeState) (t : TaskId) (l : Option Meaning)
+    → Shows (ready_step limit (ghosted k) t l) (ready_step limit k t l)
 unfolding ready_step
-shows-ready limit k t None = shows-end (with_tasks k (with_phase k.tasks t (phases.Ending 0))) t 0 (state_of (with_phase k.tasks t (phases.Ending 0)) t).records
+shows-ready limit k t None =
+    shows-end (with_tasks k (with_phase k.tasks t (phases.Ending 0))) t 0
+    (state_of (with_phase k.tasks t (phases.Ending 0)) t).records
 shows-ready limit k t (Some l) = shows-line limit (with_tasks k (with_line k.tasks t)) t l
 
-shows-phase : (limit : ℕ) (k : NodeState) (t : TaskId) (ls : List Meaning) (ph : Phase) → Shows (phase_step limit (ghosted k) t ls ph) (phase_step limit k t ls ph)
+shows-phase : (limit : ℕ) (k : NodeState) (t : TaskId) (ls : List Meaning) (ph : Phase)
+    → Shows (phase_step limit (ghosted k) t ls ph) (phase_step limit k t ls ph)
 unfolding phase_step
 shows-phase limit k t ls phases.Ready = shows-ready limit k t (slice_get ls (state_of k.tasks t).line)
 shows-phase limit k t ls (phases.Ending c) = shows-end k t c (state_of k.tasks t).records
@@ -137,14 +171,17 @@ shows-phase limit k t ls phases.HeldAnswer = record { node = refl; fixed = refl 
 shows-phase limit k t ls (phases.HeldLine r) = record { node = refl; fixed = refl }
 shows-phase limit k t ls phases.Ended = record { node = refl; fixed = refl }
 
-shows-task : (limit : ℕ) (k : NodeState) (t : TaskId) (o : Option (List Meaning)) → Shows (task_step limit (ghosted k) t o) (task_step limit k t o)
+shows-task : (limit : ℕ) (k : NodeState) (t : TaskId) (o : Option (List Meaning))
+    → Shows (task_step limit (ghosted k) t o) (task_step limit k t o)
 shows-task limit k t None = record { node = refl; fixed = refl }
 shows-task limit k t (Some ls) = shows-phase limit k t ls (state_of k.tasks t).phase
 
 -- ---- what is told agrees, whatever is open
-pub told-free : (deck : Deck) (s : ℕ) (opens : List Req) (P : List HistEntry) (T0 T : List ToldLine) → ToldBy deck s opens P T0 T → ToldBy deck s [] P T0 T
+pub told-free : (deck : Deck) (s : ℕ) (opens : List Req) (P : List HistEntry) (T0 T : List ToldLine)
+    → ToldBy deck s opens P T0 T → ToldBy deck s [] P T0 T
 told-free deck s opens P T0 T none = none
-told-free deck s opens P T0 T (more U l h line agrees clears) = more U l (told-free deck s opens P T0 U h) line agrees (free l)
+told-free deck s opens P T0 T (more U l h line agrees clears) =
+    more U l (told-free deck s opens P T0 U h) line agrees (free l)
   where
     free : (k : ToldLine) → Clears [] k
     free (told.Coded t j part verb code) = refl
@@ -154,21 +191,32 @@ told-free deck s opens P T0 T (more U l h line agrees clears) = more U l (told-f
     free (told.Desk j said) = tt
 
 -- ---- What a task's own event comes to.
-pub data TaskStep (deck : Deck) (s : ℕ) (c : SysId) (T later : List RunItem) (out : List Req) (n : NodeState) (st : Step) : Type 0 where
-  idles : st.fixed ≡ [] → IsAt deck s T later out st.node → ToldBy deck s [] (history T) n.tasks.told st.node.tasks.told → TaskStep deck s c T later out n st
-  does : (q : Req) → st.fixed ≡ fixing.Asked q ∷ [] → (q.task.system.0 == s) ≡ true → goes_round (fixing.Asked q) ≡ false → MayFollow deck T (made_item c T (fixing.Asked q)) →
-      IsAt deck s (T ++ made_item c T (fixing.Asked q) ∷ []) later out st.node → ToldBy deck s [] (history (T ++ made_item c T (fixing.Asked q) ∷ [])) n.tasks.told st.node.tasks.told → TaskStep deck s c T later out n st
+pub data TaskStep (deck : Deck) (s : ℕ) (c : SysId) (T later : List RunItem) (out : List Req) (n : NodeState)
+    (st : Step) :
+    Type 0 where
+  idles : st.fixed ≡ [] → IsAt deck s T later out st.node → ToldBy deck s [] (history T) n.tasks.told st.node.tasks.told
+      → TaskStep deck s c T later out n st
+  does : (q : Req) → st.fixed ≡ fixing.Asked q ∷ [] → (q.task.system.0 == s) ≡ true
+      → goes_round (fixing.Asked q) ≡ false → MayFollow deck T (made_item c T (fixing.Asked q)) →
+      IsAt deck s (T ++ made_item c T (fixing.Asked q) ∷ []) later out st.node
+      → ToldBy deck s [] (history (T ++ made_item c T (fixing.Asked q) ∷ [])) n.tasks.told st.node.tasks.told
+      → TaskStep deck s c T later out n st
 
 -- a system as it is read, once more without its outbox
-shown-at : (deck : Deck) (s : ℕ) (T later : List RunItem) (out : List Req) (k m : NodeState) → ghosted k ≡ ghosted m → Seen deck s T [] later out k → IsAt deck s T later out m
-shown-at deck s T later out k m e h = subst (λ (z : NodeState). Seen deck s T [] later out z) e (without-box deck s T later out k h)
+shown-at : (deck : Deck) (s : ℕ) (T later : List RunItem) (out : List Req) (k m : NodeState) → ghosted k ≡ ghosted m
+    → Seen deck s T [] later out k → IsAt deck s T later out m
+shown-at deck s T later out k m e h =
+    subst (λ (z : NodeState). Seen deck s T [] later out z) e (without-box deck s T later out k h)
 
 shown-told : (k m : NodeState) → ghosted k ≡ ghosted m → k.tasks.told ≡ m.tasks.told
 shown-told k m e = ap (λ (z : NodeState). z.tasks.told) e
 
-pub task-goes : (deck : Deck) (s : ℕ) (c : SysId) (T later : List RunItem) (out : List Req) (n : NodeState) (t : TaskId) → IsHistory deck T → IsAt deck s T later out n → may_go deck n t ≡ true → TaskStep deck s c T later out n (finish_quiet deck n (choices.Task t))
+pub task-goes : (deck : Deck) (s : ℕ) (c : SysId) (T later : List RunItem) (out : List Req) (n : NodeState) (t : TaskId)
+    → IsHistory deck T → IsAt deck s T later out n → may_go deck n t ≡ true
+    → TaskStep deck s c T later out n (finish_quiet deck n (choices.Task t))
 unfolding may_go finish_quiet
-task-goes deck s c T later out n t right k goes = by_step (quiet deck s c T [] later out (ghosted n) t refl right k goes)
+task-goes deck s c T later out n t right k goes =
+    by_step (quiet deck s c T [] later out (ghosted n) t refl right k goes)
   where
     before : Step
     before = task_step deck.limit (ghosted n) t (lines_of deck t)
@@ -179,10 +227,15 @@ task-goes deck s c T later out n t right k goes = by_step (quiet deck s c T [] l
     shows : Shows (task_step deck.limit (ghosted n) t (lines_of deck t)) (task_step deck.limit n t (lines_of deck t))
     shows = shows-task deck.limit n t (lines_of deck t)
 
-    by_step : QuietStep deck s c T [] later out (ghosted n) (task_step deck.limit (ghosted n) t (lines_of deck t)) → TaskStep deck s c T later out n (task_step deck.limit n t (lines_of deck t))
-    by_step (keeps none_fixed seen agreed) = idles (sym shows.fixed ∙ none_fixed) (shown-at deck s T later out before.node after.node shows.node seen)
-        (subst (ToldBy deck s [] (history T) n.tasks.told) (shown-told before.node after.node shows.node) (told-free deck s (out ++ before.node.outbox) (history T) n.tasks.told before.node.tasks.told agreed))
+    by_step : QuietStep deck s c T [] later out (ghosted n) (task_step deck.limit (ghosted n) t (lines_of deck t))
+        → TaskStep deck s c T later out n (task_step deck.limit n t (lines_of deck t))
+    by_step (keeps none_fixed seen agreed) =
+        idles (sym shows.fixed ∙ none_fixed) (shown-at deck s T later out before.node after.node shows.node seen)
+        (subst (ToldBy deck s [] (history T) n.tasks.told) (shown-told before.node after.node shows.node)
+        (told-free deck s (out ++ before.node.outbox) (history T) n.tasks.told before.node.tasks.told agreed))
     by_step (fixes q one_fixed home away follow seen agreed) =
         let T' : List RunItem = T ++ made_item c T (fixing.Asked q) ∷ [] in
-        does q (sym shows.fixed ∙ one_fixed) home away follow (shown-at deck s T' later out before.node after.node shows.node seen)
-        (subst (ToldBy deck s [] (history T') n.tasks.told) (shown-told before.node after.node shows.node) (told-free deck s (out ++ before.node.outbox) (history T') n.tasks.told before.node.tasks.told agreed))
+        does q (sym shows.fixed ∙ one_fixed) home away follow
+        (shown-at deck s T' later out before.node after.node shows.node seen)
+        (subst (ToldBy deck s [] (history T') n.tasks.told) (shown-told before.node after.node shows.node)
+        (told-free deck s (out ++ before.node.outbox) (history T') n.tasks.told before.node.tasks.told agreed))

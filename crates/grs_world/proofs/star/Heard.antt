@@ -1,6 +1,8 @@
--- What is still to be heard by live systems in star mode: of each request that was sent, where it or its answer is; and of each
--- owner, that its system knows that it owns, or that this comes to it, or that its manager has still to tell it. So nothing is lost.
-use Rattle.std.specs.Prelude.{◌≡◌, ◌≢◌, ◌<◌, ◌≤◌, ◌⊎◌, ℕ, suc, Bool, true, false, cond, not, ◌&&◌, ◌||◌, nat_le, List, [], ◌∷◌, ◌++◌, length, filter, Some, slice_get}
+-- What is still to be heard by live systems in star mode: of each request that was sent, where it or its answer is; and
+-- of each owner, that its system knows that it owns, or that this comes to it, or that its manager has still to tell
+-- it. So nothing is lost.
+use Rattle.std.specs.Prelude.{◌≡◌, ◌≢◌, ◌<◌, ◌≤◌, ◌⊎◌, ℕ, suc, Bool, true, false, cond, not, ◌&&◌, ◌||◌, nat_le, List}
+use Rattle.std.specs.Prelude.{[], ◌∷◌, ◌++◌, length, filter, Some, slice_get}
 use Rattle.std.specs.List.{list_any}
 use Rattle.contention_mgr.specs.Manager.{Managed, is_of, items_of, managed_at, managed_of, entry_wanted}
 use Rattle.grs_base.specs.Limits.{last_number}
@@ -54,13 +56,14 @@ abbrev pub grants : Answer → Bool
 grants (Coded code) = is_granted code
 grants (Rows rows) = false
 
--- Whether the mail tells an owner that it owns a resource: by control that finds a record of it, or by the answer to the
--- request that makes its record. Behind an answer there is one.
+-- Whether the mail tells an owner that it owns a resource: by control that finds a record of it, or by the answer to
+-- the request that makes its record. Behind an answer there is one.
 abbrev pub hears : TaskId → Res → Bool → List Mail → Bool
 hears t r recorded [] = false
 hears t r recorded (Request e from q ∷ ms) = hears t r recorded ms
 hears t r recorded (Answered u answer rank ∷ ms) =
-    cond (is_timely t (Answered u answer rank)) ((not recorded && grants answer) || hears t r true ms) (hears t r recorded ms)
+    cond (is_timely t (Answered u answer rank)) ((not recorded && grants answer) || hears t r true ms)
+    (hears t r recorded ms)
 hears t r recorded (Granted u q ∷ ms) = (recorded && (same_task t u && same_res r q)) || hears t r recorded ms
 
 -- A request comes under the lock entry that it is for, from a system of the deck.
@@ -110,21 +113,29 @@ is_enq (fixing.Purged target) = false
 abbrev pub enq_count : List RunItem → ℕ
 enq_count T = length (filter (λ x. is_enq x.fixed) T)
 
--- ---- What holds of a world in star mode, where `sent` says of each system which of its tasks have sent a request, and `had`
--- who was told control of what.
+-- ---- What holds of a world in star mode, where `sent` says of each system which of its tasks have sent a request, and
+-- `had` who was told control of what.
 pub record IsHeard (deck : Deck) (w : World) (sent : ℕ → TaskId → Bool) (had : ℕ → TaskId → Res → Bool) : Type 0 where
   -- a request that was sent is in somebody's hands, or its answer comes
-  pub requests : (s : ℕ) (n : NodeState) (t : TaskId) → slice_get w.nodes s ≡ Some n → has w.medium.removed s ≡ false → is_home_at deck s t ≡ true → sent s t ≡ true →
+  pub requests : (s : ℕ) (n : NodeState) (t : TaskId) → slice_get w.nodes s ≡ Some n → has w.medium.removed s ≡ false
+      → is_home_at deck s t ≡ true → sent s t ≡ true →
       IsInHands w t ⊎ (list_any (is_timely t) (inbox w.medium s) ≡ true)
   -- an owner was told so, or hears it, or is still to be told
-  pub owners : (s : ℕ) (n : NodeState) (t : TaskId) (r : Res) → slice_get w.nodes s ≡ Some n → has w.medium.removed s ≡ false → is_home_at deck s t ≡ true → is_systems r ≡ true → owns (list_of (all_lists w) r) t ≡ true →
-      (had s t r ≡ true) ⊎ ((hears t r (has_res r (state_of n.tasks t).records) (inbox w.medium s) ≡ true) ⊎ IsUntold w s t r)
+  pub owners : (s : ℕ) (n : NodeState) (t : TaskId) (r : Res) → slice_get w.nodes s ≡ Some n
+      → has w.medium.removed s ≡ false → is_home_at deck s t ≡ true → is_systems r ≡ true
+      → owns (list_of (all_lists w) r) t ≡ true →
+      (had s t r ≡ true)
+      ⊎ ((hears t r (has_res r (state_of n.tasks t).records) (inbox w.medium s) ≡ true) ⊎ IsUntold w s t r)
   -- an element is on record, or the answer comes that makes its record
-  pub recorded : (s : ℕ) (n : NodeState) (t : TaskId) (r : Res) → slice_get w.nodes s ≡ Some n → has w.medium.removed s ≡ false → is_home_at deck s t ≡ true → is_systems r ≡ true → has_task (list_of (all_lists w) r) t ≡ true →
+  pub recorded : (s : ℕ) (n : NodeState) (t : TaskId) (r : Res) → slice_get w.nodes s ≡ Some n
+      → has w.medium.removed s ≡ false → is_home_at deck s t ≡ true → is_systems r ≡ true
+      → has_task (list_of (all_lists w) r) t ≡ true →
       (has_res r (state_of n.tasks t).records ≡ true) ⊎ (list_any (is_timely t) (inbox w.medium s) ≡ true)
   pub mails : (s : ℕ) → AreAddressed deck (inbox w.medium s)
   -- no rank is past the number of requests that could queue an element
-  pub ranks : (m : ℕ) (k : NodeState) (p : StarPart) (e : ℕ) (x : Managed) → slice_get w.nodes m ≡ Some k → has w.medium.removed m ≡ false → k.star ≡ Some p → managed_at p.manager e ≡ Some x → x.next ≤ suc (enq_count (items w.fixed))
+  pub ranks : (m : ℕ) (k : NodeState) (p : StarPart) (e : ℕ) (x : Managed) → slice_get w.nodes m ≡ Some k
+      → has w.medium.removed m ≡ false → k.star ≡ Some p → managed_at p.manager e ≡ Some x
+      → x.next ≤ suc (enq_count (items w.fixed))
 
 -- where system c stands like this, and the others as said
 abbrev pub sent_with : (ℕ → TaskId → Bool) → SysId → NodeState → ℕ → TaskId → Bool
@@ -133,7 +144,11 @@ sent_with sent c n = put_at sent c.0 (sent_by n)
 abbrev pub had_with : (ℕ → TaskId → Res → Bool) → SysId → NodeState → ℕ → TaskId → Res → Bool
 had_with had c n = put_at had c.0 (had_by n)
 
--- ---- The law of one event of star mode: where the ranks have an effect, what was heard, or is still to be heard, stays so.
+-- ---- The law of one event of star mode: where the ranks have an effect, what was heard, or is still to be heard,
+-- stays so.
 abbrev pub StaysHeard : (deck : Deck) → World → SysId → NodeState → Turnout → Type 0
-StaysHeard deck w c n o = (sent : ℕ → TaskId → Bool) (had : ℕ → TaskId → Res → Bool) → enq_count (items (w.fixed ++ fixed_by c o.step.fixed)) ≤ last_number →
-    IsHeard deck w (sent_with sent c n) (had_with had c n) → IsHeard deck (placed w c n o) (sent_with sent c o.step.node) (had_with had c o.step.node)
+StaysHeard deck w c n o =
+    (sent : ℕ → TaskId → Bool) (had : ℕ → TaskId → Res → Bool)
+    → enq_count (items (w.fixed ++ fixed_by c o.step.fixed)) ≤ last_number →
+    IsHeard deck w (sent_with sent c n) (had_with had c n)
+    → IsHeard deck (placed w c n o) (sent_with sent c o.step.node) (had_with had c o.step.node)

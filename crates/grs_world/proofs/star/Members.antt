@@ -1,6 +1,7 @@
--- What holds of the medium and of each live system of a run in star mode, as far as words, roles and lists go; and how an
--- event of one system keeps it. In star mode no event removes a system.
-use Rattle.std.proofs.Common.{◌≡◌, ◌≢◌, ◌<◌, ◌≤◌, ℕ, Bool, true, false, List, [], ◌∷◌, ◌++◌, length, Option, Some, None, refl, ap, sym, ◌∙◌, subst, arith}
+-- What holds of the medium and of each live system of a run in star mode, as far as words, roles and lists go; and how
+-- an event of one system keeps it. In star mode no event removes a system.
+use Rattle.std.proofs.Common.{◌≡◌, ◌≢◌, ◌<◌, ◌≤◌, ℕ, Bool, true, false, List, [], ◌∷◌, ◌++◌, length, Option, Some, None}
+use Rattle.std.proofs.Common.{refl, ap, sym, ◌∙◌, subst, arith}
 use Rattle.std.specs.Prelude.{set, slice_get, nat_lt, ◌==◌}
 use Rattle.std.specs.List.{All}
 use Rattle.std.proofs.lemmas.Bool.{eqb-true, eqb-false, eq-eqb, lt-ltb}
@@ -31,7 +32,8 @@ use Rattle.grs_known.proofs.lists.Alike.{Alike}
 abbrev pub has_manager : List ℕ → ℕ → ℕ → Bool
 has_manager words e s = is_manager (manager_at words e) (record { 0 = s })
 
-pub managed-is : (words : List ℕ) (e s : ℕ) (o : Option SysId) → manager_at words e ≡ o → is_manager o (record { 0 = s }) ≡ true → manager_at words e ≡ Some (record { 0 = s })
+pub managed-is : (words : List ℕ) (e s : ℕ) (o : Option SysId) → manager_at words e ≡ o
+    → is_manager o (record { 0 = s }) ≡ true → manager_at words e ≡ Some (record { 0 = s })
 managed-is words e s None at h = absurd (cc)
 managed-is words e s (Some m) at h = at ∙ ap (λ (k : ℕ). Some (record { 0 = k })) (eqb-true m.0 s h)
 
@@ -40,7 +42,9 @@ manager-here words e m h = ap (λ o. is_manager o (record { 0 = m.0 })) h ∙ eq
 
 -- an entry has one manager
 pub one-manages : (words : List ℕ) (e m k : ℕ) → has_manager words e m ≡ true → has_manager words e k ≡ true → m ≡ k
-one-manages words e m k mine other = ap (λ (z : SysId). z.0) (same_Some (record { 0 = m }) (record { 0 = k }) (sym (managed-is words e m (manager_at words e) refl mine) ∙ managed-is words e k (manager_at words e) refl other))
+one-manages words e m k mine other =
+    ap (λ (z : SysId). z.0) (same_Some (record { 0 = m }) (record { 0 = k })
+    (sym (managed-is words e m (manager_at words e) refl mine) ∙ managed-is words e k (manager_at words e) refl other))
 
 -- What holds of a system's part in star mode, by the words and by all lists.
 pub record IsPart (deck : Deck) (words : List ℕ) (L : State) (s : ℕ) (p : StarPart) : Type 0 where
@@ -74,9 +78,12 @@ after-items : (s : State) (c : SysId) (fs : List Fixed) → lists_from s (items_
 after-items s c [] = refl
 after-items s c (f ∷ fs) = after-items (after_fixed s f) c fs
 
-pub lists-grown : (xs : List (SysId × Fixed)) (c : SysId) (fs : List Fixed) → lists (items (xs ++ fixed_by c fs)) ≡ lists_after (lists (items xs)) fs
+pub lists-grown : (xs : List (SysId × Fixed)) (c : SysId) (fs : List Fixed)
+    → lists (items (xs ++ fixed_by c fs)) ≡ lists_after (lists (items xs)) fs
 lists-grown xs c fs =
-    ap lists (items-append xs (fixed_by c fs)) ∙ lists_from-append [] (items xs) (items_from (lists (items xs)) (fixed_by c fs)) ∙ after-items (lists (items xs)) c fs
+    ap lists (items-append xs (fixed_by c fs))
+    ∙ lists_from-append [] (items xs) (items_from (lists (items xs)) (fixed_by c fs))
+    ∙ after-items (lists (items xs)) c fs
 
 -- What holds of the medium and all live systems.
 pub record IsStar (deck : Deck) (w : World) : Type 0 where
@@ -86,19 +93,22 @@ pub record IsStar (deck : Deck) (w : World) : Type 0 where
   pub systems : length w.nodes ≡ length deck.systems
   pub managed : All IsManaged w.medium.words
   -- nobody but a live system has interest or manages
-  pub nobody : (e s : ℕ) → lives (length w.nodes) w.medium.removed s ≡ false → (is_interested w.medium.words e s ≡ false) × (has_manager w.medium.words e s ≡ false)
+  pub nobody : (e s : ℕ) → lives (length w.nodes) w.medium.removed s ≡ false
+      → (is_interested w.medium.words e s ≡ false) × (has_manager w.medium.words e s ≡ false)
   -- where there is no manager nothing is queued
   pub free : (e : ℕ) → manager_at w.medium.words e ≡ None → under deck.entries e (all_lists w) ≡ []
-  pub node : (s : ℕ) (n : NodeState) → slice_get w.nodes s ≡ Some n → has w.medium.removed s ≡ false → IsMember deck w.medium.words (all_lists w) s n
+  pub node : (s : ℕ) (n : NodeState) → slice_get w.nodes s ≡ Some n → has w.medium.removed s ≡ false
+      → IsMember deck w.medium.words (all_lists w) s n
 
--- What an event of system c does to words and lists: nothing to the others' interest and roles, and nothing to the lists
--- of an entry that c doesn't manage.
+-- What an event of system c does to words and lists: nothing to the others' interest and roles, and nothing to the
+-- lists of an entry that c doesn't manage.
 pub record Moves (deck : Deck) (c : ℕ) (words words' : List ℕ) (L L' : State) : Type 0 where
   pub count : length words' ≡ length words
   pub managed : All IsManaged words'
   pub managers : (e u : ℕ) → u ≢ c → has_manager words' e u ≡ has_manager words e u
   pub interest : (e u : ℕ) → u ≢ c → is_interested words' e u ≡ is_interested words e u
-  pub lists : (e : ℕ) → has_manager words e c ≡ false → has_manager words' e c ≡ false → under deck.entries e L' ≡ under deck.entries e L
+  pub lists : (e : ℕ) → has_manager words e c ≡ false → has_manager words' e c ≡ false
+      → under deck.entries e L' ≡ under deck.entries e L
   pub free : (e : ℕ) → manager_at words' e ≡ None → under deck.entries e L' ≡ []
 
 -- What an event of a system comes to.
@@ -111,7 +121,8 @@ pub record IsStep (deck : Deck) (w : World) (c : SysId) (n : NodeState) (o : Tur
   pub member : IsMember deck o.medium.words (lists_after (all_lists w) o.step.fixed) c.0 o.step.node
 
 -- nothing happens to words and lists
-pub stays : (deck : Deck) (w : World) (c : ℕ) → IsStar deck w → Moves deck c w.medium.words w.medium.words (all_lists w) (all_lists w)
+pub stays : (deck : Deck) (w : World) (c : ℕ) → IsStar deck w
+    → Moves deck c w.medium.words w.medium.words (all_lists w) (all_lists w)
 stays deck w c g = record {
   count = refl;
   managed = g.managed;
@@ -122,7 +133,8 @@ stays deck w c g = record {
 }
 
 -- another system, which is as it was
-member-other : (deck : Deck) (c : ℕ) (words words' : List ℕ) (L L' : State) (u : ℕ) (n : NodeState) → u ≢ c → Moves deck c words words' L L' → IsMember deck words L u n → IsMember deck words' L' u n
+member-other : (deck : Deck) (c : ℕ) (words words' : List ℕ) (L L' : State) (u : ℕ) (n : NodeState) → u ≢ c
+    → Moves deck c words words' L L' → IsMember deck words L u n → IsMember deck words' L' u n
 member-other deck c words words' L L' u n ne m k = record {
   part = k.part;
   star = k.star;
@@ -135,7 +147,8 @@ member-other deck c words words' L L' u n ne m k = record {
     interest = λ e. k.fits.interest e ∙ sym (m.interest e u ne);
     lists = λ e h.
         let mine : has_manager words e u ≡ true = sym (k.fits.roles e) ∙ h in
-        subst (Alike (plain (items_of (managed_at k.part.manager e)))) (sym (m.lists e (alone words e mine) (alone words' e (m.managers e u ne ∙ mine)))) (k.fits.lists e h);
+        subst (Alike (plain (items_of (managed_at k.part.manager e))))
+        (sym (m.lists e (alone words e mine) (alone words' e (m.managers e u ne ∙ mine)))) (k.fits.lists e h);
     well = k.fits.well;
   };
 }
@@ -144,7 +157,8 @@ member-other deck c words words' L L' u n ne m k = record {
     alone ws e h = false_by (has_manager ws e c) (λ mine. absurd (ne (one-manages ws e u c h mine)))
 
 -- the world after the event
-module _ (deck : Deck) (w : World) (c : SysId) (n : NodeState) (at : slice_get w.nodes c.0 ≡ Some n) (alive : has w.medium.removed c.0 ≡ false) (g : IsStar deck w) (o : Turnout) (h : IsStep deck w c n o) where
+module _ (deck : Deck) (w : World) (c : SysId) (n : NodeState) (at : slice_get w.nodes c.0 ≡ Some n)
+    (alive : has w.medium.removed c.0 ≡ false) (g : IsStar deck w) (o : Turnout) (h : IsStep deck w c n o) where
   grown : all_lists (placed w c n o) ≡ lists_after (all_lists w) o.step.fixed
   unfolding placed
   grown = lists-grown w.fixed c o.step.fixed
@@ -155,25 +169,37 @@ module _ (deck : Deck) (w : World) (c : SysId) (n : NodeState) (at : slice_get w
   here : c.0 < length w.nodes
   here = slice_get_within w.nodes c.0 n at
 
-  node_at : (s : ℕ) (k : NodeState) → slice_get (set w.nodes c.0 o.step.node) s ≡ Some k → has w.medium.removed s ≡ false → IsMember deck o.medium.words (lists_after (all_lists w) o.step.fixed) s k
+  node_at : (s : ℕ) (k : NodeState) → slice_get (set w.nodes c.0 o.step.node) s ≡ Some k
+      → has w.medium.removed s ≡ false → IsMember deck o.medium.words (lists_after (all_lists w) o.step.fixed) s k
   node_at s k f live = go (s == c.0) refl
     where
       go : (b : Bool) → (s == c.0) ≡ b → IsMember deck o.medium.words (lists_after (all_lists w) o.step.fixed) s k
       go true e =
           let same : s ≡ c.0 = eqb-true s c.0 e in
-          let is : o.step.node ≡ k = same_Some o.step.node k (sym (slice_get-set w.nodes c.0 n o.step.node at) ∙ (ap (slice_get (set w.nodes c.0 o.step.node)) (sym same) ∙ f)) in
+          let is : o.step.node ≡ k =
+          same_Some o.step.node k (sym (slice_get-set w.nodes c.0 n o.step.node at)
+          ∙ (ap (slice_get (set w.nodes c.0 o.step.node)) (sym same) ∙ f)) in
           subst (λ (z : NodeState). IsMember deck o.medium.words (lists_after (all_lists w) o.step.fixed) s z) is
-          (subst (λ (z : ℕ). IsMember deck o.medium.words (lists_after (all_lists w) o.step.fixed) z o.step.node) (sym same) h.member)
+          (subst (λ (z : ℕ). IsMember deck o.medium.words (lists_after (all_lists w) o.step.fixed) z o.step.node)
+          (sym same) h.member)
       go false e =
           let ne : s ≢ c.0 = eqb-false s c.0 e in
-          member-other deck c.0 w.medium.words o.medium.words (all_lists w) (lists_after (all_lists w) o.step.fixed) s k ne h.moves (g.node s k (sym (slice_get-set_other w.nodes c.0 s o.step.node ne) ∙ f) live)
+          member-other deck c.0 w.medium.words o.medium.words (all_lists w) (lists_after (all_lists w) o.step.fixed) s k
+          ne h.moves (g.node s k (sym (slice_get-set_other w.nodes c.0 s o.step.node ne) ∙ f) live)
 
   -- who isn't live now wasn't before, and is another system
-  beyond : (s : ℕ) → lives (length (set w.nodes c.0 o.step.node)) o.medium.removed s ≡ false → (s ≢ c.0) × (lives (length w.nodes) w.medium.removed s ≡ false)
+  beyond : (s : ℕ) → lives (length (set w.nodes c.0 o.step.node)) o.medium.removed s ≡ false
+      → (s ≢ c.0) × (lives (length w.nodes) w.medium.removed s ≡ false)
   beyond s gone =
-      let was : lives (length w.nodes) w.medium.removed s ≡ false = ap (λ i. lives i w.medium.removed s) (sym count) ∙ (ap (λ i. lives (length (set w.nodes c.0 o.step.node)) i s) (sym h.removed) ∙ gone) in
-      let within : nat_lt c.0 (length w.nodes) ≡ true = lt-ltb c.0 (length w.nodes) here in
-      (λ e. no_truth (lives (length w.nodes) w.medium.removed c.0) (rw (within, alive) refl) (ap (lives (length w.nodes) w.medium.removed) (sym e) ∙ was), was)
+      let was : lives (length w.nodes) w.medium.removed s ≡ false =
+      ap (λ i. lives i w.medium.removed s) (sym count)
+      ∙ (ap (λ i. lives (length (set w.nodes c.0 o.step.node)) i s) (sym h.removed) ∙ gone) in
+      let within : nat_lt c.0 (length w.nodes) ≡ true = lt-ltb c.0 (length w.nodes) here in (
+        λ e.
+            no_truth (lives (length w.nodes) w.medium.removed c.0) (rw (within, alive) refl)
+            (ap (lives (length w.nodes) w.medium.removed) (sym e) ∙ was),
+        was,
+      )
 
   pub framed : IsStar deck (placed w c n o)
   unfolding placed
@@ -183,7 +209,12 @@ module _ (deck : Deck) (w : World) (c : SysId) (n : NodeState) (at : slice_get w
     inboxes = h.inboxes ∙ g.inboxes;
     systems = count ∙ g.systems;
     managed = h.moves.managed;
-    nobody = λ e s past. (h.moves.interest e s (beyond s past).0 ∙ (g.nobody e s (beyond s past).1).0, h.moves.managers e s (beyond s past).0 ∙ (g.nobody e s (beyond s past).1).1);
+    nobody = λ e s past. (
+      h.moves.interest e s (beyond s past).0 ∙ (g.nobody e s (beyond s past).1).0,
+      h.moves.managers e s (beyond s past).0 ∙ (g.nobody e s (beyond s past).1).1,
+    );
     free = λ e none. ap (under deck.entries e) grown ∙ h.moves.free e none;
-    node = λ s k f live. subst (λ L. IsMember deck o.medium.words L s k) (sym grown) (node_at s k f (sym (ap (λ i. has i s) h.removed) ∙ live));
+    node = λ s k f live.
+        subst (λ L. IsMember deck o.medium.words L s k) (sym grown)
+        (node_at s k f (sym (ap (λ i. has i s) h.removed) ∙ live));
   }

@@ -1,5 +1,6 @@
 -- What an event of a system in star mode does to what holds of it.
-use Rattle.std.proofs.Common.{◌≡◌, ℕ, Bool, true, false, cond, ◌&&◌, ◌||◌, List, [], ◌∷◌, ◌++◌, Option, Some, None, refl, ap, sym, ◌∙◌, subst}
+use Rattle.std.proofs.Common.{◌≡◌, ℕ, Bool, true, false, cond, ◌&&◌, ◌||◌, List, [], ◌∷◌, ◌++◌, Option, Some, None}
+use Rattle.std.proofs.Common.{refl, ap, sym, ◌∙◌, subst}
 use Rattle.std.specs.Prelude.{is_some, ◌==◌}
 use Rattle.std.specs.List.{list_all, list_any}
 use Rattle.std.proofs.lemmas.Bool.{and_parts, and_from}
@@ -50,11 +51,14 @@ use Rattle.grs_world.proofs.star.Answering.{Taken, decides-own, may_own, sent, t
 use Rattle.grs_world.proofs.star.Ghosts.{IsAt, TaskStep, idles, does, task-goes, told-free}
 use Rattle.grs_world.proofs.star.Members.{has_manager}
 use Rattle.grs_known.proofs.known.Blank.{blank, coming-other, coming-decided}
-use Rattle.grs_world.proofs.star.Systems.{IsSystem, IsLate, AllLate, AllFit, Keeps, is_near, is_late, news_of, late-none, here, behind-late, right-late, system-words}
+use Rattle.grs_world.proofs.star.Systems.{IsSystem, IsLate, AllLate, AllFit, Keeps, is_near, is_late, news_of}
+use Rattle.grs_world.proofs.star.Systems.{late-none, here, behind-late, right-late, system-words}
 use Rattle.grs_world.proofs.star.Under.{res-entry}
 
 -- what a system is afterwards, and what it told
-pub record Goes (deck : Deck) (words : List ℕ) (T : List RunItem) (s : ℕ) (n : NodeState) (ms : List Mail) (later : List RunItem) (out : List Req) (T0 : List ToldLine) : Type 0 where
+pub record Goes (deck : Deck) (words : List ℕ) (T : List RunItem) (s : ℕ) (n : NodeState) (ms : List Mail)
+    (later : List RunItem) (out : List Req) (T0 : List ToldLine) :
+    Type 0 where
   pub system : IsSystem deck words T s n ms later out
   pub told : ToldBy deck s [] (history T) T0 n.tasks.told
 
@@ -63,36 +67,52 @@ abbrev pub IsHomely : Deck → List ℕ → ℕ → Want → Type 0
 IsHomely deck words s w = (e : ℕ) → entry_wanted deck.entries w ≡ Some e → has_manager words e s ≡ true
 
 -- ---- such a request gives up nothing of which something comes
-pub given-entry : (deck : Deck) (r : Res) (w : Want) → gives_up r w ≡ true → entry_wanted deck.entries w ≡ entry_of_res deck.entries r
+pub given-entry : (deck : Deck) (r : Res) (w : Want) → gives_up r w ≡ true
+    → entry_wanted deck.entries w ≡ entry_of_res deck.entries r
 given-entry deck r (Enq q c ret full) h = absurd (cc)
 given-entry deck r (Deq q have) h = ap (entry_of_res deck.entries) (sym (same_res-exact r q h))
 given-entry deck r (Release q) h = ap (entry_of_res deck.entries) (sym (same_res-exact r q h))
 given-entry deck r (Look first count f) h = absurd (cc)
 
-fits-calm : (deck : Deck) (words : List ℕ) (s : ℕ) (t : TaskId) (q : Req) (ms : List Mail) → IsHomely deck words s q.want → AllFit deck words s ms → list_any (is_given_back t (fixing.Asked q)) (news_of ms) ≡ false
+fits-calm : (deck : Deck) (words : List ℕ) (s : ℕ) (t : TaskId) (q : Req) (ms : List Mail)
+    → IsHomely deck words s q.want → AllFit deck words s ms
+    → list_any (is_given_back t (fixing.Asked q)) (news_of ms) ≡ false
 fits-calm deck words s t q [] homely h = refl
 fits-calm deck words s t q (Request e from z ∷ ms) homely h = fits-calm deck words s t q ms homely h.1
 fits-calm deck words s t q (Answered u answer rank ∷ ms) homely h = fits-calm deck words s t q ms homely h.1
-fits-calm deck words s t q (Granted u r ∷ ms) homely h = go (same_task t u) (gives_up r q.want) refl (fits-calm deck words s t q ms homely h.1)
+fits-calm deck words s t q (Granted u r ∷ ms) homely h =
+    go (same_task t u) (gives_up r q.want) refl (fits-calm deck words s t q ms homely h.1)
   where
-    go : (b c : Bool) → gives_up r q.want ≡ c → list_any (is_given_back t (fixing.Asked q)) (news_of ms) ≡ false → ((b && c) || list_any (is_given_back t (fixing.Asked q)) (news_of ms)) ≡ false
-    go b true e more = no_truth (has_manager words h.0.entry s) (homely h.0.entry (given-entry deck r q.want e ∙ h.0.at)) h.0.away.0
+    go : (b c : Bool) → gives_up r q.want ≡ c → list_any (is_given_back t (fixing.Asked q)) (news_of ms) ≡ false
+        → ((b && c) || list_any (is_given_back t (fixing.Asked q)) (news_of ms)) ≡ false
+    go b true e more =
+        no_truth (has_manager words h.0.entry s) (homely h.0.entry (given-entry deck r q.want e ∙ h.0.at)) h.0.away.0
     go true false e more = more
     go false false e more = more
 
 -- and control of such a resource isn't what an item gives up that is to come
-pub late-calm : (deck : Deck) (words : List ℕ) (s : ℕ) (r : Res) (e : ℕ) (xs : List RunItem) → entry_of_res deck.entries r ≡ Some e → has_manager words e s ≡ true → AllLate deck words s xs → list_any (λ y. gives_back r y.fixed) xs ≡ false
+pub late-calm : (deck : Deck) (words : List ℕ) (s : ℕ) (r : Res) (e : ℕ) (xs : List RunItem)
+    → entry_of_res deck.entries r ≡ Some e → has_manager words e s ≡ true → AllLate deck words s xs
+    → list_any (λ y. gives_back r y.fixed) xs ≡ false
 late-calm deck words s r e [] is mine h = refl
-late-calm deck words s r e (x ∷ xs) is mine h = ap (λ b. b || list_any (λ y. gives_back r y.fixed) xs) (ap (gives_back r) h.0.asked ∙ false_by (gives_up r h.0.req.want) (λ g. calm g)) ∙ late-calm deck words s r e xs is mine h.1
+late-calm deck words s r e (x ∷ xs) is mine h =
+    ap (λ b. b || list_any (λ y. gives_back r y.fixed) xs)
+    (ap (gives_back r) h.0.asked ∙ false_by (gives_up r h.0.req.want) (λ g. calm g))
+    ∙ late-calm deck words s r e xs is mine h.1
   where
     calm : gives_up r h.0.req.want ≡ true → gives_up r h.0.req.want ≡ false
-    calm g = no_truth (has_manager words e s) mine (ap (λ i. has_manager words i s) (same_Some e h.0.entry (sym is ∙ (sym (given-entry deck r h.0.req.want g) ∙ h.0.at))) ∙ h.0.away.0)
+    calm g =
+        no_truth (has_manager words e s) mine (ap (λ i. has_manager words i s)
+        (same_Some e h.0.entry (sym is ∙ (sym (given-entry deck r h.0.req.want g) ∙ h.0.at)))
+        ∙ h.0.away.0)
 
-pub late-in : (deck : Deck) (words : List ℕ) (s : ℕ) (t : TaskId) (y : RunItem) (ys xs : List RunItem) → mine t xs ≡ y ∷ ys → AllLate deck words s xs → IsLate deck words s y
+pub late-in : (deck : Deck) (words : List ℕ) (s : ℕ) (t : TaskId) (y : RunItem) (ys xs : List RunItem)
+    → mine t xs ≡ y ∷ ys → AllLate deck words s xs → IsLate deck words s y
 late-in deck words s t y ys [] e h = absurd (cc)
 late-in deck words s t y ys (x ∷ xs) e h = go (is_of t x.fixed) e (late-in deck words s t y ys xs)
   where
-    go : (b : Bool) → cond b (x ∷ mine t xs) (mine t xs) ≡ y ∷ ys → (mine t xs ≡ y ∷ ys → AllLate deck words s xs → IsLate deck words s y) → IsLate deck words s y
+    go : (b : Bool) → cond b (x ∷ mine t xs) (mine t xs) ≡ y ∷ ys
+        → (mine t xs ≡ y ∷ ys → AllLate deck words s xs → IsLate deck words s y) → IsLate deck words s y
     go true f more = let same : x ≡ y = cc in subst (IsLate deck words s) same h.0
     go false f more = more f h.1
 
@@ -108,62 +128,103 @@ want-round deck (Deq r have) e h f = res-round deck r e h f
 want-round deck (Release r) e h f = res-round deck r e h f
 want-round deck (Look first count g) e h f = absurd (cc)
 
-module _ (deck : Deck) (words : List ℕ) (T : List RunItem) (right : IsHistory deck T) (s : ℕ) (n : NodeState) (ms : List Mail) (later : List RunItem) (out : List Req) (h : IsSystem deck words T s n ms later out) where
+module _ (deck : Deck) (words : List ℕ) (T : List RunItem) (right : IsHistory deck T) (s : ℕ) (n : NodeState)
+    (ms : List Mail) (later : List RunItem) (out : List Req) (h : IsSystem deck words T s n ms later out) where
   -- what comes, behind an item of a task that its system decides
-  pub coming-own : (c : SysId) (q : Req) → (q.task.system.0 == s) ≡ true → IsHomely deck words s q.want → is_late q.task later ≡ false → (t : TaskId) → is_home_at deck s t ≡ true → Coming t (blank (is_late t later)) (T ++ made_item c T (fixing.Asked q) ∷ []) (news_of ms)
+  pub coming-own : (c : SysId) (q : Req) → (q.task.system.0 == s) ≡ true → IsHomely deck words s q.want
+      → is_late q.task later ≡ false → (t : TaskId) → is_home_at deck s t ≡ true
+      → Coming t (blank (is_late t later)) (T ++ made_item c T (fixing.Asked q) ∷ []) (news_of ms)
   coming-own c q mine_q homely idle t home = go (same_task t q.task) refl
     where
       item : RunItem
       item = made_item c T (fixing.Asked q)
 
-      go : (b : Bool) → same_task t q.task ≡ b → Coming t (blank (is_late t later)) (T ++ made_item c T (fixing.Asked q) ∷ []) (news_of ms)
-      go false apart = coming-other t (is_late t later) T item (news_of ms) apart refl (right-late deck s T later out n h.at t home) (h.coming t home)
+      go : (b : Bool) → same_task t q.task ≡ b
+          → Coming t (blank (is_late t later)) (T ++ made_item c T (fixing.Asked q) ∷ []) (news_of ms)
+      go false apart =
+          coming-other t (is_late t later) T item (news_of ms) apart refl (right-late deck s T later out n h.at t home)
+          (h.coming t home)
       go true same =
           let none_late : is_late t later ≡ false = ap (λ z. is_late z later) (same_task-exact t q.task same) ∙ idle in
           subst (λ b. Coming t (blank b) (T ++ item ∷ []) (news_of ms)) (sym none_late)
-          (coming-decided t T item (news_of ms) same refl (fits-calm deck words s t q ms homely h.fits) (subst (λ b. IsRight t (blank b) T) none_late (right-late deck s T later out n h.at t home)) (subst (λ b. Coming t (blank b) T (news_of ms)) none_late (h.coming t home)))
+          (coming-decided t T item (news_of ms) same refl (fits-calm deck words s t q ms homely h.fits)
+          (subst (λ b. IsRight t (blank b) T) none_late (right-late deck s T later out n h.at t home))
+          (subst (λ b. Coming t (blank b) T (news_of ms)) none_late (h.coming t home)))
 
   -- ---- a task goes on by itself
-  after-task : (T' : List RunItem) (n' : NodeState) → IsAt deck s T' later out n' → ((t : TaskId) → is_home_at deck s t ≡ true → Coming t (blank (is_late t later)) T' (news_of ms)) → IsSystem deck words T' s n' ms later out
-  after-task T' n' at coming = record { at = at; late = h.late; sent = h.sent; near = h.near; coming = coming; answered = h.answered; fits = h.fits }
+  after-task : (T' : List RunItem) (n' : NodeState) → IsAt deck s T' later out n'
+      → ((t : TaskId) → is_home_at deck s t ≡ true → Coming t (blank (is_late t later)) T' (news_of ms))
+      → IsSystem deck words T' s n' ms later out
+  after-task T' n' at coming = record {
+    at = at;
+    late = h.late;
+    sent = h.sent;
+    near = h.near;
+    coming = coming;
+    answered = h.answered;
+    fits = h.fits;
+  }
 
   -- what it fixes, if it fixes anything, is for a resource of the system alone
   pub data Task (c : SysId) (st : Step) : Type 0 where
     idle_task : st.fixed ≡ [] → Goes deck words T s st.node ms later out n.tasks.told → Task c st
-    local_task : (q : Req) → st.fixed ≡ fixing.Asked q ∷ [] → (q.task.system.0 == s) ≡ true → goes_round (fixing.Asked q) ≡ false → MayFollow deck T (made_item c T (fixing.Asked q)) → Goes deck words (T ++ made_item c T (fixing.Asked q) ∷ []) s st.node ms later out n.tasks.told → Task c st
+    local_task : (q : Req) → st.fixed ≡ fixing.Asked q ∷ [] → (q.task.system.0 == s) ≡ true
+        → goes_round (fixing.Asked q) ≡ false → MayFollow deck T (made_item c T (fixing.Asked q))
+        → Goes deck words (T ++ made_item c T (fixing.Asked q) ∷ []) s st.node ms later out n.tasks.told → Task c st
 
   pub system-task : (c : SysId) (t : TaskId) → may_go deck n t ≡ true → Task c (finish_quiet deck n (choices.Task t))
   system-task c t goes = by_step (task-goes deck s c T later out n t right h.at goes)
     where
-      by_step : TaskStep deck s c T later out n (finish_quiet deck n (choices.Task t)) → Task c (finish_quiet deck n (choices.Task t))
-      by_step (idles none_fixed at told) = idle_task none_fixed (record { system = after-task T (finish_quiet deck n (choices.Task t)).node at h.coming; told = told })
+      by_step : TaskStep deck s c T later out n (finish_quiet deck n (choices.Task t))
+          → Task c (finish_quiet deck n (choices.Task t))
+      by_step (idles none_fixed at told) =
+          idle_task none_fixed
+          (record { system = after-task T (finish_quiet deck n (choices.Task t)).node at h.coming; told = told })
       by_step (does q one_fixed mine_q away m at told) =
           let item : RunItem = made_item c T (fixing.Asked q) in
           let T' : List RunItem = T ++ item ∷ [] in
           let asker : q ≡ m.ask.req = cc in
-          let home : is_home_at deck s q.task ≡ true = and_from (q.task.system.0 == s) (is_some (lines_of deck q.task)) mine_q (subst (λ (z : Req). is_some (lines_of deck z.task) ≡ true) (sym asker) m.ask.known) in
+          let home : is_home_at deck s q.task ≡ true =
+          and_from (q.task.system.0 == s) (is_some (lines_of deck q.task)) mine_q
+          (subst (λ (z : Req). is_some (lines_of deck z.task) ≡ true) (sym asker) m.ask.known) in
           local_task q one_fixed mine_q away m (record {
-            system = after-task T' (finish_quiet deck n (choices.Task t)).node at (coming-own c q mine_q (λ e f. absurd (want-round deck q.want e away f)) (false_by (is_late q.task later) (late_item q m at home away)));
+            system =
+                after-task T' (finish_quiet deck n (choices.Task t)).node at
+                (coming-own c q mine_q (λ e f. absurd (want-round deck q.want e away f))
+                (false_by (is_late q.task later) (late_item q m at home away)));
             told = told;
           })
         where
-          late_item : (q : Req) → MayFollow deck T (made_item c T (fixing.Asked q)) → IsAt deck s (T ++ made_item c T (fixing.Asked q) ∷ []) later out (finish_quiet deck n (choices.Task t)).node → is_home_at deck s q.task ≡ true → goes_round (fixing.Asked q) ≡ false → is_late q.task later ≡ true → is_late q.task later ≡ false
+          late_item : (q : Req) → MayFollow deck T (made_item c T (fixing.Asked q))
+              → IsAt deck s (T ++ made_item c T (fixing.Asked q) ∷ []) later out
+              (finish_quiet deck n (choices.Task t)).node
+              → is_home_at deck s q.task ≡ true → goes_round (fixing.Asked q) ≡ false → is_late q.task later ≡ true
+              → is_late q.task later ≡ false
           late_item q m at home away late =
               let item : RunItem = made_item c T (fixing.Asked q) in
               let T' : List RunItem = T ++ item ∷ [] in
               let k = here deck s T' later out (finish_quiet deck n (choices.Task t)).node at q.task home in
-              let last : last_of (mine q.task T') ≡ Some item = outstanding-own q.task T item (same_task-itself q.task) k.known in
-              let out_is : outstanding q.task k.known T' ≡ Some item = ap (λ b. cond b (last_of (mine q.task T')) None) (behind-late deck s T' later out (finish_quiet deck n (choices.Task t)).node at q.task home ∙ late) ∙ last in
+              let last : last_of (mine q.task T') ≡ Some item =
+              outstanding-own q.task T item (same_task-itself q.task) k.known in
+              let out_is : outstanding q.task k.known T' ≡ Some item =
+              ap (λ b. cond b (last_of (mine q.task T')) None)
+              (behind-late deck s T' later out (finish_quiet deck n (choices.Task t)).node at q.task home ∙ late)
+              ∙ last in
               let i = late-in deck words s q.task item [] later (k.due ∙ ap one out_is) h.late in
               let same : q ≡ i.req = cc in
-              absurd (want-round deck q.want i.entry away (ap (λ (z : Req). entry_wanted deck.entries z.want) same ∙ i.at))
+              absurd (want-round deck q.want i.entry away
+              (ap (λ (z : Req). entry_wanted deck.entries z.want) same ∙ i.at))
 
   -- ---- the system with other tasks, where what is open stays
-  at-tasks : (T' : List RunItem) (v : TasksView) (o : Option StarPart) (T0 : List ToldLine) → n.own ≡ part (is_res_of s) (lists T') → Taken deck s T' later out T0 v → IsAt deck s T' later out (record n { tasks = v; star = o })
-  at-tasks T' v o T0 held k = record { good = k.good; own = held; shared = refl; homes = h.at.homes; apart = h.at.apart }
+  at-tasks : (T' : List RunItem) (v : TasksView) (o : Option StarPart) (T0 : List ToldLine)
+      → n.own ≡ part (is_res_of s) (lists T') → Taken deck s T' later out T0 v
+      → IsAt deck s T' later out (record n { tasks = v; star = o })
+  at-tasks T' v o T0 held
+      k = record { good = k.good; own = held; shared = refl; homes = h.at.homes; apart = h.at.apart }
 
   -- ---- it decides a request of its own task
-  module _ (t : TaskId) (ls : List Meaning) (ours : IsOurs deck s n.tasks t ls) (home : is_home_at deck s t ≡ true) (a : Asked) (is : (state_of n.tasks t).outstanding ≡ Some a) (free : is_among t (askers out) ≡ false) where
+  module _ (t : TaskId) (ls : List Meaning) (ours : IsOurs deck s n.tasks t ls) (home : is_home_at deck s t ≡ true)
+      (a : Asked) (is : (state_of n.tasks t).outstanding ≡ Some a) (free : is_among t (askers out) ≡ false) where
     may : MayPut deck T (request_of t a)
     may = may_own deck s T later out n h.at t ls ours a is free right (h.sent t free)
 
@@ -171,49 +232,81 @@ module _ (deck : Deck) (words : List ℕ) (T : List RunItem) (right : IsHistory 
     may-follow c = may.follow c
 
     -- the request that it sends
-    pub system-sent : (words' : List ℕ) (o : Option StarPart) → Keeps words words' s → is_near deck words' s (request_of t a) ≡ true → IsSystem deck words' T s (record n { tasks = with_phase n.tasks t phases.Sent; star = o }) ms later (out ++ request_of t a ∷ [])
+    pub system-sent : (words' : List ℕ) (o : Option StarPart) → Keeps words words' s
+        → is_near deck words' s (request_of t a) ≡ true
+        → IsSystem deck words' T s (record n { tasks = with_phase n.tasks t phases.Sent; star = o }) ms later
+        (out ++ request_of t a ∷ [])
     system-sent words' o keeps near =
         let z = system-words deck words words' T s n ms later out keeps h in
         record {
           at = sent deck s T later out n h.at t ls ours a is free;
           late = z.late;
           sent = λ u none. h.sent u (front_none u out none);
-          near = list_all-push (is_near deck words' s) out (request_of t a) ∙ and_from (list_all (is_near deck words' s) out) (is_near deck words' s (request_of t a)) z.near near;
+          near =
+              list_all-push (is_near deck words' s) out (request_of t a)
+              ∙ and_from (list_all (is_near deck words' s) out) (is_near deck words' s (request_of t a)) z.near near;
           coming = h.coming;
           answered = h.answered;
           fits = z.fits;
         }
       where
-        front_none : (u : TaskId) (qs : List Req) → is_among u (askers (qs ++ request_of t a ∷ [])) ≡ false → is_among u (askers qs) ≡ false
+        front_none : (u : TaskId) (qs : List Req) → is_among u (askers (qs ++ request_of t a ∷ [])) ≡ false
+            → is_among u (askers qs) ≡ false
         front_none u [] e = refl
         front_none u (q ∷ qs) e = go (same_task u q.task) e (front_none u qs)
           where
-            go : (b : Bool) → (b || is_among u (askers (qs ++ request_of t a ∷ []))) ≡ false → (is_among u (askers (qs ++ request_of t a ∷ [])) ≡ false → is_among u (askers qs) ≡ false) → (b || is_among u (askers qs)) ≡ false
+            go : (b : Bool) → (b || is_among u (askers (qs ++ request_of t a ∷ []))) ≡ false
+                → (is_among u (askers (qs ++ request_of t a ∷ [])) ≡ false → is_among u (askers qs) ≡ false)
+                → (b || is_among u (askers qs)) ≡ false
             go true f more = absurd (cc)
             go false f more = more f
 
     -- what it decides
-    module _ (c : SysId) (entry : ℕ) (of_entry : entry_wanted deck.entries a.req.want ≡ Some entry) (mine_entry : has_manager words entry s ≡ true) (r : Res) (wanted : res_wanted a.req.want ≡ Some r) (ts : List TaskId) where
+    module _ (c : SysId) (entry : ℕ) (of_entry : entry_wanted deck.entries a.req.want ≡ Some entry)
+        (mine_entry : has_manager words entry s ≡ true) (r : Res) (wanted : res_wanted a.req.want ≡ Some r)
+        (ts : List TaskId) where
       abbrev item : RunItem
       item = made_item c T (fixing.Asked (request_of t a))
 
-      pub system-decided : (rank : ℕ) (o : Option StarPart) → ((u : TaskId) → is_among u ts ≡ true → owns (list_of (lists (T ++ item ∷ [])) r) u ≡ true) →
-          Goes deck words (T ++ item ∷ []) s (record n { tasks = tell_new (tell_answer_ranked n.tasks t a (answer_to (lists T) t a.req.want) rank) (res_wanted a.req.want) ts; star = o }) ms later out n.tasks.told
+      pub system-decided : (rank : ℕ) (o : Option StarPart)
+          → ((u : TaskId) → is_among u ts ≡ true → owns (list_of (lists (T ++ item ∷ [])) r) u ≡ true) →
+          Goes deck words (T ++ item ∷ []) s (record n {
+            tasks =
+                tell_new (tell_answer_ranked n.tasks t a (answer_to (lists T) t a.req.want) rank)
+                (res_wanted a.req.want) ts;
+            star = o;
+          })
+          ms later out n.tasks.told
       unfolding tell_new
       system-decided rank o owned =
           let m = may-follow c in
           let T' : List RunItem = T ++ item ∷ [] in
           let k = decides-own deck s T later right out n h.at t ls ours a is c m (h.sent t free) free rank in
-          let told = tells-owners deck s T' later out (follows deck T item right m) n.tasks.told (tell_answer_ranked n.tasks t a (answer_to (lists T) t a.req.want) rank) k r ts owned (late-calm deck words s r entry later (res-entry deck.entries a.req.want r entry wanted of_entry) mine_entry h.late) in
-          subst (λ w. Goes deck words T' s (record n { tasks = tell_new (tell_answer_ranked n.tasks t a (answer_to (lists T) t a.req.want) rank) w ts; star = o }) ms later out n.tasks.told) (sym wanted)
+          let told =
+          tells-owners deck s T' later out (follows deck T item right m) n.tasks.told
+          (tell_answer_ranked n.tasks t a (answer_to (lists T) t a.req.want) rank) k r ts owned
+          (late-calm deck words s r entry later (res-entry deck.entries a.req.want r entry wanted of_entry) mine_entry
+          h.late) in
+          subst (λ w.
+          Goes deck words T' s (record n
+          { tasks = tell_new (tell_answer_ranked n.tasks t a (answer_to (lists T) t a.req.want) rank) w ts; star = o })
+          ms later out n.tasks.told)
+          (sym wanted)
           (record {
             system = record {
-              at = at-tasks T' (tell_all (tell_answer_ranked n.tasks t a (answer_to (lists T) t a.req.want) rank) r ts) o n.tasks.told
-                  (part-other (is_res_of s) T item (request_of t a) r refl wanted n.own h.at.own (systems-other s r wide)) told;
+              at =
+                  at-tasks T' (tell_all (tell_answer_ranked n.tasks t a (answer_to (lists T) t a.req.want) rank) r ts) o
+                  n.tasks.told
+                  (part-other (is_res_of s) T item (request_of t a) r refl wanted n.own h.at.own
+                  (systems-other s r wide))
+                  told;
               late = h.late;
               sent = h.sent;
               near = h.near;
-              coming = coming-own c (request_of t a) (and_parts (t.system.0 == s) (is_some (lines_of deck t)) home).0 (λ e f. ap (λ i. has_manager words i s) (same_Some e entry (sym f ∙ of_entry)) ∙ mine_entry) (late-none t later (h.sent t free));
+              coming =
+                  coming-own c (request_of t a) (and_parts (t.system.0 == s) (is_some (lines_of deck t)) home).0
+                  (λ e f. ap (λ i. has_manager words i s) (same_Some e entry (sym f ∙ of_entry)) ∙ mine_entry)
+                  (late-none t later (h.sent t free));
               answered = h.answered;
               fits = h.fits;
             };

@@ -1,5 +1,6 @@
 -- The rank of a task's request says nothing of how the task stands.
-use Rattle.std.proofs.Common.{◌≡◌, ℕ, Bool, true, false, cond, List, [], ◌∷◌, map, Option, Some, None, refl, ap, sym, ◌∙◌, subst}
+use Rattle.std.proofs.Common.{◌≡◌, ℕ, Bool, true, false, cond, List, [], ◌∷◌, map, Option, Some, None, refl, ap, sym}
+use Rattle.std.proofs.Common.{◌∙◌, subst}
 use Rattle.std.specs.Prelude.{slice_get, nat_le}
 use Rattle.grs_base.specs.Same.{same_res}
 use Rattle.grs_base.specs.declared.resource.Res.{Res}
@@ -33,18 +34,37 @@ use Rattle.grs_known.proofs.system.Turns.{quiet_good}
 abbrev pub ranked : ℕ → Rec → Rec
 ranked k y = record y { rank = k }
 
-rec-ranked : (ls : List Meaning) (E : List HistEntry) (T : List ToldLine) (owns leaving : Res → Bool) (t : TaskId) (line : ℕ) (p : Phase) (k : ℕ) (x : Rec) → IsRec ls E T owns leaving t line p x → IsRec ls E T owns leaving t line p (ranked k x)
-rec-ranked ls E T owns leaving t line p k x h = record { entry = h.entry; latest = h.latest; low = h.low; high = h.high; known = h.known; control = h.control; due = h.due }
+rec-ranked :
+    (ls : List Meaning) (E : List HistEntry) (T : List ToldLine) (owns leaving : Res → Bool) (t : TaskId) (line : ℕ)
+    (p : Phase) (k : ℕ) (x : Rec)
+    → IsRec ls E T owns leaving t line p x → IsRec ls E T owns leaving t line p (ranked k x)
+rec-ranked ls E T owns leaving t line p k x h = record {
+  entry = h.entry;
+  latest = h.latest;
+  low = h.low;
+  high = h.high;
+  known = h.known;
+  control = h.control;
+  due = h.due;
+}
 
-each-ranked : (ls : List Meaning) (E : List HistEntry) (T : List ToldLine) (owns leaving : Res → Bool) (t : TaskId) (line : ℕ) (p : Phase) (r : Res) (k : ℕ) (xs : List Rec) → Each (IsRec ls E T owns leaving t line p) xs → Each (IsRec ls E T owns leaving t line p) (on_record r (ranked k) xs)
+each-ranked :
+    (ls : List Meaning) (E : List HistEntry) (T : List ToldLine) (owns leaving : Res → Bool) (t : TaskId) (line : ℕ)
+    (p : Phase) (r : Res) (k : ℕ) (xs : List Rec)
+    → Each (IsRec ls E T owns leaving t line p) xs
+    → Each (IsRec ls E T owns leaving t line p) (on_record r (ranked k) xs)
 each-ranked ls E T owns leaving t line p r k [] h = tt
-each-ranked ls E T owns leaving t line p r k (x ∷ xs) h = (go (same_res r x.res), each-ranked ls E T owns leaving t line p r k xs h.1)
+each-ranked ls E T owns leaving t line p r k (x ∷ xs)
+    h = (go (same_res r x.res), each-ranked ls E T owns leaving t line p r k xs h.1)
   where
     go : (b : Bool) → IsRec ls E T owns leaving t line p (cond b (ranked k x) x)
     go true = rec-ranked ls E T owns leaving t line p k x h.0
     go false = h.0
 
-task-ranked : (ls : List Meaning) (p : Past) (T : List ToldLine) (leaving : Res → Bool) (t : TaskId) (x : TaskState) (r : Res) (k : ℕ) → IsTask ls p T leaving t x → IsTask ls p T leaving t (record x { records = on_record r (ranked k) x.records })
+task-ranked :
+    (ls : List Meaning) (p : Past) (T : List ToldLine) (leaving : Res → Bool) (t : TaskId) (x : TaskState) (r : Res)
+    (k : ℕ)
+    → IsTask ls p T leaving t x → IsTask ls p T leaving t (record x { records = on_record r (ranked k) x.records })
 task-ranked ls p T leaving t x r k h = record {
   keys = keys-on_record (ranked k) (λ y. refl) r x.records ∙ h.keys;
   owned = h.owned;
@@ -58,57 +78,82 @@ task-ranked ls p T leaving t x r k h = record {
   emptied = λ e. ap (on_record r (ranked k)) (h.emptied e);
 }
 
-res-ranked : (r : Res) (k : ℕ) (xs : List Rec) → map (λ (y : Rec). y.res) (on_record r (ranked k) xs) ≡ map (λ (y : Rec). y.res) xs
+res-ranked : (r : Res) (k : ℕ) (xs : List Rec)
+    → map (λ (y : Rec). y.res) (on_record r (ranked k) xs) ≡ map (λ (y : Rec). y.res) xs
 res-ranked r k [] = refl
 res-ranked r k (x ∷ xs) = go (same_res r x.res) (res-ranked r k xs)
   where
-    go : (b : Bool) → map (λ (y : Rec). y.res) (on_record r (ranked k) xs) ≡ map (λ (y : Rec). y.res) xs → map (λ (y : Rec). y.res) (cond b (ranked k x) x ∷ on_record r (ranked k) xs) ≡ map (λ (y : Rec). y.res) (x ∷ xs)
+    go : (b : Bool) → map (λ (y : Rec). y.res) (on_record r (ranked k) xs) ≡ map (λ (y : Rec). y.res) xs
+        → map (λ (y : Rec). y.res) (cond b (ranked k x) x ∷ on_record r (ranked k) xs)
+        ≡ map (λ (y : Rec). y.res) (x ∷ xs)
     go true h = ap (λ zs. x.res ∷ zs) h
     go false h = ap (λ zs. x.res ∷ zs) h
 
-open-ranked : (limit : ℕ) (ls : List Meaning) (t : TaskId) (r : Res) (k : ℕ) (x : TaskState) → IsOpen limit ls t x → IsOpen limit ls t (record x { records = on_record r (ranked k) x.records })
+open-ranked : (limit : ℕ) (ls : List Meaning) (t : TaskId) (r : Res) (k : ℕ) (x : TaskState) → IsOpen limit ls t x
+    → IsOpen limit ls t (record x { records = on_record r (ranked k) x.records })
 open-ranked limit ls t r k x h = go x.outstanding h
   where
-    by_want : (n : ℕ) (xs : List Rec) (w : Want) (unit : Option ℕ) → IsAskedFor limit ls n xs w unit → IsAskedFor limit ls n (on_record r (ranked k) xs) w unit
-    by_want n xs (Enq q c ret full) unit j = (j.0, j.1, j.2, j.3 ∙ ap (nat_le limit) (sym (length-on_record r (ranked k) xs)))
+    by_want : (n : ℕ) (xs : List Rec) (w : Want) (unit : Option ℕ) → IsAskedFor limit ls n xs w unit
+        → IsAskedFor limit ls n (on_record r (ranked k) xs) w unit
+    by_want n xs (Enq q c ret full) unit
+        j = (j.0, j.1, j.2, j.3 ∙ ap (nat_le limit) (sym (length-on_record r (ranked k) xs)))
     by_want n xs (Deq q have) unit j = j
     by_want n xs (Release q) unit j = (ap (λ zs. slice_get zs 0) (res-ranked r k xs) ∙ j.0, j.1)
     by_want n xs (Look first count f) unit j = j
 
-    go : (o : Option Asked) → IsOpenBy limit ls t x o → IsOpenBy limit ls t (record x { records = on_record r (ranked k) x.records }) o
+    go : (o : Option Asked) → IsOpenBy limit ls t x o
+        → IsOpenBy limit ls t (record x { records = on_record r (ranked k) x.records }) o
     go None j = j
     go (Some a) j = (j.0, j.1, by_want x.line x.records a.req.want a.unit j.2)
 
 -- a task stands as it did
-pub here-ranked : (deck : Deck) (os : Opens) (P : List RunItem) (T : List ToldLine) (t : TaskId) (ls : List Meaning) (x : TaskState) (r : Res) (k : ℕ) → IsHere deck os P T t ls x → IsHere deck os P T t ls (record x { records = on_record r (ranked k) x.records })
+pub here-ranked :
+    (deck : Deck) (os : Opens) (P : List RunItem) (T : List ToldLine) (t : TaskId) (ls : List Meaning) (x : TaskState)
+    (r : Res) (k : ℕ)
+    → IsHere deck os P T t ls x → IsHere deck os P T t ls (record x { records = on_record r (ranked k) x.records })
 here-ranked deck os P T t ls x r k h = record {
   known = h.known;
   knows = h.knows;
   due = h.due;
-  task = subst (λ y. IsTask ls (past_of t h.known P) T (λ q. is_leaving q x.outstanding) t y) (sym (unasked-told x r (ranked k))) (task-ranked ls (past_of t h.known P) T (λ q. is_leaving q x.outstanding) t (unasked x) r k h.task);
+  task =
+      subst (λ y. IsTask ls (past_of t h.known P) T (λ q. is_leaving q x.outstanding) t y)
+      (sym (unasked-told x r (ranked k)))
+      (task-ranked ls (past_of t h.known P) T (λ q. is_leaving q x.outstanding) t (unasked x) r k h.task);
   opened = open-ranked deck.limit ls t r k x h.opened;
   asked = h.asked;
   sent = h.sent;
 }
 
 -- ---- the tasks of a system, once a request of one of them has its rank
-pub did-rank : (v : TasksView) (t : TaskId) (r : Res) (k : ℕ) → is_task v t ≡ true → Did v (with_rank v t r k) t (record (state_of v t) { records = on_record r (ranked k) (state_of v t).records }) v.told
+pub did-rank : (v : TasksView) (t : TaskId) (r : Res) (k : ℕ) → is_task v t ≡ true
+    → Did v (with_rank v t r k) t (record (state_of v t) { records = on_record r (ranked k) (state_of v t).records })
+    v.told
 unfolding with_rank
 did-rank v t r k here =
     let f : TaskState → TaskState = λ x. record x { records = on_record r (λ y. record y { rank = k }) x.records } in
     record { changed = changed-state v t f; state = state_of-same v t f here; told = told-state v t f }
 
-good-rank : (deck : Deck) (s : ℕ) (os : Opens) (P : List RunItem) (v : TasksView) (t : TaskId) (ls : List Meaning) (r : Res) (k : ℕ) → IsOurs deck s v t ls → IsGood deck s os P v → IsGood deck s os P (with_rank v t r k)
+good-rank :
+    (deck : Deck) (s : ℕ) (os : Opens) (P : List RunItem) (v : TasksView) (t : TaskId) (ls : List Meaning) (r : Res)
+    (k : ℕ)
+    → IsOurs deck s v t ls → IsGood deck s os P v → IsGood deck s os P (with_rank v t r k)
 good-rank deck s os P v t ls r k ours g =
     let x : TaskState = state_of v t in
     let h = g.tasks.each t ls ours in
-    (quiet_good deck s os os P v g t ls ours (with_rank v t r k) (record x { records = on_record r (ranked k) x.records }) v.told (did-rank v t r k ours.here)
+    (quiet_good deck s os os P v g t ls ours (with_rank v t r k)
+    (record x { records = on_record r (ranked k) x.records }) v.told (did-rank v t r k ours.here)
     (here-ranked deck os P v.told t ls x r k h)
     (λ u o apart a. a) (λ u ph apart a. a) refl (λ u ms apart p leaving y j. j) none).good
 
 pub told-rank : (v : TasksView) (t : TaskId) (r : Res) (k : ℕ) → is_task v t ≡ true → (with_rank v t r k).told ≡ v.told
 told-rank v t r k here = (did-rank v t r k here).told
 
-pub ranked-good : (deck : Deck) (s : ℕ) (os : Opens) (P : List RunItem) (T0 : List ToldLine) (v : TasksView) (t : TaskId) (ls : List Meaning) (o : Option Res) (k : ℕ) → IsOurs deck s v t ls → StaysGood deck s os P T0 v → StaysGood deck s os P T0 (with_rank_of v t o k)
+pub ranked-good :
+    (deck : Deck) (s : ℕ) (os : Opens) (P : List RunItem) (T0 : List ToldLine) (v : TasksView) (t : TaskId)
+    (ls : List Meaning) (o : Option Res) (k : ℕ)
+    → IsOurs deck s v t ls → StaysGood deck s os P T0 v → StaysGood deck s os P T0 (with_rank_of v t o k)
 ranked-good deck s os P T0 v t ls None k ours z = z
-ranked-good deck s os P T0 v t ls (Some r) k ours z = record { good = good-rank deck s os P v t ls r k ours z.good; told = subst (ToldBy deck s os.all (history P) T0) (sym (told-rank v t r k ours.here)) z.told }
+ranked-good deck s os P T0 v t ls (Some r) k ours z = record {
+  good = good-rank deck s os P v t ls r k ours z.good;
+  told = subst (ToldBy deck s os.all (history P) T0) (sym (told-rank v t r k ours.here)) z.told;
+}

@@ -1,5 +1,6 @@
 -- What holds of words, roles and lists at the start of star mode; and the lists that are kept in it.
-use Rattle.std.proofs.Common.{◌≡◌, ◌≤◌, ◌<◌, ◌%◌, ℕ, zero, suc, Bool, true, false, not, cond, List, [], ◌∷◌, length, Option, Some, None, refl, ap, sym, ◌∙◌, subst, arith}
+use Rattle.std.proofs.Common.{◌≡◌, ◌≤◌, ◌<◌, ◌%◌, ℕ, zero, suc, Bool, true, false, not, cond, List, [], ◌∷◌, length}
+use Rattle.std.proofs.Common.{Option, Some, None, refl, ap, sym, ◌∙◌, subst, arith}
 use Rattle.std.specs.Prelude.{is_some, nat_lt, slice_get, replicate, slice_index_or}
 use Rattle.std.proofs.lemmas.Bool.{and_parts, ltb-true, not-true}
 use Rattle.std.proofs.lemmas.List.{length-replicate}
@@ -33,7 +34,16 @@ use Rattle.grs_world.proofs.run.InRing.{count_first}
 -- ---- one event
 -- an event that is only counted
 pub counted-star : (deck : Deck) (w : World) → IsStar deck w → IsStar deck (counted w)
-counted-star deck w g = record { mode = g.mode; words = g.words; inboxes = g.inboxes; systems = g.systems; managed = g.managed; nobody = g.nobody; free = g.free; node = g.node }
+counted-star deck w g = record {
+  mode = g.mode;
+  words = g.words;
+  inboxes = g.inboxes;
+  systems = g.systems;
+  managed = g.managed;
+  nobody = g.nobody;
+  free = g.free;
+  node = g.node;
+}
 
 -- ---- the first world
 -- a word of the start
@@ -59,18 +69,22 @@ none_interested zero e = refl
 none_interested (suc k) zero = refl
 none_interested (suc k) (suc e) = none_interested k e
 
-first_fits : (deck : Deck) (s : ℕ) → IsPart deck (replicate deck.entries 0) [] s (first_part (record { 0 = s }) deck.entries)
+first_fits : (deck : Deck) (s : ℕ)
+    → IsPart deck (replicate deck.entries 0) [] s (first_part (record { 0 = s }) deck.entries)
 first_fits deck s = record {
   home = refl;
   entries = length-replicate deck.entries None;
   interests = length-replicate deck.entries false;
-  roles = λ e. ap is_some (no_managed deck.entries e) ∙ sym (ap (λ o. is_manager o (record { 0 = s })) (no_manager deck.entries e));
+  roles = λ e.
+      ap is_some (no_managed deck.entries e)
+      ∙ sym (ap (λ o. is_manager o (record { 0 = s })) (no_manager deck.entries e));
   interest = λ e. none_interested deck.entries e ∙ sym (no_interest deck.entries e s);
   lists = λ e h. subst (λ o. Alike (plain (items_of o)) []) (sym (no_managed deck.entries e)) (alike-itself []);
   well = well_kept_begins (record { 0 = s }) deck.entries;
 }
 
-first_member : (deck : Deck) (s : ℕ) → deck.star ≡ true → IsMember deck (replicate deck.entries 0) [] s (first_node deck s)
+first_member : (deck : Deck) (s : ℕ) → deck.star ≡ true
+    → IsMember deck (replicate deck.entries 0) [] s (first_node deck s)
 unfolding first_node
 first_member deck s star = record {
   part = first_part (record { 0 = s }) deck.entries;
@@ -87,9 +101,12 @@ first_star deck star = record {
   inboxes = length-replicate (length deck.systems) [];
   systems = count_first deck 0 deck.systems;
   managed = words_begin deck.entries;
-  nobody = λ e s past. (no_interest deck.entries e s, ap (λ o. is_manager o (record { 0 = s })) (no_manager deck.entries e));
+  nobody = λ e s past.
+      (no_interest deck.entries e s, ap (λ o. is_manager o (record { 0 = s })) (no_manager deck.entries e));
   free = λ e none. refl;
-  node = λ s n f live. subst (λ (k : NodeState). IsMember deck (replicate deck.entries 0) [] s k) (sym (first_is deck s n f)) (first_member deck s star);
+  node = λ s n f live.
+      subst (λ (k : NodeState). IsMember deck (replicate deck.entries 0) [] s k) (sym (first_is deck s n f))
+      (first_member deck s star);
 }
 
 -- ---- words
@@ -100,10 +117,12 @@ word_past (w ∷ ws) zero past = absurd (omega (arith, past))
 word_past (w ∷ ws) (suc e) past = word_past ws e (omega (arith, past))
 
 -- ---- what is kept are the lists after all that was fixed
-pub kept_lists : (deck : Deck) (w : World) → IsStar deck w → (s : SysId) (r : Res) → is_systems r ≡ true → kept deck w s r ≡ list_of (all_lists w) r
+pub kept_lists : (deck : Deck) (w : World) → IsStar deck w → (s : SysId) (r : Res) → is_systems r ≡ true
+    → kept deck w s r ≡ list_of (all_lists w) r
 kept_lists deck w g s (Step n j q r) all = absurd (cc)
 kept_lists deck w g s (System n q r) all = absurd (cc)
-kept_lists deck w g s (Systems q r) all = ap (λ b. kept_in b deck w s res) g.mode ∙ by_word (manager_at w.medium.words x) refl
+kept_lists deck w g s (Systems q r) all =
+    ap (λ b. kept_in b deck w s res) g.mode ∙ by_word (manager_at w.medium.words x) refl
   where
     res : Res
     res = Systems q r
@@ -123,22 +142,34 @@ kept_lists deck w g s (Systems q r) all = ap (λ b. kept_in b deck w s res) g.mo
       where
         go : (b : Bool) → lives (length w.nodes) w.medium.removed m.0 ≡ b → b ≡ true
         go true e = refl
-        go false e = no_truth (has_manager w.medium.words x m.0) (manager-here w.medium.words x m is) (g.nobody x m.0 e).1
+        go false e =
+            no_truth (has_manager w.medium.words x m.0) (manager-here w.medium.words x m is) (g.nobody x m.0 e).1
 
-    at_member : (m : SysId) (n : NodeState) → slice_get w.nodes m.0 ≡ Some n → manager_at w.medium.words x ≡ Some m → at_node deck w m (Some n) (Systems q r) ≡ list_of (all_lists w) (Systems q r)
+    at_member : (m : SysId) (n : NodeState) → slice_get w.nodes m.0 ≡ Some n → manager_at w.medium.words x ≡ Some m
+        → at_node deck w m (Some n) (Systems q r) ≡ list_of (all_lists w) (Systems q r)
     at_member m n at is =
-        let k = g.node m.0 n at (not-true _ (and_parts (nat_lt m.0 (length w.nodes)) (not (has w.medium.removed m.0)) (lives_here m is)).1) in
+        let k =
+        g.node m.0 n at
+        (not-true _ (and_parts (nat_lt m.0 (length w.nodes)) (not (has w.medium.removed m.0)) (lives_here m is)).1) in
         let mine : manages k.part x ≡ true = k.fits.roles x ∙ manager-here w.medium.words x m is in
-        let entry : entry_of_res (length k.part.manager.entries) res ≡ Some x = ap (λ i. Some (entry_of (slice_of q r) i)) (k.fits.entries ∙ sym g.words) in
+        let entry : entry_of_res (length k.part.manager.entries) res ≡ Some x =
+        ap (λ i. Some (entry_of (slice_of q r) i)) (k.fits.entries ∙ sym g.words) in
         ap (λ o. managed_list deck w m n o res) k.star
         ∙ ap (λ o. list_of (plain (items_of (kept_for k.part.manager.entries o))) res) entry
         ∙ (k.fits.lists x mine).lists res
         ∙ listed
 
-    by_system : (m : SysId) (o : Option NodeState) → slice_get w.nodes m.0 ≡ o → manager_at w.medium.words x ≡ Some m → at_node deck w m o (Systems q r) ≡ list_of (all_lists w) (Systems q r)
-    by_system m None at is = absurd (let past = slice_get-past w.nodes m.0 at in let here : m.0 < length w.nodes = ltb-true m.0 (length w.nodes) (and_parts (nat_lt m.0 (length w.nodes)) (not (has w.medium.removed m.0)) (lives_here m is)).0 in omega (arith, past, here))
+    by_system : (m : SysId) (o : Option NodeState) → slice_get w.nodes m.0 ≡ o → manager_at w.medium.words x ≡ Some m
+        → at_node deck w m o (Systems q r) ≡ list_of (all_lists w) (Systems q r)
+    by_system m None at is =
+        absurd (let past = slice_get-past w.nodes m.0 at in
+        let here : m.0 < length w.nodes =
+        ltb-true m.0 (length w.nodes)
+        (and_parts (nat_lt m.0 (length w.nodes)) (not (has w.medium.removed m.0)) (lives_here m is)).0 in
+        omega (arith, past, here))
     by_system m (Some n) at is = at_member m n at is
 
-    by_word : (o : Option SysId) → manager_at w.medium.words x ≡ o → at_manager deck w (named_by w.medium.words (Some x)) (Systems q r) ≡ list_of (all_lists w) (Systems q r)
+    by_word : (o : Option SysId) → manager_at w.medium.words x ≡ o
+        → at_manager deck w (named_by w.medium.words (Some x)) (Systems q r) ≡ list_of (all_lists w) (Systems q r)
     by_word None is = ap (λ o. at_manager deck w o res) is ∙ (sym (ap (λ z. list_of z res) (g.free x is)) ∙ listed)
     by_word (Some m) is = ap (λ o. at_manager deck w o res) is ∙ by_system m (slice_get w.nodes m.0) refl is

@@ -1,5 +1,6 @@
 -- A system sends a request of its own task to the manager of its entry, or decides it as that manager.
-use Rattle.std.proofs.Common.{◌≡◌, ◌≢◌, ◌<◌, ◌||◌, ◌&&◌, inl, inr, ℕ, Bool, true, false, cond, List, [], ◌∷◌, ◌++◌, length, Option, Some, None, refl, ap, sym, ◌∙◌, subst, arith, append_assoc}
+use Rattle.std.proofs.Common.{◌≡◌, ◌≢◌, ◌<◌, ◌||◌, ◌&&◌, inl, inr, ℕ, Bool, true, false, cond, List, [], ◌∷◌, ◌++◌}
+use Rattle.std.proofs.Common.{length, Option, Some, None, refl, ap, sym, ◌∙◌, subst, arith, append_assoc}
 use Rattle.std.specs.Prelude.{◌==◌, is_some, slice_get, unwrap_or}
 use Rattle.std.specs.List.{All}
 use Rattle.std.proofs.lemmas.Bool.{and_parts, eqb-true, eqb-false, eq-eqb, or_left, or_right}
@@ -55,9 +56,12 @@ use Rattle.grs_world.proofs.star.Elements.{AreNear, is_near_res, near-has, near-
 use Rattle.grs_world.proofs.star.Members.{IsStep, has_manager, managed-is}
 use Rattle.grs_world.proofs.star.OwnEvents.{may-follow, system-decided, system-sent}
 use Rattle.grs_world.proofs.star.Runs.{word_past}
-use Rattle.grs_world.proofs.star.Systems.{IsSystem, Keeps, Away, near_at, requests_in, system-other, system-requested, system-words}
+use Rattle.grs_world.proofs.star.Systems.{IsSystem, Keeps, Away, near_at, requests_in, system-other, system-requested}
+use Rattle.grs_world.proofs.star.Systems.{system-words}
 use Rattle.grs_world.proofs.star.Under.{res-entry}
-use Rattle.grs_world.proofs.star.Worlds.{IsIn, IsHand, AllHands, Hands, IsWhole, are_live, in_hands, live-below, live-here, manager-live, items-none, items-one, whole-placed, none_fixed, fixes-own}
+use Rattle.grs_world.proofs.star.Worlds.{IsIn, IsHand, AllHands, Hands, IsWhole, are_live, in_hands, live-below}
+use Rattle.grs_world.proofs.star.Worlds.{live-here, manager-live, items-none, items-one, whole-placed, none_fixed}
+use Rattle.grs_world.proofs.star.Worlds.{fixes-own}
 use Rattle.grs_world.proofs.star.Heard.{StaysHeard}
 use Rattle.grs_world.proofs.star.hearing.Sent.{heard-sent}
 use Rattle.grs_world.proofs.star.steps.Outcome.{IsOutcome}
@@ -75,43 +79,64 @@ pub words-stay : (words : List ℕ) → WordsGrow words words
 words-stay words = record { managed = λ e m h. h; keeps = λ s. record { away = λ e a. a; near = λ e h. h } }
 
 -- So they do behind a request.
-module _ (words : List ℕ) (x : ℕ) (c : SysId) (there : x < length words) (few : c.0 < most_systems) (managed : All IsManaged words) where
+module _ (words : List ℕ) (x : ℕ) (c : SysId) (there : x < length words) (few : c.0 < most_systems)
+    (managed : All IsManaged words) where
   -- the caller has interest
   pub submit-near : is_interested (submitted_words words x c) x c.0 ≡ true
-  submit-near = submit_joins words x c there few managed x c.0 ∙ or_right (is_interested words x c.0) ((x == x) && (c.0 == c.0)) (ap (λ b. b && (c.0 == c.0)) (eq-eqb x x refl) ∙ eq-eqb c.0 c.0 refl)
+  submit-near =
+      submit_joins words x c there few managed x c.0
+      ∙ or_right (is_interested words x c.0) ((x == x) && (c.0 == c.0))
+      (ap (λ b. b && (c.0 == c.0)) (eq-eqb x x refl) ∙ eq-eqb c.0 c.0 refl)
 
-  manager_now : (e : ℕ) → manager_at (submitted_words words x c) e ≡ cond (e == x) (Some (unwrap_or (manager_at words x) c)) (manager_at words e)
+  manager_now : (e : ℕ)
+      → manager_at (submitted_words words x c) e
+      ≡ cond (e == x) (Some (unwrap_or (manager_at words x) c)) (manager_at words e)
   manager_now = submit_manages words x c there few
 
   still_manages : (e m : ℕ) → has_manager words e m ≡ true → has_manager (submitted_words words x c) e m ≡ true
   still_manages e m h = ap (λ o. is_manager o (record { 0 = m })) (manager_now e) ∙ go (e == x) refl
     where
-      go : (b : Bool) → (e == x) ≡ b → is_manager (cond b (Some (unwrap_or (manager_at words x) c)) (manager_at words e)) (record { 0 = m }) ≡ true
+      go : (b : Bool) → (e == x) ≡ b
+          → is_manager (cond b (Some (unwrap_or (manager_at words x) c)) (manager_at words e)) (record { 0 = m }) ≡ true
       go false f = h
       go true f =
-          let was : manager_at words x ≡ Some (record { 0 = m }) = managed-is words x m (manager_at words x) refl (ap (λ i. has_manager words i m) (sym (eqb-true e x f)) ∙ h) in
+          let was : manager_at words x ≡ Some (record { 0 = m }) =
+          managed-is words x m (manager_at words x) refl (ap (λ i. has_manager words i m) (sym (eqb-true e x f)) ∙ h) in
           ap (λ o. is_manager (Some (unwrap_or o c)) (record { 0 = m })) was ∙ eq-eqb m m refl
 
   still_near : (e s : ℕ) → is_interested words e s ≡ true → is_interested (submitted_words words x c) e s ≡ true
-  still_near e s h = submit_joins words x c there few managed e s ∙ or_left (is_interested words e s) ((e == x) && (s == c.0)) h
+  still_near e s h =
+      submit_joins words x c there few managed e s ∙ or_left (is_interested words e s) ((e == x) && (s == c.0)) h
 
   still_away : (e s : ℕ) → Away words s e → has_manager (submitted_words words x c) e s ≡ false
-  still_away e s a = false_by (has_manager (submitted_words words x c) e s) (λ h. absurd (by_entry (e == x) refl (sym (ap (λ o. is_manager o (record { 0 = s })) (manager_now e)) ∙ h)))
+  still_away e s a =
+      false_by (has_manager (submitted_words words x c) e s)
+      (λ h. absurd (by_entry (e == x) refl (sym (ap (λ o. is_manager o (record { 0 = s })) (manager_now e)) ∙ h)))
     where
-      at_x : (o : Option SysId) → manager_at words x ≡ o → e ≡ x → is_manager (Some (unwrap_or o c)) (record { 0 = s }) ≡ true → ⊥
-      at_x (Some k) is same h = no_truth (has_manager words e s) (ap (λ i. has_manager words i s) same ∙ (ap (λ o. is_manager o (record { 0 = s })) is ∙ h)) a.0
+      at_x : (o : Option SysId) → manager_at words x ≡ o → e ≡ x
+          → is_manager (Some (unwrap_or o c)) (record { 0 = s }) ≡ true → ⊥
+      at_x (Some k) is same h =
+          no_truth (has_manager words e s)
+          (ap (λ i. has_manager words i s) same ∙ (ap (λ o. is_manager o (record { 0 = s })) is ∙ h)) a.0
       at_x None is same h =
-          let nobody : interest (word_at words x) ≡ 0 = subst (λ o. ManagedBy o (interest (word_at words x))) is (managed x 0 there) in
-          no_truth (is_interested words e s) a.1 (ap (λ i. is_interested words i s) same ∙ (ap (λ k. has k s) nobody ∙ has-zero s))
+          let nobody : interest (word_at words x) ≡ 0 =
+          subst (λ o. ManagedBy o (interest (word_at words x))) is (managed x 0 there) in
+          no_truth (is_interested words e s) a.1
+          (ap (λ i. is_interested words i s) same ∙ (ap (λ k. has k s) nobody ∙ has-zero s))
 
-      by_entry : (b : Bool) → (e == x) ≡ b → is_manager (cond b (Some (unwrap_or (manager_at words x) c)) (manager_at words e)) (record { 0 = s }) ≡ true → ⊥
+      by_entry : (b : Bool) → (e == x) ≡ b
+          → is_manager (cond b (Some (unwrap_or (manager_at words x) c)) (manager_at words e)) (record { 0 = s }) ≡ true
+          → ⊥
       by_entry false f h = no_truth (has_manager words e s) h a.0
       by_entry true f h = at_x (manager_at words x) refl (eqb-true e x f) h
 
   -- and manages the entry, where nobody did
   pub submit-first : manager_at words x ≡ None → has_manager (submitted_words words x c) x c.0 ≡ true
   submit-first nobody =
-      ap (λ o. is_manager o (record { 0 = c.0 })) (manager_now x ∙ (ap (λ b. cond b (Some (unwrap_or (manager_at words x) c)) (manager_at words x)) (eq-eqb x x refl) ∙ ap (λ o. Some (unwrap_or o c)) nobody)) ∙ eq-eqb c.0 c.0 refl
+      ap (λ o. is_manager o (record { 0 = c.0 })) (manager_now x
+      ∙ (ap (λ b. cond b (Some (unwrap_or (manager_at words x) c)) (manager_at words x)) (eq-eqb x x refl)
+      ∙ ap (λ o. Some (unwrap_or o c)) nobody))
+      ∙ eq-eqb c.0 c.0 refl
 
   pub submit-grows : WordsGrow words (submitted_words words x c)
   submit-grows = record {
@@ -120,7 +145,8 @@ module _ (words : List ℕ) (x : ℕ) (c : SysId) (there : x < length words) (fe
   }
 
 -- who manages an entry has interest in it
-manager-near : (words : List ℕ) → All IsManaged words → (e s : ℕ) → has_manager words e s ≡ true → is_interested words e s ≡ true
+manager-near : (words : List ℕ) → All IsManaged words → (e s : ℕ) → has_manager words e s ≡ true
+    → is_interested words e s ≡ true
 manager-near words managed e s h = go (slice_get words e) refl
   where
     named : manager_at words e ≡ Some (record { 0 = s })
@@ -145,43 +171,72 @@ in-last q (x ∷ qs) = inr (in-last q qs)
 
 in-among : (q : Req) (qs : List Req) → IsIn q qs → is_among q.task (askers qs) ≡ true
 in-among q [] h = absurd h
-in-among q (x ∷ qs) (inl e) = or_left (same_task q.task x.task) (is_among q.task (askers qs)) (ap (λ (z : Req). same_task q.task z.task) (sym e) ∙ same_task-itself q.task)
+in-among q (x ∷ qs) (inl e) =
+    or_left (same_task q.task x.task) (is_among q.task (askers qs))
+    (ap (λ (z : Req). same_task q.task z.task) (sym e) ∙ same_task-itself q.task)
 in-among q (x ∷ qs) (inr h) = or_right (same_task q.task x.task) (is_among q.task (askers qs)) (in-among q qs h)
 
-all-push : (deck : Deck) (words : List ℕ) (live : ℕ → Bool) (later : ℕ → List RunItem) (out : ℕ → List Req) (m : ℕ) (zs : List Req) (q : Req) → AllHands deck words live later out m zs → IsHand deck words live later out m q → AllHands deck words live later out m (zs ++ q ∷ [])
+all-push :
+    (deck : Deck) (words : List ℕ) (live : ℕ → Bool) (later : ℕ → List RunItem) (out : ℕ → List Req) (m : ℕ)
+    (zs : List Req) (q : Req)
+    → AllHands deck words live later out m zs → IsHand deck words live later out m q
+    → AllHands deck words live later out m (zs ++ q ∷ [])
 all-push deck words count later out m [] q h k = (k, tt)
 all-push deck words count later out m (z ∷ zs) q h k = (h.0, all-push deck words count later out m zs q h.1 k)
 
 -- of a task that sent nothing there is none
-not-handed : (deck : Deck) (words : List ℕ) (live : ℕ → Bool) (later : ℕ → List RunItem) (out : ℕ → List Req) (t : TaskId) → is_among t (askers (out t.system.0)) ≡ false → (m : ℕ) (zs : List Req) → AllHands deck words live later out m zs → is_among t (askers zs) ≡ false
+not-handed :
+    (deck : Deck) (words : List ℕ) (live : ℕ → Bool) (later : ℕ → List RunItem) (out : ℕ → List Req) (t : TaskId)
+    → is_among t (askers (out t.system.0)) ≡ false → (m : ℕ) (zs : List Req) → AllHands deck words live later out m zs
+    → is_among t (askers zs) ≡ false
 not-handed deck words count later out t free m [] h = refl
-not-handed deck words count later out t free m (z ∷ zs) h = go (same_task t z.task) refl (not-handed deck words count later out t free m zs h.1)
+not-handed deck words count later out t free m (z ∷ zs) h =
+    go (same_task t z.task) refl (not-handed deck words count later out t free m zs h.1)
   where
     go : (b : Bool) → same_task t z.task ≡ b → is_among t (askers zs) ≡ false → (b || is_among t (askers zs)) ≡ false
     go false e more = more
-    go true e more = no_truth (is_among z.task (askers (out z.task.system.0))) (in-among z (out z.task.system.0) h.0.among) (subst (λ (u : TaskId). is_among u (askers (out u.system.0)) ≡ false) (same_task-exact t z.task e) free)
+    go true e more =
+        no_truth (is_among z.task (askers (out z.task.system.0))) (in-among z (out z.task.system.0) h.0.among)
+        (subst (λ (u : TaskId). is_among u (askers (out u.system.0)) ≡ false) (same_task-exact t z.task e) free)
 
 -- They stay what they are where the words grow, and more is sent.
-module _ (deck : Deck) (words words' : List ℕ) (grow : WordsGrow words words') (live : ℕ → Bool) (later : ℕ → List RunItem) (out out' : ℕ → List Req) (more : (u : ℕ) (q : Req) → IsIn q (out u) → IsIn q (out' u)) where
-  all-grow : (m : ℕ) (qs : List Req) → AllHands deck words live later out m qs → AllHands deck words' live later out' m qs
+module _ (deck : Deck) (words words' : List ℕ) (grow : WordsGrow words words') (live : ℕ → Bool)
+    (later : ℕ → List RunItem) (out out' : ℕ → List Req)
+    (more : (u : ℕ) (q : Req) → IsIn q (out u) → IsIn q (out' u)) where
+  all-grow : (m : ℕ) (qs : List Req) → AllHands deck words live later out m qs
+      → AllHands deck words' live later out' m qs
   all-grow m [] h = tt
   all-grow m (q ∷ qs) h = (
-    record { apart = h.0.apart; below = h.0.below; among = more q.task.system.0 q h.0.among; idle = h.0.idle; entry = h.0.entry; at = h.0.at; managed = grow.managed h.0.entry m h.0.managed },
+    record {
+      apart = h.0.apart;
+      below = h.0.below;
+      among = more q.task.system.0 q h.0.among;
+      idle = h.0.idle;
+      entry = h.0.entry;
+      at = h.0.at;
+      managed = grow.managed h.0.entry m h.0.managed;
+    },
     all-grow m qs h.1,
   )
 
-  pub hands-grow : (m : ℕ) (qs : List Req) → Hands deck words live later out m qs → Hands deck words' live later out' m qs
+  pub hands-grow : (m : ℕ) (qs : List Req) → Hands deck words live later out m qs
+      → Hands deck words' live later out' m qs
   hands-grow m qs h = record { each = all-grow m qs h.each; apart = h.apart }
 
-requests-push : (ms : List Mail) (e : ℕ) (from : SysId) (q : Req) → requests_in (ms ++ Request e from q ∷ []) ≡ requests_in ms ++ q ∷ []
+requests-push : (ms : List Mail) (e : ℕ) (from : SysId) (q : Req)
+    → requests_in (ms ++ Request e from q ∷ []) ≡ requests_in ms ++ q ∷ []
 requests-push [] e from q = refl
 requests-push (Request f s z ∷ ms) e from q = ap (λ zs. z ∷ zs) (requests-push ms e from q)
 requests-push (Answered t a rank ∷ ms) e from q = requests-push ms e from q
 requests-push (Granted t r ∷ ms) e from q = requests-push ms e from q
 
 -- ---- A system c and a request of its task t, where the words become these.
-module _ (deck : Deck) (w : World) (g : IsWhole deck w) (c : SysId) (n : NodeState) (at : slice_get w.nodes c.0 ≡ Some n) (alive : has w.medium.removed c.0 ≡ false) (words : List ℕ) (grow : WordsGrow w.medium.words words) (flags : ℕ)
-    (t : TaskId) (ls : List Meaning) (ours : IsOurs deck c.0 n.tasks t ls) (home : is_home_at deck c.0 t ≡ true) (a : Asked) (is : (state_of n.tasks t).outstanding ≡ Some a) (free : is_among t (askers (g.out c.0)) ≡ false) (entry : ℕ) (of_entry : entry_wanted deck.entries a.req.want ≡ Some entry) where
+module _ (deck : Deck) (w : World) (g : IsWhole deck w) (c : SysId) (n : NodeState)
+    (at : slice_get w.nodes c.0 ≡ Some n) (alive : has w.medium.removed c.0 ≡ false) (words : List ℕ)
+    (grow : WordsGrow w.medium.words words) (flags : ℕ)
+    (t : TaskId) (ls : List Meaning) (ours : IsOurs deck c.0 n.tasks t ls) (home : is_home_at deck c.0 t ≡ true)
+    (a : Asked) (is : (state_of n.tasks t).outstanding ≡ Some a) (free : is_among t (askers (g.out c.0)) ≡ false)
+    (entry : ℕ) (of_entry : entry_wanted deck.entries a.req.want ≡ Some entry) where
   abbrev T : List RunItem
   T = items w.fixed
 
@@ -189,22 +244,31 @@ module _ (deck : Deck) (w : World) (g : IsWhole deck w) (c : SysId) (n : NodeSta
   q = request_of t a
 
   near-grown : AreNear deck words (lists T)
-  near-grown = near-words deck words (lists T) (λ r u has_it. by_entry u (entry_of_res deck.entries r) (near-has deck w.medium.words (lists T) r u g.near has_it))
+  near-grown =
+      near-words deck words (lists T) (λ r u has_it.
+      by_entry u (entry_of_res deck.entries r) (near-has deck w.medium.words (lists T) r u g.near has_it))
     where
-      by_entry : (u : TaskId) (o : Option ℕ) → near_at w.medium.words u.system.0 o ≡ true → near_at words u.system.0 o ≡ true
+      by_entry : (u : TaskId) (o : Option ℕ) → near_at w.medium.words u.system.0 o ≡ true
+          → near_at words u.system.0 o ≡ true
       by_entry u None h = refl
       by_entry u (Some e) h = (grow.keeps u.system.0).near e h
 
-  system-grown : (s : ℕ) (k : NodeState) → slice_get w.nodes s ≡ Some k → has w.medium.removed s ≡ false → IsSystem deck words T s k (inbox w.medium s) (g.later s) (g.out s)
-  system-grown s k found lives = system-words deck w.medium.words words T s k (inbox w.medium s) (g.later s) (g.out s) (grow.keeps s) (g.system s k found lives)
+  system-grown : (s : ℕ) (k : NodeState) → slice_get w.nodes s ≡ Some k → has w.medium.removed s ≡ false
+      → IsSystem deck words T s k (inbox w.medium s) (g.later s) (g.out s)
+  system-grown s k found lives =
+      system-words deck w.medium.words words T s k (inbox w.medium s) (g.later s) (g.out s) (grow.keeps s)
+      (g.system s k found lives)
 
   -- ---- it goes to the manager of its entry
-  module _ (interested : is_interested words entry c.0 ≡ true) (s : SysId) (managing : has_manager w.medium.words entry s.0 ≡ true) (apart : s.0 ≢ c.0) where
+  module _ (interested : is_interested words entry c.0 ≡ true) (s : SysId)
+      (managing : has_manager w.medium.words entry s.0 ≡ true) (apart : s.0 ≢ c.0) where
     abbrev mail : Mail
     mail = Request entry c (request_of t a)
 
     abbrev sent_on : MediumState
-    sent_on = record w.medium { words = words; inboxes = with_mail w.medium.inboxes s.0 (Request entry c (request_of t a)); rest = flags }
+    sent_on =
+        record w.medium
+        { words = words; inboxes = with_mail w.medium.inboxes s.0 (Request entry c (request_of t a)); rest = flags }
 
     abbrev out' : ℕ → List Req
     out' = put_at g.out c.0 (g.out c.0 ++ request_of t a ∷ [])
@@ -216,7 +280,10 @@ module _ (deck : Deck) (w : World) (g : IsWhole deck w) (c : SysId) (n : NodeSta
     box_there = let k = below in omega (arith, k, g.roles.systems, g.roles.inboxes)
 
     its_box : (u : ℕ) → u ≡ s.0 → inbox sent_on u ≡ inbox w.medium u ++ mail ∷ []
-    its_box u same = ap (inbox sent_on) same ∙ (get_or-set_same w.medium.inboxes s.0 (inbox w.medium s.0 ++ mail ∷ []) [] box_there ∙ ap (λ z. inbox w.medium z ++ mail ∷ []) (sym same))
+    its_box u same =
+        ap (inbox sent_on) same
+        ∙ (get_or-set_same w.medium.inboxes s.0 (inbox w.medium s.0 ++ mail ∷ []) [] box_there
+        ∙ ap (λ z. inbox w.medium z ++ mail ∷ []) (sym same))
 
     other_box : (u : ℕ) → u ≢ s.0 → inbox sent_on u ≡ inbox w.medium u
     other_box u ne = get_or-set_other w.medium.inboxes s.0 u (inbox w.medium s.0 ++ mail ∷ []) [] ne
@@ -233,20 +300,34 @@ module _ (deck : Deck) (w : World) (g : IsWhole deck w) (c : SysId) (n : NodeSta
         go : (b : Bool) → (u == c.0) ≡ b → IsIn z (out' u)
         go true e =
             let same : u ≡ c.0 = eqb-true u c.0 e in
-            subst (λ i. IsIn z (out' i)) (sym same) (subst (IsIn z) (sym own_out) (in-more z (g.out c.0) q (subst (λ i. IsIn z (g.out i)) same h)))
+            subst (λ i. IsIn z (out' i)) (sym same)
+            (subst (IsIn z) (sym own_out) (in-more z (g.out c.0) q (subst (λ i. IsIn z (g.out i)) same h)))
         go false e = subst (IsIn z) (sym (other_out u (eqb-false u c.0 e))) h
 
     -- the system sent it
-    sender : (o : Option StarPart) → IsSystem deck words T c.0 (record n { tasks = with_phase n.tasks t phases.Sent; star = o }) (inbox w.medium c.0) (g.later c.0) (g.out c.0 ++ q ∷ [])
-    sender o = system-sent deck w.medium.words T g.right c.0 n (inbox w.medium c.0) (g.later c.0) (g.out c.0) (g.system c.0 n at alive) t ls ours home a is free words o (grow.keeps c.0) (ap (near_at words c.0) of_entry ∙ interested)
+    sender : (o : Option StarPart)
+        → IsSystem deck words T c.0 (record n { tasks = with_phase n.tasks t phases.Sent; star = o })
+        (inbox w.medium c.0) (g.later c.0) (g.out c.0 ++ q ∷ [])
+    sender o =
+        system-sent deck w.medium.words T g.right c.0 n (inbox w.medium c.0) (g.later c.0) (g.out c.0)
+        (g.system c.0 n at alive) t ls ours home a is free words o (grow.keeps c.0)
+        (ap (near_at words c.0) of_entry ∙ interested)
 
     -- and it comes to the manager
-    others : (u : ℕ) (k : NodeState) → u ≢ c.0 → slice_get w.nodes u ≡ Some k → has w.medium.removed u ≡ false → IsSystem deck words T u k (inbox sent_on u) (g.later u) (out' u)
-    others u k ne found lives = subst (λ qs. IsSystem deck words T u k (inbox sent_on u) (g.later u) qs) (sym (other_out u ne)) (go (u == s.0) refl)
+    others : (u : ℕ) (k : NodeState) → u ≢ c.0 → slice_get w.nodes u ≡ Some k → has w.medium.removed u ≡ false
+        → IsSystem deck words T u k (inbox sent_on u) (g.later u) (out' u)
+    others u k ne found lives =
+        subst (λ qs. IsSystem deck words T u k (inbox sent_on u) (g.later u) qs) (sym (other_out u ne))
+        (go (u == s.0) refl)
       where
         go : (b : Bool) → (u == s.0) ≡ b → IsSystem deck words T u k (inbox sent_on u) (g.later u) (g.out u)
-        go true e = subst (λ ms. IsSystem deck words T u k ms (g.later u) (g.out u)) (sym (its_box u (eqb-true u s.0 e))) (system-requested deck words T u k (inbox w.medium u) (g.later u) (g.out u) (system-grown u k found lives) entry c q)
-        go false e = subst (λ ms. IsSystem deck words T u k ms (g.later u) (g.out u)) (sym (other_box u (eqb-false u s.0 e))) (system-grown u k found lives)
+        go true e =
+            subst (λ ms. IsSystem deck words T u k ms (g.later u) (g.out u)) (sym (its_box u (eqb-true u s.0 e)))
+            (system-requested deck words T u k (inbox w.medium u) (g.later u) (g.out u) (system-grown u k found lives)
+            entry c q)
+        go false e =
+            subst (λ ms. IsSystem deck words T u k ms (g.later u) (g.out u)) (sym (other_box u (eqb-false u s.0 e)))
+            (system-grown u k found lives)
 
     -- in whose hands it is now
     hand : IsHand deck words (are_live w) g.later out' s.0 q
@@ -260,84 +341,171 @@ module _ (deck : Deck) (w : World) (g : IsWhole deck w) (c : SysId) (n : NodeSta
       managed = grow.managed entry s.0 managing;
     }
 
-    hands_grown : (m : ℕ) (k : NodeState) (v : StarPart) → slice_get w.nodes m ≡ Some k → has w.medium.removed m ≡ false → k.star ≡ Some v → Hands deck words (are_live w) g.later out' m (in_hands v (inbox w.medium m))
-    hands_grown m k v found lives star = hands-grow deck w.medium.words words grow (are_live w) g.later g.out out' more_out m (in_hands v (inbox w.medium m)) (g.hands m k v found lives star)
+    hands_grown : (m : ℕ) (k : NodeState) (v : StarPart) → slice_get w.nodes m ≡ Some k → has w.medium.removed m ≡ false
+        → k.star ≡ Some v → Hands deck words (are_live w) g.later out' m (in_hands v (inbox w.medium m))
+    hands_grown m k v found lives star =
+        hands-grow deck w.medium.words words grow (are_live w) g.later g.out out' more_out m
+        (in_hands v (inbox w.medium m)) (g.hands m k v found lives star)
 
-    hands_others : (m : ℕ) (k : NodeState) (v : StarPart) → slice_get w.nodes m ≡ Some k → has w.medium.removed m ≡ false → k.star ≡ Some v → Hands deck words (are_live w) g.later out' m (in_hands v (inbox sent_on m))
+    hands_others : (m : ℕ) (k : NodeState) (v : StarPart) → slice_get w.nodes m ≡ Some k
+        → has w.medium.removed m ≡ false → k.star ≡ Some v
+        → Hands deck words (are_live w) g.later out' m (in_hands v (inbox sent_on m))
     hands_others m k v found lives star = go (m == s.0) refl
       where
         go : (b : Bool) → (m == s.0) ≡ b → Hands deck words (are_live w) g.later out' m (in_hands v (inbox sent_on m))
-        go false e = subst (λ ms. Hands deck words (are_live w) g.later out' m (in_hands v ms)) (sym (other_box m (eqb-false m s.0 e))) (hands_grown m k v found lives star)
+        go false e =
+            subst (λ ms. Hands deck words (are_live w) g.later out' m (in_hands v ms))
+            (sym (other_box m (eqb-false m s.0 e))) (hands_grown m k v found lives star)
         go true e =
             let same : m ≡ s.0 = eqb-true m s.0 e in
             let h = hands_grown m k v found lives star in
-            let none_there = not-handed deck w.medium.words (are_live w) g.later g.out t (subst (λ i. is_among t (askers (g.out i)) ≡ false) (sym ours.home) free) m (in_hands v (inbox w.medium m)) (g.hands m k v found lives star).each in
-            subst (Hands deck words (are_live w) g.later out' m) (sym (ap (in_hands v) (its_box m same) ∙ (ap (λ zs. v.held ++ zs) (requests-push (inbox w.medium m) entry c q) ∙ sym (append_assoc v.held (requests_in (inbox w.medium m)) (q ∷ [])))))
+            let none_there =
+            not-handed deck w.medium.words (are_live w) g.later g.out t
+            (subst (λ i. is_among t (askers (g.out i)) ≡ false) (sym ours.home) free) m (in_hands v (inbox w.medium m))
+            (g.hands m k v found lives star).each in
+            subst (Hands deck words (are_live w) g.later out' m)
+            (sym (ap (in_hands v) (its_box m same)
+            ∙ (ap (λ zs. v.held ++ zs) (requests-push (inbox w.medium m) entry c q)
+            ∙ sym (append_assoc v.held (requests_in (inbox w.medium m)) (q ∷ [])))))
             (record {
-              each = all-push deck words (are_live w) g.later out' m (in_hands v (inbox w.medium m)) q h.each (subst (λ i. IsHand deck words (are_live w) g.later out' i q) (sym same) hand);
+              each =
+                  all-push deck words (are_live w) g.later out' m (in_hands v (inbox w.medium m)) q h.each
+                  (subst (λ i. IsHand deck words (are_live w) g.later out' i q) (sym same) hand);
               apart = apart-push (in_hands v (inbox w.medium m)) q h.apart none_there;
             })
 
     pub outcome-sent : (p p' : StarPart) → n.star ≡ Some p → p'.held ≡ p.held → p'.manager ≡ p.manager →
-        IsStep deck w c n (record { medium = sent_on; step = record { node = record n { tasks = with_phase n.tasks t phases.Sent; star = Some p' }; fixed = [] } }) →
-        IsOutcome deck w g c n (record { medium = sent_on; step = record { node = record n { tasks = with_phase n.tasks t phases.Sent; star = Some p' }; fixed = [] } })
+        IsStep deck w c n (record {
+          medium = sent_on;
+          step = record { node = record n { tasks = with_phase n.tasks t phases.Sent; star = Some p' }; fixed = [] };
+        })
+        →
+        IsOutcome deck w g c n (record {
+          medium = sent_on;
+          step = record { node = record n { tasks = with_phase n.tasks t phases.Sent; star = Some p' }; fixed = [] };
+        })
     outcome-sent p p' star held manager step = record {
       stays =
           let own_box : inbox sent_on c.0 ≡ inbox w.medium c.0 = other_box c.0 (λ e. apart (sym e)) in
-          whole-placed deck w g c n at alive (record { medium = sent_on; step = record { node = record n { tasks = with_phase n.tasks t phases.Sent; star = Some p' }; fixed = [] } }) step T (items-none w.fixed c) g.later out' other_out none_fixed
+          whole-placed deck w g c n at alive (record {
+            medium = sent_on;
+            step = record { node = record n { tasks = with_phase n.tasks t phases.Sent; star = Some p' }; fixed = [] };
+          })
+          step T (items-none w.fixed c) g.later out' other_out none_fixed
           g.right near-grown
-          (subst (λ ms. IsSystem deck words T c.0 (record n { tasks = with_phase n.tasks t phases.Sent; star = Some p' }) ms (g.later c.0) (out' c.0)) (sym own_box)
-          (subst (λ qs. IsSystem deck words T c.0 (record n { tasks = with_phase n.tasks t phases.Sent; star = Some p' }) (inbox w.medium c.0) (g.later c.0) qs) (sym own_out) (sender (Some p'))))
+          (subst (λ ms.
+          IsSystem deck words T c.0 (record n { tasks = with_phase n.tasks t phases.Sent; star = Some p' }) ms
+          (g.later c.0) (out' c.0))
+          (sym own_box)
+          (subst (λ qs.
+          IsSystem deck words T c.0 (record n { tasks = with_phase n.tasks t phases.Sent; star = Some p' })
+          (inbox w.medium c.0) (g.later c.0) qs)
+          (sym own_out) (sender (Some p'))))
           others
           (λ k found.
-          subst (λ (y : StarPart). Hands deck words (are_live w) g.later out' c.0 (in_hands y (inbox sent_on c.0))) (same_Some p' k found)
-          (subst (λ hs. Hands deck words (are_live w) g.later out' c.0 (hs ++ requests_in (inbox sent_on c.0))) (sym held) (hands_others c.0 n p at alive star)))
+          subst (λ (y : StarPart). Hands deck words (are_live w) g.later out' c.0 (in_hands y (inbox sent_on c.0)))
+          (same_Some p' k found)
+          (subst (λ hs. Hands deck words (are_live w) g.later out' c.0 (hs ++ requests_in (inbox sent_on c.0)))
+          (sym held) (hands_others c.0 n p at alive star)))
           (λ m k v ne found lives known. hands_others m k v found lives known);
       news = tells_tasks (still-told (told-phase n.tasks t phases.Sent)) refl refl;
-      heard = heard-sent deck w g c n at alive words flags t home ours.here a entry of_entry s apart (manager-live deck w g.roles entry s.0 managing) p p' star held manager;
-      dated = λ h. dated-by deck c.0 n (record n { tasks = with_phase n.tasks t phases.Sent; star = Some p' }) refl h (keeps-sent deck n.tasks t ours.here h.date);
+      heard =
+          heard-sent deck w g c n at alive words flags t home ours.here a entry of_entry s apart
+          (manager-live deck w g.roles entry s.0 managing) p p' star held manager;
+      dated = λ h.
+          dated-by deck c.0 n (record n { tasks = with_phase n.tasks t phases.Sent; star = Some p' }) refl h
+          (keeps-sent deck n.tasks t ours.here h.date);
     }
 
   -- ---- it decides it as the manager of its entry
-  module _ (managing : has_manager words entry c.0 ≡ true) (r : Res) (wanted : res_wanted a.req.want ≡ Some r) (ts : List TaskId) (rank : ℕ) (p p' : StarPart) (star : n.star ≡ Some p) (held : p'.held ≡ p.held) where
+  module _ (managing : has_manager words entry c.0 ≡ true) (r : Res) (wanted : res_wanted a.req.want ≡ Some r)
+      (ts : List TaskId) (rank : ℕ) (p p' : StarPart) (star : n.star ≡ Some p) (held : p'.held ≡ p.held) where
     abbrev item : RunItem
     item = made_item c T (fixing.Asked (request_of t a))
 
     abbrev decided : NodeState
-    decided = record n { tasks = tell_new (tell_answer_ranked n.tasks t a (answer_to (lists T) t a.req.want) rank) (res_wanted a.req.want) ts; star = Some p' }
+    decided =
+        record n {
+          tasks =
+              tell_new (tell_answer_ranked n.tasks t a (answer_to (lists T) t a.req.want) rank) (res_wanted a.req.want)
+              ts;
+          star = Some p';
+        }
 
     -- its item is another system's to the others
-    others-item : (m : MayFollow deck T item) (s : ℕ) (k : NodeState) → s ≢ c.0 → slice_get w.nodes s ≡ Some k → has w.medium.removed s ≡ false → IsSystem deck words (T ++ item ∷ []) s k (inbox w.medium s) (g.later s) (g.out s)
-    others-item m s k ne found lives = system-other deck words T s k (inbox w.medium s) (g.later s) (g.out s) item m.ask (λ e. ne (sym e ∙ (ap (λ (z : Req). z.task.system.0) (sym asker) ∙ ours.home))) (system-grown s k found lives)
+    others-item : (m : MayFollow deck T item) (s : ℕ) (k : NodeState) → s ≢ c.0 → slice_get w.nodes s ≡ Some k
+        → has w.medium.removed s ≡ false
+        → IsSystem deck words (T ++ item ∷ []) s k (inbox w.medium s) (g.later s) (g.out s)
+    others-item m s k ne found lives =
+        system-other deck words T s k (inbox w.medium s) (g.later s) (g.out s) item m.ask
+        (λ e. ne (sym e ∙ (ap (λ (z : Req). z.task.system.0) (sym asker) ∙ ours.home))) (system-grown s k found lives)
       where
         asker : q ≡ m.ask.req
         asker = let e : fixing.Asked q ≡ fixing.Asked m.ask.req = m.ask.asked in cc
 
-    hands_same : (m : ℕ) (k : NodeState) (v : StarPart) → slice_get w.nodes m ≡ Some k → has w.medium.removed m ≡ false → k.star ≡ Some v → Hands deck words (are_live w) g.later g.out m (in_hands v (inbox w.medium m))
-    hands_same m k v found lives known = hands-grow deck w.medium.words words grow (are_live w) g.later g.out g.out (λ u z h. h) m (in_hands v (inbox w.medium m)) (g.hands m k v found lives known)
+    hands_same : (m : ℕ) (k : NodeState) (v : StarPart) → slice_get w.nodes m ≡ Some k → has w.medium.removed m ≡ false
+        → k.star ≡ Some v → Hands deck words (are_live w) g.later g.out m (in_hands v (inbox w.medium m))
+    hands_same m k v found lives known =
+        hands-grow deck w.medium.words words grow (are_live w) g.later g.out g.out (λ u z h. h) m
+        (in_hands v (inbox w.medium m)) (g.hands m k v found lives known)
 
     pub outcome-decided : ((u : TaskId) → is_among u ts ≡ true → owns (list_of (lists (T ++ item ∷ [])) r) u ≡ true) →
-        (IsWhole deck (placed w c n (record { medium = record w.medium { words = words; rest = flags }; step = record { node = decided; fixed = fixing.Asked (request_of t a) ∷ [] } })) → StaysHeard deck w c n (record { medium = record w.medium { words = words; rest = flags }; step = record { node = decided; fixed = fixing.Asked (request_of t a) ∷ [] } })) →
-        IsStep deck w c n (record { medium = record w.medium { words = words; rest = flags }; step = record { node = decided; fixed = fixing.Asked (request_of t a) ∷ [] } }) →
-        IsOutcome deck w g c n (record { medium = record w.medium { words = words; rest = flags }; step = record { node = decided; fixed = fixing.Asked (request_of t a) ∷ [] } })
+        (IsWhole deck (placed w c n (record {
+          medium = record w.medium { words = words; rest = flags };
+          step = record { node = decided; fixed = fixing.Asked (request_of t a) ∷ [] };
+        }))
+        → StaysHeard deck w c n (record {
+          medium = record w.medium { words = words; rest = flags };
+          step = record { node = decided; fixed = fixing.Asked (request_of t a) ∷ [] };
+        }))
+        →
+        IsStep deck w c n (record {
+          medium = record w.medium { words = words; rest = flags };
+          step = record { node = decided; fixed = fixing.Asked (request_of t a) ∷ [] };
+        })
+        →
+        IsOutcome deck w g c n (record {
+          medium = record w.medium { words = words; rest = flags };
+          step = record { node = decided; fixed = fixing.Asked (request_of t a) ∷ [] };
+        })
     outcome-decided owned heard step =
         let h = system-grown c.0 n at alive in
-        let m = may-follow deck words T g.right c.0 n (inbox w.medium c.0) (g.later c.0) (g.out c.0) h t ls ours home a is free c in
-        let z = system-decided deck words T g.right c.0 n (inbox w.medium c.0) (g.later c.0) (g.out c.0) h t ls ours home a is free c entry of_entry managing r wanted ts rank (Some p') owned in
+        let m =
+        may-follow deck words T g.right c.0 n (inbox w.medium c.0) (g.later c.0) (g.out c.0) h t ls ours home a is free
+        c in
+        let z =
+        system-decided deck words T g.right c.0 n (inbox w.medium c.0) (g.later c.0) (g.out c.0) h t ls ours home a is
+        free c entry of_entry managing r wanted ts rank (Some p') owned in
         record {
           stays =
-              whole-placed deck w g c n at alive (record { medium = record w.medium { words = words; rest = flags }; step = record { node = decided; fixed = fixing.Asked q ∷ [] } }) step (T ++ item ∷ []) (items-one w.fixed c (fixing.Asked q)) g.later g.out (λ u ne. refl) (fixes-own deck c g.out T q m ours.home)
+              whole-placed deck w g c n at alive (record {
+                medium = record w.medium { words = words; rest = flags };
+                step = record { node = decided; fixed = fixing.Asked q ∷ [] };
+              })
+              step (T ++ item ∷ []) (items-one w.fixed c (fixing.Asked q)) g.later g.out (λ u ne. refl)
+              (fixes-own deck c g.out T q m ours.home)
               (follows deck T item g.right m)
-              (subst (AreNear deck words) (sym (lists-push T item)) (near-want deck words (lists T) t a.req.want (λ v e. near v e step.moves.managed) near-grown))
+              (subst (AreNear deck words) (sym (lists-push T item))
+              (near-want deck words (lists T) t a.req.want (λ v e. near v e step.moves.managed) near-grown))
               z.system (others-item m)
               (λ k found.
-              subst (λ (y : StarPart). Hands deck words (are_live w) g.later g.out c.0 (in_hands y (inbox w.medium c.0))) (same_Some p' k found)
-              (subst (λ hs. Hands deck words (are_live w) g.later g.out c.0 (hs ++ requests_in (inbox w.medium c.0))) (sym held) (hands_same c.0 n p at alive star)))
+              subst (λ (y : StarPart).
+              Hands deck words (are_live w) g.later g.out c.0 (in_hands y (inbox w.medium c.0)))
+              (same_Some p' k found)
+              (subst (λ hs. Hands deck words (are_live w) g.later g.out c.0 (hs ++ requests_in (inbox w.medium c.0)))
+              (sym held) (hands_same c.0 n p at alive star)))
               (λ k y v ne found lives known. hands_same k y v found lives known);
-          news = tells_tasks (subst (λ U. ToldNews deck c.0 (history U) n.tasks.told decided.tasks.told) (sym (items-one w.fixed c (fixing.Asked q))) (told-news z.told)) refl refl;
+          news =
+              tells_tasks (subst (λ U. ToldNews deck c.0 (history U) n.tasks.told decided.tasks.told)
+              (sym (items-one w.fixed c (fixing.Asked q))) (told-news z.told))
+              refl refl;
           heard = heard;
-          dated = λ d. dated-by deck c.0 n decided refl d (keeps-decided deck n.tasks t a (lists T) rank ts (and_parts (t.system.0 == c.0) (is_some (lines_of deck t)) home).1 ours.here is d.date);
+          dated = λ d.
+              dated-by deck c.0 n decided refl d (keeps-decided deck n.tasks t a (lists T) rank ts
+              (and_parts (t.system.0 == c.0) (is_some (lines_of deck t)) home).1 ours.here is d.date);
         }
       where
         near : (v : Res) → res_wanted a.req.want ≡ Some v → All IsManaged words → is_near_res deck words v t ≡ true
-        near v e managed = ap (near_at words t.system.0) (res-entry deck.entries a.req.want v entry e of_entry) ∙ (ap (is_interested words entry) ours.home ∙ manager-near words managed entry c.0 managing)
+        near v e managed =
+            ap (near_at words t.system.0) (res-entry deck.entries a.req.want v entry e of_entry)
+            ∙ (ap (is_interested words entry) ours.home ∙ manager-near words managed entry c.0 managing)

@@ -1,5 +1,6 @@
 -- What any event comes to in star mode, and that the first world of a deck in star mode is as it should be.
-use Rattle.std.proofs.Common.{◌≡◌, ◌<◌, ℕ, zero, suc, true, cond, List, [], ◌++◌, length, Some, None, refl, ap, sym, ◌∙◌, subst, false}
+use Rattle.std.proofs.Common.{◌≡◌, ◌<◌, ℕ, zero, suc, true, cond, List, [], ◌++◌, length, Some, None, refl, ap, sym}
+use Rattle.std.proofs.Common.{◌∙◌, subst, false}
 use Rattle.std.specs.Prelude.{replicate, slice_get, slice_index_or}
 use Rattle.std.proofs.lemmas.Option.{same_Some}
 use Rattle.grs_base.specs.Limits.{most_systems}
@@ -31,7 +32,9 @@ use Rattle.grs_world.proofs.star.steps.Desk.{outcome-purge, outcome-switch}
 
 -- ---- one event
 -- what an event of a system comes to, whichever it chooses
-module _ (deck : Deck) (some : 0 < deck.entries) (w : World) (g : IsWhole deck w) (c : SysId) (inside : c.0 < most_systems) (n : NodeState) (at : slice_get w.nodes c.0 ≡ Some n) (alive : has w.medium.removed c.0 ≡ false) where
+module _ (deck : Deck) (some : 0 < deck.entries) (w : World) (g : IsWhole deck w) (c : SysId)
+    (inside : c.0 < most_systems) (n : NodeState) (at : slice_get w.nodes c.0 ≡ Some n)
+    (alive : has w.medium.removed c.0 ≡ false) where
   pub outcome : (choice : Choice) → Comes deck w g c n (chosen deck w.medium c n choice)
   outcome (choices.Task t) = outcome-task deck w g c n at alive t
   outcome choices.Turn = outcome-turn deck w g c n at alive
@@ -64,11 +67,13 @@ first_system deck s = record {
   fits = tt;
 }
 
-none_held : (deck : Deck) → deck.star ≡ true → (m : ℕ) (n : NodeState) (p : StarPart) → n ≡ first_node deck m → n.star ≡ Some p → p.held ≡ []
+none_held : (deck : Deck) → deck.star ≡ true → (m : ℕ) (n : NodeState) (p : StarPart) → n ≡ first_node deck m
+    → n.star ≡ Some p → p.held ≡ []
 unfolding first_node
 none_held deck star m n p same is =
     let part : StarPart = first_part (record { 0 = m }) deck.entries in
-    let named : Some part ≡ Some p = sym (ap (λ b. cond b (Some part) None) star) ∙ (ap (λ (k : NodeState). k.star) (sym same) ∙ is) in
+    let named : Some part ≡ Some p =
+    sym (ap (λ b. cond b (Some part) None) star) ∙ (ap (λ (k : NodeState). k.star) (sym same) ∙ is) in
     ap (λ (z : StarPart). z.held) (sym (same_Some part p named))
 
 pub first_whole : (deck : Deck) → deck.star ≡ true → IsWhole deck (first_world deck)
@@ -79,12 +84,21 @@ first_whole deck star = record {
   later = λ s. [];
   out = λ s. [];
   near = refl;
-  system = λ s n h live. subst (λ ms. IsSystem deck (replicate deck.entries 0) [] s n ms [] []) (sym (first_inbox deck s))
-      (subst (λ (k : NodeState). IsSystem deck (replicate deck.entries 0) [] s k [] [] []) (sym (first_is deck s n h)) (first_system deck s));
+  system = λ s n h live.
+      subst (λ ms. IsSystem deck (replicate deck.entries 0) [] s n ms [] []) (sym (first_inbox deck s))
+      (subst (λ (k : NodeState). IsSystem deck (replicate deck.entries 0) [] s k [] [] []) (sym (first_is deck s n h))
+      (first_system deck s));
   hands = first_hands;
 }
   where
-    first_hands : (m : ℕ) (n : NodeState) (p : StarPart) → slice_get (first_nodes deck 0 deck.systems) m ≡ Some n → has 0 m ≡ false → n.star ≡ Some p →
-        Hands deck (replicate deck.entries 0) (are_live (first_world deck)) (λ s. []) (λ s. []) m (in_hands p (inbox (first_medium (length deck.systems) deck.entries deck.star) m))
-    first_hands m n p h live is = subst (λ ms. Hands deck (replicate deck.entries 0) (are_live (first_world deck)) (λ s. []) (λ s. []) m (in_hands p ms)) (sym (first_inbox deck m))
-        (subst (λ hs. Hands deck (replicate deck.entries 0) (are_live (first_world deck)) (λ s. []) (λ s. []) m (hs ++ [])) (sym (none_held deck star m n p (first_is deck m n h) is)) (record { each = tt; apart = refl }))
+    first_hands : (m : ℕ) (n : NodeState) (p : StarPart) → slice_get (first_nodes deck 0 deck.systems) m ≡ Some n
+        → has 0 m ≡ false → n.star ≡ Some p →
+        Hands deck (replicate deck.entries 0) (are_live (first_world deck)) (λ s. []) (λ s. []) m
+        (in_hands p (inbox (first_medium (length deck.systems) deck.entries deck.star) m))
+    first_hands m n p h live is =
+        subst (λ ms.
+        Hands deck (replicate deck.entries 0) (are_live (first_world deck)) (λ s. []) (λ s. []) m (in_hands p ms))
+        (sym (first_inbox deck m))
+        (subst (λ hs.
+        Hands deck (replicate deck.entries 0) (are_live (first_world deck)) (λ s. []) (λ s. []) m (hs ++ []))
+        (sym (none_held deck star m n p (first_is deck m n h) is)) (record { each = tt; apart = refl }))

@@ -9,7 +9,8 @@ use Rattle.grs_base.specs.declared.resource.Res.TheVariants.{Step as StepRes, Sy
 use Rattle.grs_base.specs.declared.resource.TaskId.{TaskId}
 use Rattle.grs_legal.specs.declared.meaning.Meaning.{Meaning}
 use Rattle.grs_legal.specs.declared.meaning.Meaning.TheVariants as lines
-use Rattle.grs_node.specs.Node.{NodeState, Step, with_tasks, only, post, decide, ask, take_line, end_step, ready_step, phase_step, task_step, has_most, wait}
+use Rattle.grs_node.specs.Node.{NodeState, Step, with_tasks, only, post, decide, ask, take_line, end_step, ready_step}
+use Rattle.grs_node.specs.Node.{phase_step, task_step, has_most, wait}
 use Rattle.grs_node.specs.Star.{StarPart}
 use Rattle.grs_wire.specs.Wants.{res_wanted}
 use Rattle.grs_wire.specs.declared.request.Req.{Req}
@@ -24,7 +25,8 @@ use Rattle.task_state.specs.declared.state.Rec.{Rec}
 use Rattle.grs_world.proofs.star.Members.{lists_after}
 use Rattle.grs_world.proofs.star.Under.{under, under-other}
 
--- A system of this part, this outbox and what it knows of removed ones, after a step that fixes nothing under a lock entry.
+-- A system of this part, this outbox and what it knows of removed ones, after a step that fixes nothing under a lock
+-- entry.
 pub record IsQuiet (part : Option StarPart) (box : List Req) (set : ℕ) (st : Step) : Type 0 where
   pub star : st.node.star ≡ part
   pub outbox : st.node.outbox ≡ box
@@ -37,7 +39,8 @@ res-local entries e (StepRes s j q r) h = refl
 res-local entries e (System s q r) h = refl
 res-local entries e (Systems q r) h = absurd (cc)
 
-want-local : (entries e : ℕ) (w : Want) → is_for_all (res_wanted w) ≡ false → is_entry e (entry_wanted entries w) ≡ false
+want-local : (entries e : ℕ) (w : Want) → is_for_all (res_wanted w) ≡ false
+    → is_entry e (entry_wanted entries w) ≡ false
 want-local entries e (Enq r c ret full) h = res-local entries e r h
 want-local entries e (Deq r have) h = res-local entries e r h
 want-local entries e (Release r) h = res-local entries e r h
@@ -50,7 +53,8 @@ module _ (p : StarPart) (n : NodeState) (is : n.star ≡ Some p) where
   by_only : (k : NodeState) → k.star ≡ n.star → k.outbox ≡ n.outbox → k.known ≡ n.known → Keeps (only k)
   by_only k s o z = record { star = s; outbox = o; known = z; lists = λ entries e L. refl }
 
-  by_post : (k : NodeState) (t : TaskId) (w : Want) (unit : Option ℕ) → k.star ≡ n.star → k.outbox ≡ n.outbox → k.known ≡ n.known → Keeps (post k t w unit)
+  by_post : (k : NodeState) (t : TaskId) (w : Want) (unit : Option ℕ) → k.star ≡ n.star → k.outbox ≡ n.outbox
+      → k.known ≡ n.known → Keeps (post k t w unit)
   unfolding post
   by_post k t w unit s o z = record {
     star = s;
@@ -59,29 +63,43 @@ module _ (p : StarPart) (n : NodeState) (is : n.star ≡ Some p) where
     lists = λ entries e L. refl;
   }
 
-  by_decide : (k : NodeState) (t : TaskId) (w : Want) (unit : Option ℕ) → k.star ≡ n.star → k.outbox ≡ n.outbox → k.known ≡ n.known → is_for_all (res_wanted w) ≡ false → Keeps (decide k t w unit)
+  by_decide : (k : NodeState) (t : TaskId) (w : Want) (unit : Option ℕ) → k.star ≡ n.star → k.outbox ≡ n.outbox
+      → k.known ≡ n.known → is_for_all (res_wanted w) ≡ false → Keeps (decide k t w unit)
   unfolding decide
-  by_decide k t w unit s o z alone = record { star = s; outbox = o; known = z; lists = λ entries e L. under-other entries e L t w (want-local entries e w alone) }
+  by_decide k t w unit s o z alone = record {
+    star = s;
+    outbox = o;
+    known = z;
+    lists = λ entries e L. under-other entries e L t w (want-local entries e w alone);
+  }
 
-  by_ask : (k : NodeState) (t : TaskId) (w : Want) (unit : Option ℕ) → k.star ≡ n.star → k.outbox ≡ n.outbox → k.known ≡ n.known → Keeps (ask k t w unit)
+  by_ask : (k : NodeState) (t : TaskId) (w : Want) (unit : Option ℕ) → k.star ≡ n.star → k.outbox ≡ n.outbox
+      → k.known ≡ n.known → Keeps (ask k t w unit)
   unfolding ask
-  by_ask k t w unit s o z = by_test Keeps (is_for_all (res_wanted w)) (post k t w unit) (decide k t w unit) (λ h. by_post k t w unit s o z) (λ h. by_decide k t w unit s o z h)
+  by_ask k t w unit s o z =
+      by_test Keeps (is_for_all (res_wanted w)) (post k t w unit) (decide k t w unit) (λ h. by_post k t w unit s o z)
+      (λ h. by_decide k t w unit s o z h)
 
-  by_line : (limit : ℕ) (k : NodeState) (t : TaskId) (l : Meaning) → k.star ≡ n.star → k.outbox ≡ n.outbox → k.known ≡ n.known → Keeps (take_line limit k t l)
+  by_line : (limit : ℕ) (k : NodeState) (t : TaskId) (l : Meaning) → k.star ≡ n.star → k.outbox ≡ n.outbox
+      → k.known ≡ n.known → Keeps (take_line limit k t l)
   unfolding take_line
   by_line limit k t (lines.Enq r c ret unit) s o z = by_ask k t (Enq r c ret (has_most limit k.tasks t)) unit s o z
   by_line limit k t (lines.Deq r have) s o z = by_ask k t (Deq r have) None s o z
-  by_line limit k t (lines.Wait r) s o z = by_only (with_tasks k (wait k.tasks t r (record_of (state_of k.tasks t).records r))) s o z
+  by_line limit k t (lines.Wait r) s o z =
+      by_only (with_tasks k (wait k.tasks t r (record_of (state_of k.tasks t).records r))) s o z
   by_line limit k t lines.Nothing s o z = by_only k s o z
 
-  by_end : (k : NodeState) (t : TaskId) (code : ℕ) (xs : List Rec) → k.star ≡ n.star → k.outbox ≡ n.outbox → k.known ≡ n.known → Keeps (end_step k t code xs)
+  by_end : (k : NodeState) (t : TaskId) (code : ℕ) (xs : List Rec) → k.star ≡ n.star → k.outbox ≡ n.outbox
+      → k.known ≡ n.known → Keeps (end_step k t code xs)
   unfolding end_step
   by_end k t code [] s o z = record { star = s; outbox = o; known = z; lists = λ entries e L. refl }
   by_end k t code (x ∷ xs) s o z = by_ask k t (Release x.res) None s o z
 
   by_ready : (limit : ℕ) (t : TaskId) (l : Option Meaning) → Keeps (ready_step limit n t l)
   unfolding ready_step
-  by_ready limit t None = by_end (with_tasks n (with_phase n.tasks t (phases.Ending 0))) t 0 (state_of (with_phase n.tasks t (phases.Ending 0)) t).records refl refl refl
+  by_ready limit t None =
+      by_end (with_tasks n (with_phase n.tasks t (phases.Ending 0))) t 0
+      (state_of (with_phase n.tasks t (phases.Ending 0)) t).records refl refl refl
   by_ready limit t (Some l) = by_line limit (with_tasks n (with_line n.tasks t)) t l refl refl refl
 
   by_phase : (limit : ℕ) (t : TaskId) (ls : List Meaning) (ph : Phase) → Keeps (phase_step limit n t ls ph)
@@ -94,6 +112,7 @@ module _ (p : StarPart) (n : NodeState) (is : n.star ≡ Some p) where
   by_phase limit t ls (phases.HeldLine r) = by_only n refl refl refl
   by_phase limit t ls phases.Ended = by_only n refl refl refl
 
-  pub task-quiet : (limit : ℕ) (t : TaskId) (o : Option (List Meaning)) → IsQuiet n.star n.outbox n.known (task_step limit n t o)
+  pub task-quiet : (limit : ℕ) (t : TaskId) (o : Option (List Meaning))
+      → IsQuiet n.star n.outbox n.known (task_step limit n t o)
   task-quiet limit t None = by_only n refl refl refl
   task-quiet limit t (Some ls) = by_phase limit t ls (state_of n.tasks t).phase

@@ -1,5 +1,6 @@
 -- The systems of a run in star mode together: whose hands each request is in, and how an event of one system is placed.
-use Rattle.std.proofs.Common.{◌≡◌, ◌≢◌, ◌⊎◌, ◌<◌, ℕ, Bool, true, false, List, [], ◌∷◌, ◌++◌, length, Some, refl, ap, sym, ◌∙◌, subst, append-nil, None, Option}
+use Rattle.std.proofs.Common.{◌≡◌, ◌≢◌, ◌⊎◌, ◌<◌, ℕ, Bool, true, false, List, [], ◌∷◌, ◌++◌, length, Some, refl, ap}
+use Rattle.std.proofs.Common.{sym, ◌∙◌, subst, append-nil, None, Option}
 use Rattle.std.specs.Prelude.{not, nat_lt, set, slice_get, ◌==◌}
 use Rattle.grs_wire.specs.Masks.{has, lives}
 use Rattle.std.proofs.lemmas.Bool.{and_parts, eqb-true, eqb-false, lt-ltb, ltb-true, not-true}
@@ -23,7 +24,8 @@ use Rattle.grs_wire.specs.declared.request.Fixed.TheVariants as fixing
 use Rattle.grs_wire.specs.declared.request.Req.{Req}
 use Rattle.grs_wire.specs.History.{replay}
 use Rattle.grs_known.specs.Items.{RunItem, goes_round, mine, lists, items, history}
-use Rattle.grs_known.proofs.known.Histories.{IsHistory, MayFollow, made_item, items-append, replayed, follows, wants-round, IsAsk}
+use Rattle.grs_known.proofs.known.Histories.{IsHistory, MayFollow, made_item, items-append, replayed, follows}
+use Rattle.grs_known.proofs.known.Histories.{wants-round, IsAsk}
 use Rattle.grs_known.proofs.known.ItemLaws.{lists-push}
 use Rattle.grs_known.proofs.lists.Facts.{slice_get-set, slice_get-set_other}
 use Rattle.grs_world.specs.Kept.{kept}
@@ -46,9 +48,11 @@ abbrev pub IsIn : Req → List Req → Type 0
 IsIn q [] = ⊥
 IsIn q (x ∷ xs) = (q ≡ x) ⊎ IsIn q xs
 
--- A request in the hands of system m is the one that a task of another live system sent and that isn't settled; it is of an
--- entry that m manages.
-pub record IsHand (deck : Deck) (words : List ℕ) (live : ℕ → Bool) (later : ℕ → List RunItem) (out : ℕ → List Req) (m : ℕ) (q : Req) : Type 0 where
+-- A request in the hands of system m is the one that a task of another live system sent and that isn't settled; it is
+-- of an entry that m manages.
+pub record IsHand (deck : Deck) (words : List ℕ) (live : ℕ → Bool) (later : ℕ → List RunItem) (out : ℕ → List Req)
+    (m : ℕ) (q : Req) :
+    Type 0 where
   pub apart : q.task.system.0 ≢ m
   pub below : live q.task.system.0 ≡ true
   pub among : IsIn q (out q.task.system.0)
@@ -59,10 +63,13 @@ pub record IsHand (deck : Deck) (words : List ℕ) (live : ℕ → Bool) (later 
 
 abbrev pub AllHands : Deck → List ℕ → (ℕ → Bool) → (ℕ → List RunItem) → (ℕ → List Req) → ℕ → List Req → Type 0
 AllHands deck words live later out m [] = Unit {0}
-AllHands deck words live later out m (q ∷ qs) = IsHand deck words live later out m q × AllHands deck words live later out m qs
+AllHands deck words live later out m (q ∷ qs) =
+    IsHand deck words live later out m q × AllHands deck words live later out m qs
 
 -- The requests in its hands are such, each of another task.
-pub record Hands (deck : Deck) (words : List ℕ) (live : ℕ → Bool) (later : ℕ → List RunItem) (out : ℕ → List Req) (m : ℕ) (qs : List Req) : Type 0 where
+pub record Hands (deck : Deck) (words : List ℕ) (live : ℕ → Bool) (later : ℕ → List RunItem) (out : ℕ → List Req)
+    (m : ℕ) (qs : List Req) :
+    Type 0 where
   pub each : AllHands deck words live later out m qs
   pub apart : stand_apart (askers qs) ≡ true
 
@@ -76,13 +83,19 @@ are_live w s = lives (length w.nodes) w.medium.removed s
 
 -- one of them is there, and wasn't removed; and back
 pub live-below : (w : World) (s : ℕ) → are_live w s ≡ true → (s < length w.nodes) × (has w.medium.removed s ≡ false)
-live-below w s h = let both = and_parts (nat_lt s (length w.nodes)) (not (has w.medium.removed s)) h in (ltb-true s (length w.nodes) both.0, not-true (has w.medium.removed s) both.1)
+live-below w s h =
+    let both = and_parts (nat_lt s (length w.nodes)) (not (has w.medium.removed s)) h in
+    (ltb-true s (length w.nodes) both.0, not-true (has w.medium.removed s) both.1)
 
-pub live-here : (w : World) (s : ℕ) (n : NodeState) → slice_get w.nodes s ≡ Some n → has w.medium.removed s ≡ false → are_live w s ≡ true
-live-here w s n at alive = let within : nat_lt s (length w.nodes) ≡ true = lt-ltb s (length w.nodes) (slice_get_within w.nodes s n at) in rw (within, alive) refl
+pub live-here : (w : World) (s : ℕ) (n : NodeState) → slice_get w.nodes s ≡ Some n → has w.medium.removed s ≡ false
+    → are_live w s ≡ true
+live-here w s n at alive =
+    let within : nat_lt s (length w.nodes) ≡ true = lt-ltb s (length w.nodes) (slice_get_within w.nodes s n at) in
+    rw (within, alive) refl
 
 -- who manages is one of them
-pub manager-live : (deck : Deck) (w : World) → IsStar deck w → (e s : ℕ) → has_manager w.medium.words e s ≡ true → are_live w s ≡ true
+pub manager-live : (deck : Deck) (w : World) → IsStar deck w → (e s : ℕ) → has_manager w.medium.words e s ≡ true
+    → are_live w s ≡ true
 manager-live deck w g e s managing = go (are_live w s) refl
   where
     go : (b : Bool) → are_live w s ≡ b → b ≡ true
@@ -97,14 +110,17 @@ pub record IsWhole (deck : Deck) (w : World) : Type 0 where
   pub out : ℕ → List Req
   -- each element is of a system with interest in its entry
   pub near : AreNear deck w.medium.words (all_lists w)
-  pub system : (s : ℕ) (n : NodeState) → slice_get w.nodes s ≡ Some n → has w.medium.removed s ≡ false → IsSystem deck w.medium.words (items w.fixed) s n (inbox w.medium s) (later s) (out s)
-  pub hands : (m : ℕ) (n : NodeState) (p : StarPart) → slice_get w.nodes m ≡ Some n → has w.medium.removed m ≡ false → n.star ≡ Some p → Hands deck w.medium.words (are_live w) later out m (in_hands p (inbox w.medium m))
+  pub system : (s : ℕ) (n : NodeState) → slice_get w.nodes s ≡ Some n → has w.medium.removed s ≡ false
+      → IsSystem deck w.medium.words (items w.fixed) s n (inbox w.medium s) (later s) (out s)
+  pub hands : (m : ℕ) (n : NodeState) (p : StarPart) → slice_get w.nodes m ≡ Some n → has w.medium.removed m ≡ false
+      → n.star ≡ Some p → Hands deck w.medium.words (are_live w) later out m (in_hands p (inbox w.medium m))
 
 -- ---- what an event leaves
 -- Behind these items an event of system c fixed nothing, or one item: of no other system whose tasks had sent nothing.
 pub data Fixes (deck : Deck) (c : ℕ) (out : ℕ → List Req) (T : List RunItem) : List RunItem → Type 0 where
   none_fixed : Fixes deck c out T T
-  one_fixed : (x : RunItem) (a : IsAsk deck x) → ((u : ℕ) → u ≢ c → out u ≡ [] → a.req.task.system.0 ≢ u) → Fixes deck c out T (T ++ x ∷ [])
+  one_fixed : (x : RunItem) (a : IsAsk deck x) → ((u : ℕ) → u ≢ c → out u ≡ [] → a.req.task.system.0 ≢ u)
+      → Fixes deck c out T (T ++ x ∷ [])
 
 -- The world is whole after an event of system c, and what the tasks of every other system sent stays.
 pub record StaysWhole (deck : Deck) (w : World) (g : IsWhole deck w) (c : SysId) (w' : World) : Type 0 where
@@ -113,33 +129,50 @@ pub record StaysWhole (deck : Deck) (w : World) (g : IsWhole deck w) (c : SysId)
   pub fixes : Fixes deck c.0 g.out (items w.fixed) (items w'.fixed)
 
 -- one item more
-pub items-one : (xs : List (SysId × Fixed)) (c : SysId) (f : Fixed) → items (xs ++ fixed_by c (f ∷ [])) ≡ items xs ++ made_item c (items xs) f ∷ []
+pub items-one : (xs : List (SysId × Fixed)) (c : SysId) (f : Fixed)
+    → items (xs ++ fixed_by c (f ∷ [])) ≡ items xs ++ made_item c (items xs) f ∷ []
 items-one xs c f = items-append xs (fixed_by c (f ∷ []))
 
 pub items-none : (xs : List (SysId × Fixed)) (c : SysId) → items (xs ++ fixed_by c []) ≡ items xs
 items-none xs c = ap items (append-nil xs)
 
 -- ---- the world after an event of system c, where the items become these
-module _ (deck : Deck) (w : World) (g : IsWhole deck w) (c : SysId) (n : NodeState) (at : slice_get w.nodes c.0 ≡ Some n) (alive : has w.medium.removed c.0 ≡ false) (o : Turnout) (step : IsStep deck w c n o) (T : List RunItem) (grown : items (w.fixed ++ fixed_by c o.step.fixed) ≡ T) (later : ℕ → List RunItem) (out : ℕ → List Req) (sent : (u : ℕ) → u ≢ c.0 → out u ≡ g.out u) (fixes : Fixes deck c.0 g.out (items w.fixed) T) where
+module _ (deck : Deck) (w : World) (g : IsWhole deck w) (c : SysId) (n : NodeState)
+    (at : slice_get w.nodes c.0 ≡ Some n) (alive : has w.medium.removed c.0 ≡ false) (o : Turnout)
+    (step : IsStep deck w c n o) (T : List RunItem) (grown : items (w.fixed ++ fixed_by c o.step.fixed) ≡ T)
+    (later : ℕ → List RunItem) (out : ℕ → List Req) (sent : (u : ℕ) → u ≢ c.0 → out u ≡ g.out u)
+    (fixes : Fixes deck c.0 g.out (items w.fixed) T) where
   abbrev words : List ℕ
   words = o.medium.words
 
   -- by systems: that of the event, and the others
-  by_system : (P : ℕ → NodeState → Type 0) → P c.0 o.step.node → ((s : ℕ) (k : NodeState) → s ≢ c.0 → slice_get w.nodes s ≡ Some k → P s k) → (s : ℕ) (k : NodeState) → slice_get (set w.nodes c.0 o.step.node) s ≡ Some k → P s k
+  by_system : (P : ℕ → NodeState → Type 0) → P c.0 o.step.node
+      → ((s : ℕ) (k : NodeState) → s ≢ c.0 → slice_get w.nodes s ≡ Some k → P s k) → (s : ℕ) (k : NodeState)
+      → slice_get (set w.nodes c.0 o.step.node) s ≡ Some k → P s k
   by_system P own others s k f = go (s == c.0) refl
     where
       go : (b : Bool) → (s == c.0) ≡ b → P s k
       go true e =
           let same : s ≡ c.0 = eqb-true s c.0 e in
-          let is : o.step.node ≡ k = same_Some o.step.node k (sym (slice_get-set w.nodes c.0 n o.step.node at) ∙ (ap (slice_get (set w.nodes c.0 o.step.node)) (sym same) ∙ f)) in
+          let is : o.step.node ≡ k =
+          same_Some o.step.node k (sym (slice_get-set w.nodes c.0 n o.step.node at)
+          ∙ (ap (slice_get (set w.nodes c.0 o.step.node)) (sym same) ∙ f)) in
           subst (P s) is (subst (λ z. P z o.step.node) (sym same) own)
-      go false e = let ne : s ≢ c.0 = eqb-false s c.0 e in others s k ne (sym (slice_get-set_other w.nodes c.0 s o.step.node ne) ∙ f)
+      go false e =
+          let ne : s ≢ c.0 = eqb-false s c.0 e in
+          others s k ne (sym (slice_get-set_other w.nodes c.0 s o.step.node ne) ∙ f)
 
   pub whole-placed : IsHistory deck T → AreNear deck o.medium.words (lists T) →
       IsSystem deck o.medium.words T c.0 o.step.node (inbox o.medium c.0) (later c.0) (out c.0) →
-      ((s : ℕ) (k : NodeState) → s ≢ c.0 → slice_get w.nodes s ≡ Some k → has w.medium.removed s ≡ false → IsSystem deck o.medium.words T s k (inbox o.medium s) (later s) (out s)) →
-      ((p : StarPart) → o.step.node.star ≡ Some p → Hands deck o.medium.words (are_live w) later out c.0 (in_hands p (inbox o.medium c.0))) →
-      ((m : ℕ) (k : NodeState) (p : StarPart) → m ≢ c.0 → slice_get w.nodes m ≡ Some k → has w.medium.removed m ≡ false → k.star ≡ Some p → Hands deck o.medium.words (are_live w) later out m (in_hands p (inbox o.medium m))) →
+      ((s : ℕ) (k : NodeState) → s ≢ c.0 → slice_get w.nodes s ≡ Some k → has w.medium.removed s ≡ false
+      → IsSystem deck o.medium.words T s k (inbox o.medium s) (later s) (out s))
+      →
+      ((p : StarPart) → o.step.node.star ≡ Some p
+      → Hands deck o.medium.words (are_live w) later out c.0 (in_hands p (inbox o.medium c.0)))
+      →
+      ((m : ℕ) (k : NodeState) (p : StarPart) → m ≢ c.0 → slice_get w.nodes m ≡ Some k → has w.medium.removed m ≡ false
+      → k.star ≡ Some p → Hands deck o.medium.words (are_live w) later out m (in_hands p (inbox o.medium m)))
+      →
       StaysWhole deck w g c (placed w c n o)
   unfolding placed
   whole-placed right near own others hands_own hands_others = record {
@@ -149,9 +182,17 @@ module _ (deck : Deck) (w : World) (g : IsWhole deck w) (c : SysId) (n : NodeSta
       later = later;
       out = out;
       near = subst (λ U. AreNear deck o.medium.words (lists U)) (sym grown) near;
-      system = λ s k f live. subst (λ U. IsSystem deck o.medium.words U s k (inbox o.medium s) (later s) (out s)) (sym grown) (by_system (λ u z. has w.medium.removed u ≡ false → IsSystem deck o.medium.words T u z (inbox o.medium u) (later u) (out u)) (λ l. own) others s k f (was_live s live));
-      hands = λ m k p f live is. subst (λ alive. Hands deck o.medium.words alive later out m (in_hands p (inbox o.medium m))) (sym same_live)
-          (by_system (λ u z. has w.medium.removed u ≡ false → (q : StarPart) → z.star ≡ Some q → Hands deck o.medium.words (are_live w) later out u (in_hands q (inbox o.medium u))) (λ l. hands_own) (λ u z ne found l q star. hands_others u z q ne found l star) m k f (was_live m live) p is);
+      system = λ s k f live.
+          subst (λ U. IsSystem deck o.medium.words U s k (inbox o.medium s) (later s) (out s)) (sym grown)
+          (by_system (λ u z.
+          has w.medium.removed u ≡ false → IsSystem deck o.medium.words T u z (inbox o.medium u) (later u) (out u))
+          (λ l. own) others s k f (was_live s live));
+      hands = λ m k p f live is.
+          subst (λ alive. Hands deck o.medium.words alive later out m (in_hands p (inbox o.medium m))) (sym same_live)
+          (by_system (λ u z.
+          has w.medium.removed u ≡ false → (q : StarPart) → z.star ≡ Some q
+          → Hands deck o.medium.words (are_live w) later out u (in_hands q (inbox o.medium u)))
+          (λ l. hands_own) (λ u z ne found l q star. hands_others u z q ne found l star) m k f (was_live m live) p is);
     };
     sent = sent;
     fixes = subst (Fixes deck c.0 g.out (items w.fixed)) (sym grown) fixes;
@@ -161,10 +202,13 @@ module _ (deck : Deck) (w : World) (g : IsWhole deck w) (c : SysId) (n : NodeSta
       was_live s live = sym (ap (λ i. has i s) step.removed) ∙ live
 
       same_live : are_live (placed w c n o) ≡ are_live w
-      same_live = ap (λ (i : ℕ). λ (s : ℕ). lives i o.medium.removed s) (length-set w.nodes c.0 o.step.node) ∙ ap (λ (i : ℕ). λ (s : ℕ). lives (length w.nodes) i s) step.removed
+      same_live =
+          ap (λ (i : ℕ). λ (s : ℕ). lives i o.medium.removed s) (length-set w.nodes c.0 o.step.node)
+          ∙ ap (λ (i : ℕ). λ (s : ℕ). lives (length w.nodes) i s) step.removed
 
 -- an event that is only counted
-pub whole-counted : (deck : Deck) (w : World) (g : IsWhole deck w) → (h : IsWhole deck (counted w)) × ((u : ℕ) → h.out u ≡ g.out u)
+pub whole-counted : (deck : Deck) (w : World) (g : IsWhole deck w)
+    → (h : IsWhole deck (counted w)) × ((u : ℕ) → h.out u ≡ g.out u)
 whole-counted deck w g = (
   record {
     roles = counted-star deck w g.roles;
@@ -179,8 +223,14 @@ whole-counted deck w g = (
 )
 
 -- What holds of the world says nothing of the message and of flags of rest, nor of what was told.
-pub whole-still : (deck : Deck) (w : World) (g : IsWhole deck w) (message : Message) (flags events : ℕ) (fixed : List (SysId × Fixed)) (told : List Told) → items fixed ≡ items w.fixed →
-    (h : IsWhole deck (record w { medium = record w.medium { message = message; rest = flags }; events = events; fixed = fixed; told = told })) × ((u : ℕ) → h.out u ≡ g.out u)
+pub whole-still :
+    (deck : Deck) (w : World) (g : IsWhole deck w) (message : Message) (flags events : ℕ) (fixed : List (SysId × Fixed))
+    (told : List Told)
+    → items fixed ≡ items w.fixed →
+    (h :
+    IsWhole deck (record w
+    { medium = record w.medium { message = message; rest = flags }; events = events; fixed = fixed; told = told }))
+    × ((u : ℕ) → h.out u ≡ g.out u)
 whole-still deck w g message flags events fixed told same = (
   record {
     roles = record {
@@ -197,69 +247,110 @@ whole-still deck w g message flags events fixed told same = (
     later = g.later;
     out = g.out;
     near = subst (λ T. AreNear deck w.medium.words (lists T)) (sym same) g.near;
-    system = λ s k f live. subst (λ T. IsSystem deck w.medium.words T s k (inbox w.medium s) (g.later s) (g.out s)) (sym same) (g.system s k f live);
+    system = λ s k f live.
+        subst (λ T. IsSystem deck w.medium.words T s k (inbox w.medium s) (g.later s) (g.out s)) (sym same)
+        (g.system s k f live);
     hands = g.hands;
   },
   λ u. refl,
 )
 
 -- So what is kept is what the history says.
-pub kept-whole : (deck : Deck) (w : World) → IsWhole deck w → (s : SysId) (r : Res) → is_systems r ≡ true → kept deck w s r ≡ list_of (replay deck.limit (history (items w.fixed))) r
-kept-whole deck w g s r all = kept_lists deck w g.roles s r all ∙ ap (λ st. list_of st r) (replayed deck (items w.fixed) g.right)
+pub kept-whole : (deck : Deck) (w : World) → IsWhole deck w → (s : SysId) (r : Res) → is_systems r ≡ true
+    → kept deck w s r ≡ list_of (replay deck.limit (history (items w.fixed))) r
+kept-whole deck w g s r all =
+    kept_lists deck w g.roles s r all ∙ ap (λ st. list_of st r) (replayed deck (items w.fixed) g.right)
 
 -- an item of the system's own task is none of another system
-pub fixes-own : (deck : Deck) (c : SysId) (out : ℕ → List Req) (T : List RunItem) (q : Req) (m : MayFollow deck T (made_item c T (fixing.Asked q))) → q.task.system.0 ≡ c.0 → Fixes deck c.0 out T (T ++ made_item c T (fixing.Asked q) ∷ [])
-fixes-own deck c out T q m home = one_fixed (made_item c T (fixing.Asked q)) m.ask (λ u ne empty e. ne (sym e ∙ (ap (λ (z : Req). z.task.system.0) (sym asker) ∙ home)))
+pub fixes-own :
+    (deck : Deck) (c : SysId) (out : ℕ → List Req) (T : List RunItem) (q : Req)
+    (m : MayFollow deck T (made_item c T (fixing.Asked q)))
+    → q.task.system.0 ≡ c.0 → Fixes deck c.0 out T (T ++ made_item c T (fixing.Asked q) ∷ [])
+fixes-own deck c out T q m home =
+    one_fixed (made_item c T (fixing.Asked q)) m.ask
+    (λ u ne empty e. ne (sym e ∙ (ap (λ (z : Req). z.task.system.0) (sym asker) ∙ home)))
   where
     asker : q ≡ m.ask.req
     asker = let e : fixing.Asked q ≡ fixing.Asked m.ask.req = m.ask.asked in cc
 
 -- a request that doesn't go with the message is of no lock entry
-no_entry : (deck : Deck) (words : List ℕ) (u : TaskId) (r : Res) → is_systems r ≡ false → is_near_res deck words r u ≡ true
+no_entry : (deck : Deck) (words : List ℕ) (u : TaskId) (r : Res) → is_systems r ≡ false
+    → is_near_res deck words r u ≡ true
 no_entry deck words u (StepRes z j q r) e = refl
 no_entry deck words u (System z q r) e = refl
 no_entry deck words u (Systems q r) e = absurd (cc)
 
-pub near-local : (deck : Deck) (words : List ℕ) (T : List RunItem) (c : SysId) (q : Req) → goes_round (fixing.Asked q) ≡ false → AreNear deck words (lists T) → AreNear deck words (lists (T ++ made_item c T (fixing.Asked q) ∷ []))
-near-local deck words T c q away near = subst (AreNear deck words) (sym (lists-push T (made_item c T (fixing.Asked q)))) (near-want deck words (lists T) q.task q.want (λ r wanted. no_entry deck words q.task r (sym (wants-round q.want r wanted) ∙ away)) near)
+pub near-local : (deck : Deck) (words : List ℕ) (T : List RunItem) (c : SysId) (q : Req)
+    → goes_round (fixing.Asked q) ≡ false → AreNear deck words (lists T)
+    → AreNear deck words (lists (T ++ made_item c T (fixing.Asked q) ∷ []))
+near-local deck words T c q away near =
+    subst (AreNear deck words) (sym (lists-push T (made_item c T (fixing.Asked q))))
+    (near-want deck words (lists T) q.task q.want
+    (λ r wanted. no_entry deck words q.task r (sym (wants-round q.want r wanted) ∙ away)) near)
 
-pub under-local : (deck : Deck) (T : List RunItem) (c : SysId) (q : Req) → goes_round (fixing.Asked q) ≡ false → (e : ℕ) → under deck.entries e (lists (T ++ made_item c T (fixing.Asked q) ∷ [])) ≡ under deck.entries e (lists T)
-under-local deck T c q away e = ap (under deck.entries e) (lists-push T (made_item c T (fixing.Asked q))) ∙ under-other deck.entries e (lists T) q.task q.want (none (entry_wanted deck.entries q.want) refl)
+pub under-local : (deck : Deck) (T : List RunItem) (c : SysId) (q : Req) → goes_round (fixing.Asked q) ≡ false → (e : ℕ)
+    → under deck.entries e (lists (T ++ made_item c T (fixing.Asked q) ∷ [])) ≡ under deck.entries e (lists T)
+under-local deck T c q away e =
+    ap (under deck.entries e) (lists-push T (made_item c T (fixing.Asked q)))
+    ∙ under-other deck.entries e (lists T) q.task q.want (none (entry_wanted deck.entries q.want) refl)
   where
     none : (o : Option ℕ) → entry_wanted deck.entries q.want ≡ o → is_entry e o ≡ false
     none None at = refl
     none (Some x) at = absurd (want-round deck q.want x away at)
 
 -- ---- events of a system c
-module _ (deck : Deck) (w : World) (g : IsWhole deck w) (c : SysId) (n : NodeState) (at : slice_get w.nodes c.0 ≡ Some n) (alive : has w.medium.removed c.0 ≡ false) where
+module _ (deck : Deck) (w : World) (g : IsWhole deck w) (c : SysId) (n : NodeState)
+    (at : slice_get w.nodes c.0 ≡ Some n) (alive : has w.medium.removed c.0 ≡ false) where
   abbrev T : List RunItem
   T = items w.fixed
 
   -- its own item is another system's to the others
-  pub others-item : (f : Req) (m : MayFollow deck T (made_item c T (fixing.Asked f))) → f.task.system.0 ≡ c.0 → (s : ℕ) (k : NodeState) → s ≢ c.0 → slice_get w.nodes s ≡ Some k → has w.medium.removed s ≡ false →
-      IsSystem deck w.medium.words (T ++ made_item c T (fixing.Asked f) ∷ []) s k (inbox w.medium s) (g.later s) (g.out s)
-  others-item f m home s k ne found live = system-other deck w.medium.words T s k (inbox w.medium s) (g.later s) (g.out s) (made_item c T (fixing.Asked f)) m.ask (λ e. ne (sym e ∙ (ap (λ (q : Req). q.task.system.0) (sym asker) ∙ home))) (g.system s k found live)
+  pub others-item : (f : Req) (m : MayFollow deck T (made_item c T (fixing.Asked f))) → f.task.system.0 ≡ c.0
+      → (s : ℕ) (k : NodeState) → s ≢ c.0 → slice_get w.nodes s ≡ Some k → has w.medium.removed s ≡ false →
+      IsSystem deck w.medium.words (T ++ made_item c T (fixing.Asked f) ∷ []) s k (inbox w.medium s) (g.later s)
+      (g.out s)
+  others-item f m home s k ne found live =
+      system-other deck w.medium.words T s k (inbox w.medium s) (g.later s) (g.out s) (made_item c T (fixing.Asked f))
+      m.ask (λ e. ne (sym e ∙ (ap (λ (q : Req). q.task.system.0) (sym asker) ∙ home))) (g.system s k found live)
     where
       asker : f ≡ m.ask.req
       asker = let e : fixing.Asked f ≡ fixing.Asked m.ask.req = m.ask.asked in cc
 
   -- a task goes on by itself
-  pub whole-task : (t : TaskId) → may_go deck n t ≡ true → IsStep deck w c n (record { medium = w.medium; step = finish_quiet deck n (choices.Task t) }) → StaysWhole deck w g c (placed w c n (record { medium = w.medium; step = finish_quiet deck n (choices.Task t) }))
+  pub whole-task : (t : TaskId) → may_go deck n t ≡ true
+      → IsStep deck w c n (record { medium = w.medium; step = finish_quiet deck n (choices.Task t) })
+      → StaysWhole deck w g c (placed w c n (record { medium = w.medium; step = finish_quiet deck n (choices.Task t) }))
   unfolding finish_quiet
-  whole-task t goes step = by_task (system-task deck w.medium.words T g.right c.0 n (inbox w.medium c.0) (g.later c.0) (g.out c.0) (g.system c.0 n at alive) c t goes)
+  whole-task t goes step =
+      by_task (system-task deck w.medium.words T g.right c.0 n (inbox w.medium c.0) (g.later c.0) (g.out c.0)
+      (g.system c.0 n at alive) c t goes)
     where
       same_star : (finish_quiet deck n (choices.Task t)).node.star ≡ n.star
       same_star = by_part (g.roles.node c.0 n at alive)
         where
-          by_part : IsMember deck w.medium.words (all_lists w) c.0 n → (finish_quiet deck n (choices.Task t)).node.star ≡ n.star
+          by_part : IsMember deck w.medium.words (all_lists w) c.0 n
+              → (finish_quiet deck n (choices.Task t)).node.star ≡ n.star
           by_part m = (task-quiet m.part n m.star deck.limit t (lines_of deck t)).star
 
-      by_task : Task deck w.medium.words T g.right c.0 n (inbox w.medium c.0) (g.later c.0) (g.out c.0) (g.system c.0 n at alive) c (finish_quiet deck n (choices.Task t)) → StaysWhole deck w g c (placed w c n (record { medium = w.medium; step = finish_quiet deck n (choices.Task t) }))
+      by_task :
+          Task deck w.medium.words T g.right c.0 n (inbox w.medium c.0) (g.later c.0) (g.out c.0)
+          (g.system c.0 n at alive) c (finish_quiet deck n (choices.Task t))
+          → StaysWhole deck w g c
+          (placed w c n (record { medium = w.medium; step = finish_quiet deck n (choices.Task t) }))
       by_task (idle_task nothing z) =
-          whole-placed deck w g c n at alive (record { medium = w.medium; step = finish_quiet deck n (choices.Task t) }) step T (ap (λ fs. items (w.fixed ++ fixed_by c fs)) nothing ∙ items-none w.fixed c) g.later g.out (λ u ne. refl) none_fixed
-          g.right g.near z.system (λ s k ne found lives. g.system s k found lives) (λ p is. g.hands c.0 n p at alive (sym same_star ∙ is)) (λ m k p ne found lives is. g.hands m k p found lives is)
+          whole-placed deck w g c n at alive (record { medium = w.medium; step = finish_quiet deck n (choices.Task t) })
+          step T (ap (λ fs. items (w.fixed ++ fixed_by c fs)) nothing ∙ items-none w.fixed c) g.later g.out
+          (λ u ne. refl) none_fixed
+          g.right g.near z.system (λ s k ne found lives. g.system s k found lives)
+          (λ p is. g.hands c.0 n p at alive (sym same_star ∙ is))
+          (λ m k p ne found lives is. g.hands m k p found lives is)
       by_task (local_task q is_item mine_q away m z) =
           let item : RunItem = made_item c T (fixing.Asked q) in
           let home : q.task.system.0 ≡ c.0 = eqb-true q.task.system.0 c.0 mine_q in
-          whole-placed deck w g c n at alive (record { medium = w.medium; step = finish_quiet deck n (choices.Task t) }) step (T ++ item ∷ []) (ap (λ fs. items (w.fixed ++ fixed_by c fs)) is_item ∙ items-one w.fixed c (fixing.Asked q)) g.later g.out (λ u ne. refl) (fixes-own deck c g.out T q m home)
-          (follows deck T item g.right m) (near-local deck w.medium.words T c q away g.near) z.system (others-item q m home) (λ p is. g.hands c.0 n p at alive (sym same_star ∙ is)) (λ k j p ne found lives is. g.hands k j p found lives is)
+          whole-placed deck w g c n at alive (record { medium = w.medium; step = finish_quiet deck n (choices.Task t) })
+          step (T ++ item ∷ [])
+          (ap (λ fs. items (w.fixed ++ fixed_by c fs)) is_item ∙ items-one w.fixed c (fixing.Asked q)) g.later g.out
+          (λ u ne. refl) (fixes-own deck c g.out T q m home)
+          (follows deck T item g.right m) (near-local deck w.medium.words T c q away g.near) z.system
+          (others-item q m home) (λ p is. g.hands c.0 n p at alive (sym same_star ∙ is))
+          (λ k j p ne found lives is. g.hands k j p found lives is)

@@ -1,5 +1,6 @@
 -- A system of the complex before its first event.
-use Rattle.std.proofs.Common.{◌≡◌, ℕ, zero, suc, true, false, List, [], length, Some, refl, ap, sym, ◌∙◌, subst, arith, get_or}
+use Rattle.std.proofs.Common.{◌≡◌, ℕ, zero, suc, true, false, List, [], length, Some, refl, ap, sym, ◌∙◌, subst, arith}
+use Rattle.std.proofs.Common.{get_or}
 use Rattle.std.specs.Prelude.{slice_get, ◌==◌, nat_lt}
 use Rattle.std.specs.List.{list_all}
 use Rattle.std.proofs.lemmas.Bool.{and_parts, eqb-true, eq-eqb, lt-ltb}
@@ -47,21 +48,30 @@ first_outbox : (deck : Deck) (s : ℕ) → (first_node deck s).outbox ≡ []
 unfolding first_node
 first_outbox deck s = refl
 
-first_here : (deck : Deck) (s : ℕ) (t : TaskId) → is_home_at deck s t ≡ true → is_task (first_node deck s).tasks t ≡ true
+first_here : (deck : Deck) (s : ℕ) (t : TaskId) → is_home_at deck s t ≡ true
+    → is_task (first_node deck s).tasks t ≡ true
 unfolding first_node
 first_here deck s t h =
     let is_system : t.system.0 ≡ s = eqb-true _ _ (and_parts _ _ h).0 in
     let ls = some_of (lines_of deck t) (and_parts _ _ h).1 in
     let script = script_at deck.lists t (slice_get (scripts_of deck t.system.0) t.task) ls.0 ls.1 in
-    let at : slice_get (scripts_of deck s) t.task ≡ Some script.0 = ap (λ n. slice_get (scripts_of deck n) t.task) (sym is_system) ∙ script.1 in
-    let within : nat_lt t.task (length (new_tasks (length (scripts_of deck s)))) ≡ true = ap (nat_lt t.task) (length-new_tasks (length (scripts_of deck s))) ∙ lt-ltb _ _ (slice_get_within (scripts_of deck s) t.task script.0 at) in
+    let at : slice_get (scripts_of deck s) t.task ≡ Some script.0 =
+    ap (λ n. slice_get (scripts_of deck n) t.task) (sym is_system) ∙ script.1 in
+    let within : nat_lt t.task (length (new_tasks (length (scripts_of deck s)))) ≡ true =
+    ap (nat_lt t.task) (length-new_tasks (length (scripts_of deck s)))
+    ∙ lt-ltb _ _ (slice_get_within (scripts_of deck s) t.task script.0 at) in
     let system : (s == t.system.0) ≡ true = eq-eqb _ _ (sym is_system) in
     rw (system, within) refl
 
-new_here : (deck : Deck) (t : TaskId) (ls : List Meaning) → IsHere deck (record { later = []; out = []; all = [] }) [] [] t ls new_task
+new_here : (deck : Deck) (t : TaskId) (ls : List Meaning)
+    → IsHere deck (record { later = []; out = []; all = [] }) [] [] t ls new_task
 new_here deck t ls = record {
   known = record { behind = false; owns = λ r. false };
-  knows = record { right = record { waits = λ e. absurd (cc); owned = λ r e. absurd (cc); given = tt }; request = tt; live = refl };
+  knows = record {
+    right = record { waits = λ e. absurd (cc); owned = λ r e. absurd (cc); given = tt };
+    request = tt;
+    live = refl;
+  };
   due = refl;
   task = record {
     keys = refl;
@@ -80,11 +90,16 @@ new_here deck t ls = record {
   sent = refl;
 }
 
-first_good : (deck : Deck) (s : ℕ) → IsGood deck s (record { later = []; out = []; all = [] }) [] (first_node deck s).tasks
+first_good : (deck : Deck) (s : ℕ)
+    → IsGood deck s (record { later = []; out = []; all = [] }) [] (first_node deck s).tasks
 first_good deck s = record {
   tasks = record {
-    each = λ t ls o. subst (λ T. IsHere deck (record { later = []; out = []; all = [] }) [] T t ls (state_of (first_node deck s).tasks t)) (sym (first_told deck s))
-        (subst (λ x. IsHere deck (record { later = []; out = []; all = [] }) [] [] t ls x) (sym (first_state deck s t)) (new_here deck t ls));
+    each = λ t ls o.
+        subst (λ T.
+        IsHere deck (record { later = []; out = []; all = [] }) [] T t ls (state_of (first_node deck s).tasks t))
+        (sym (first_told deck s))
+        (subst (λ x. IsHere deck (record { later = []; out = []; all = [] }) [] [] t ls x) (sym (first_state deck s t))
+        (new_here deck t ls));
   };
   here = first_here deck s;
   system = first_system deck s;
@@ -93,7 +108,9 @@ first_good deck s = record {
 -- a system at the start
 pub first_seen : (deck : Deck) (s : ℕ) → Seen deck s [] [] [] [] (first_node deck s)
 first_seen deck s = record {
-  good = subst (λ qs. IsGood deck s (record { later = []; out = []; all = qs }) [] (first_node deck s).tasks) (sym (first_outbox deck s)) (first_good deck s);
+  good =
+      subst (λ qs. IsGood deck s (record { later = []; out = []; all = qs }) [] (first_node deck s).tasks)
+      (sym (first_outbox deck s)) (first_good deck s);
   own = first_own deck s;
   shared = first_shared deck s;
   homes = ap (list_all (λ (q : Req). is_home_at deck s q.task)) (first_outbox deck s);

@@ -1,5 +1,6 @@
 -- A complex before its first event.
-use Rattle.std.proofs.Common.{◌≡◌, ◌<◌, ◌+◌, ℕ, zero, suc, Bool, true, false, List, [], ◌∷◌, ◌++◌, length, replicate, take, refl, ap, arith, add-one}
+use Rattle.std.proofs.Common.{◌≡◌, ◌<◌, ◌+◌, ℕ, zero, suc, Bool, true, false, List, [], ◌∷◌, ◌++◌, length, replicate}
+use Rattle.std.proofs.Common.{take, refl, ap, arith, add-one}
 use Rattle.grs_wire.specs.declared.deck.Deck.{Deck}
 use Rattle.grs_wire.specs.declared.deck.SystemDef.{SystemDef}
 use Rattle.grs_medium.specs.Medium.{systems_of, first_medium}
@@ -31,12 +32,15 @@ unfolding first_node
 first_told deck s = refl
 
 -- one more system
-more_from : (deck : Deck) (s i k : ℕ) (ds : List SystemDef) → k ≡ s + i → i < length ds → first_nodes deck s (take (suc i) ds) ≡ first_nodes deck s (take i ds) ++ first_node deck k ∷ []
+more_from : (deck : Deck) (s i k : ℕ) (ds : List SystemDef) → k ≡ s + i → i < length ds
+    → first_nodes deck s (take (suc i) ds) ≡ first_nodes deck s (take i ds) ++ first_node deck k ∷ []
 more_from deck s i k [] e h = absurd (omega (arith, h))
 more_from deck s zero k (d ∷ ds) e h = let at : s ≡ k = omega (arith, e) in ap (λ j. first_node deck j ∷ []) at
-more_from deck s (suc i) k (d ∷ ds) e h = ap (λ ns. first_node deck s ∷ ns) (more_from deck (s + 1) i k ds (omega (arith, e)) (omega (arith, h)))
+more_from deck s (suc i) k (d ∷ ds) e h =
+    ap (λ ns. first_node deck s ∷ ns) (more_from deck (s + 1) i k ds (omega (arith, e)) (omega (arith, h)))
 
-pub first_nodes-more : (deck : Deck) (i : ℕ) (ds : List SystemDef) → i < length ds → first_nodes deck 0 (take (i + 1) ds) ≡ first_nodes deck 0 (take i ds) ++ first_node deck i ∷ []
+pub first_nodes-more : (deck : Deck) (i : ℕ) (ds : List SystemDef) → i < length ds
+    → first_nodes deck 0 (take (i + 1) ds) ≡ first_nodes deck 0 (take i ds) ++ first_node deck i ∷ []
 first_nodes-more deck i ds h = rw add-one (more_from deck 0 i i ds (omega arith) h)
 
 pub nodes_of-push : (vs : List NodeView) (v : NodeView) → nodes_of (vs ++ v ∷ []) ≡ nodes_of vs ++ v.node ∷ []

@@ -46,13 +46,18 @@ line_own lists t (written.Gqscan global filter) = tt
 line_own lists t written.DisplayC = tt
 line_own lists t (written.DisplayRes q r) = tt
 
-pub lines_own : (deck : Deck) (t : TaskId) (ls : List Meaning) (k : ℕ) (l : Meaning) → lines_of deck t ≡ Some ls → slice_get ls k ≡ Some l → IsOwnLine t.system.0 l
+pub lines_own : (deck : Deck) (t : TaskId) (ls : List Meaning) (k : ℕ) (l : Meaning) → lines_of deck t ≡ Some ls
+    → slice_get ls k ≡ Some l → IsOwnLine t.system.0 l
 lines_own deck t ls k l h at = of_task (lines_in (scripts_of deck t.system.0) t) h
   where
     of_line : (o : Option Line) → option_map (meaning_of deck.lists t) o ≡ Some l → IsOwnLine t.system.0 l
     of_line None e = absurd (cc)
-    of_line (Some x) e = let same : meaning_of deck.lists t x ≡ l = cc in subst (IsOwnLine t.system.0) same (line_own deck.lists t x)
+    of_line (Some x) e =
+        let same : meaning_of deck.lists t x ≡ l = cc in subst (IsOwnLine t.system.0) same (line_own deck.lists t x)
 
     of_task : (o : Option (List Line)) → meanings deck.lists t o ≡ Some ls → IsOwnLine t.system.0 l
     of_task None e = absurd (cc)
-    of_task (Some xs) e = let same : map (meaning_of deck.lists t) xs ≡ ls = cc in of_line (slice_get xs k) (sym (slice_get-map (meaning_of deck.lists t) xs k) ∙ subst (λ zs. slice_get zs k ≡ Some l) (sym same) at)
+    of_task (Some xs) e =
+        let same : map (meaning_of deck.lists t) xs ≡ ls = cc in
+        of_line (slice_get xs k)
+        (sym (slice_get-map (meaning_of deck.lists t) xs k) ∙ subst (λ zs. slice_get zs k ≡ Some l) (sym same) at)

@@ -1,5 +1,6 @@
 -- A task of a system goes on by itself.
-use Rattle.std.proofs.Common.{◌≡◌, ℕ, suc, Bool, true, false, cond, not, ◌&&◌, ◌||◌, List, [], ◌∷◌, ◌++◌, map, length, Option, Some, None, refl, ap, sym, ◌∙◌, subst, arith, append_assoc}
+use Rattle.std.proofs.Common.{◌≡◌, ℕ, suc, Bool, true, false, cond, not, ◌&&◌, ◌||◌, List, [], ◌∷◌, ◌++◌, map, length}
+use Rattle.std.proofs.Common.{Option, Some, None, refl, ap, sym, ◌∙◌, subst, arith, append_assoc}
 use Rattle.std.specs.Prelude.{slice_get, is_some, nat_le}
 use Rattle.std.specs.List.{list_all, list_any}
 use Rattle.std.proofs.lemmas.Bool.{and_parts, cases_Bool, eq-eqb, or_left, or_right}
@@ -18,7 +19,8 @@ use Rattle.grs_legal.specs.Legal.{line_entries}
 use Rattle.grs_legal.specs.declared.meaning.Meaning.{Meaning}
 use Rattle.grs_legal.specs.declared.meaning.Meaning.TheVariants as lines
 use Rattle.grs_node.proofs.InRing.{outbox-ring}
-use Rattle.grs_node.specs.Node.{NodeState, only, with_tasks, decide, post, ask, wait, has_most, take_line, end_step, ready_step, phase_step, task_step, goes_on, may_go, finish_quiet}
+use Rattle.grs_node.specs.Node.{NodeState, only, with_tasks, decide, post, ask, wait, has_most, take_line, end_step}
+use Rattle.grs_node.specs.Node.{ready_step, phase_step, task_step, goes_on, may_go, finish_quiet}
 use Rattle.grs_wire.specs.History.{replay, entries_for}
 use Rattle.grs_wire.specs.Wants.{answer_to, res_wanted, new_owners}
 use Rattle.grs_wire.specs.declared.deck.Deck.{Deck}
@@ -36,7 +38,8 @@ use Rattle.grs_wire.specs.declared.told.ToldLine.TheVariants.{Coded, Ended}
 use Rattle.grs_wire.specs.declared.told.Verb.TheVariants as verbs
 use Rattle.grs_wire.proofs.WantLaws.{by_test}
 use Rattle.task_state.specs.Replies.{replied, tell_new, tell_code, phase_asking, is_leaving}
-use Rattle.task_state.specs.View.{TasksView, is_task, state_of, record_of, with_line, with_phase, with_outstanding, telling}
+use Rattle.task_state.specs.View.{TasksView, is_task, state_of, record_of, with_line, with_phase, with_outstanding}
+use Rattle.task_state.specs.View.{telling}
 use Rattle.task_state.specs.declared.state.Asked.{Asked}
 use Rattle.task_state.specs.declared.state.Phase.{Phase}
 use Rattle.task_state.specs.declared.state.Phase.TheVariants as phases
@@ -48,8 +51,10 @@ use Rattle.grs_known.specs.Past.{has_own, Past, past_of, Speaks}
 use Rattle.grs_known.specs.Told.{LineAgrees, TellsWait, tells_control}
 use Rattle.grs_known.proofs.known.Knowing.{one}
 use Rattle.grs_known.proofs.known.Following.{has-known, is_full-known, may_follow}
-use Rattle.grs_known.proofs.known.Histories.{IsHistory, MayFollow, made_item, follows, live-push, wants-round, has-may, owns-may}
-use Rattle.grs_known.proofs.known.Knows.{IsOutstanding, known-all, knows-closed, speaks-known, owns-still, entry-decided}
+use Rattle.grs_known.proofs.known.Histories.{IsHistory, MayFollow, made_item, follows, live-push, wants-round, has-may}
+use Rattle.grs_known.proofs.known.Histories.{owns-may}
+use Rattle.grs_known.proofs.known.Knows.{IsOutstanding, known-all, knows-closed, speaks-known, owns-still}
+use Rattle.grs_known.proofs.known.Knows.{entry-decided}
 use Rattle.grs_known.proofs.ring.Reading.{owner-behind}
 use Rattle.grs_known.proofs.lists.Facts.{all-more}
 use Rattle.grs_known.proofs.lists.Owners.{is_among}
@@ -63,7 +68,8 @@ use Rattle.grs_known.proofs.tasks.Records.{found, not_found}
 use Rattle.grs_known.proofs.tasks.Speaking.{has-speaks}
 use Rattle.grs_known.proofs.tasks.Steps.{task-skipped, task-waited, task-held, task-ending, next-ending, task-ended}
 use Rattle.grs_known.proofs.system.Askers.{among-front, apart-push}
-use Rattle.grs_known.proofs.system.Asking.{line_asked, unasked, IsAtLines, IsAskedFor, IsOpenBy, Opens, IsReq, IsAskedBy, asked-none, sent-absent, held-none, stays-open, task-open}
+use Rattle.grs_known.proofs.system.Asking.{line_asked, unasked, IsAtLines, IsAskedFor, IsOpenBy, Opens, IsReq}
+use Rattle.grs_known.proofs.system.Asking.{IsAskedBy, asked-none, sent-absent, held-none, stays-open, task-open}
 use Rattle.grs_world.proofs.system.AtNode.{opens_of, Seen, QuietStep, keeps, fixes, part-same}
 use Rattle.grs_known.proofs.system.Did.{Did, did-none, did-line, did-phase, did-outstanding, did-telling}
 use Rattle.grs_known.proofs.system.Events.{StaysGood, Decides, task-closed, enq-good, deq-good, release-good}
@@ -74,23 +80,39 @@ use Rattle.grs_known.proofs.system.Says.{is_home_at, askers, stand_apart, ToldBy
 use Rattle.grs_known.proofs.system.Turns.{quiet_good, state-is, plain-task}
 
 -- one request more behind the open ones
-asked-push_own : (t : TaskId) (o : Option Asked) (qs : List Req) (q : Req) → is_among t (askers qs) ≡ false → IsReq q o → IsAskedBy t o (qs ++ q ∷ [])
+asked-push_own : (t : TaskId) (o : Option Asked) (qs : List Req) (q : Req) → is_among t (askers qs) ≡ false → IsReq q o
+    → IsAskedBy t o (qs ++ q ∷ [])
 asked-push_own t o [] q h is = (λ e. is, tt)
-asked-push_own t o (x ∷ qs) q h is = (λ e. absurd (grind (arith, h, e)), asked-push_own t o qs q (grind (arith, h, cases_Bool (same_task t x.task))) is)
+asked-push_own t o (x ∷ qs) q h is = (
+  λ e. absurd (grind (arith, h, e)),
+  asked-push_own t o qs q (grind (arith, h, cases_Bool (same_task t x.task))) is,
+)
 
-asked-push_other : (u : TaskId) (o : Option Asked) (qs : List Req) (q : Req) → same_task u q.task ≡ false → IsAskedBy u o qs → IsAskedBy u o (qs ++ q ∷ [])
+asked-push_other : (u : TaskId) (o : Option Asked) (qs : List Req) (q : Req) → same_task u q.task ≡ false
+    → IsAskedBy u o qs → IsAskedBy u o (qs ++ q ∷ [])
 asked-push_other u o [] q apart h = (λ e. absurd (let f : false ≡ true = sym apart ∙ e in cc), tt)
 asked-push_other u o (x ∷ qs) q apart h = (h.0, asked-push_other u o qs q apart h.1)
 
-module _ (deck : Deck) (s : ℕ) (c : SysId) (P before later : List RunItem) (right : IsHistory deck P) (out : List Req) (n : NodeState) (seen : Seen deck s P before later out n) (alone : n.star ≡ None) where
+module _ (deck : Deck) (s : ℕ) (c : SysId) (P before later : List RunItem) (right : IsHistory deck P) (out : List Req)
+    (n : NodeState) (seen : Seen deck s P before later out n) (alone : n.star ≡ None) where
   abbrev os : Opens
   os = opens_of later out n
 
   -- a step that changes the tasks alone, and fixes nothing
-  by_tasks : (v : TasksView) → StaysGood deck s os P n.tasks.told v → QuietStep deck s c P before later out n (only (with_tasks n v))
-  by_tasks v z = keeps refl (record { good = z.good; own = seen.own; shared = seen.shared; homes = seen.homes; apart = seen.apart }) z.told
+  by_tasks : (v : TasksView) → StaysGood deck s os P n.tasks.told v
+      → QuietStep deck s c P before later out n (only (with_tasks n v))
+  by_tasks v z =
+      keeps refl (record {
+        good = z.good;
+        own = seen.own;
+        shared = seen.shared;
+        homes = seen.homes;
+        apart = seen.apart;
+      })
+      z.told
 
-  module _ (t : TaskId) (ls : List Meaning) (ours : IsOurs deck s n.tasks t ls) (closed : (state_of n.tasks t).outstanding ≡ None) where
+  module _ (t : TaskId) (ls : List Meaning) (ours : IsOurs deck s n.tasks t ls)
+      (closed : (state_of n.tasks t).outstanding ≡ None) where
     here : IsHere deck os P n.tasks.told t ls (state_of n.tasks t)
     here = seen.good.tasks.each t ls ours
 
@@ -114,7 +136,8 @@ module _ (deck : Deck) (s : ℕ) (c : SysId) (P before later : List RunItem) (ri
     free_out = among-front t out n.outbox free
 
     -- a request that the system decides by the lists of its own resources
-    module _ (w : Want) (r : Res) (wanted : res_wanted w ≡ Some r) (own : is_res_of s r ≡ true) (h : HistEntry) (entry : entries_for (lists P) t w ≡ h ∷ []) where
+    module _ (w : Want) (r : Res) (wanted : res_wanted w ≡ Some r) (own : is_res_of s r ≡ true) (h : HistEntry)
+        (entry : entries_for (lists P) t w ≡ h ∷ []) where
       abbrev q : Req
       q = record { task = t; want = w }
 
@@ -124,26 +147,43 @@ module _ (deck : Deck) (s : ℕ) (c : SysId) (P before later : List RunItem) (ri
       decides : MayFollow deck P x → Decides deck os os P (P ++ x ∷ []) t p h r (new_owners n.own t w)
       decides m = record {
         right = follows deck P x right m;
-        learns = entry-decided deck P x t here.known h (follows deck P x right m) (same_task-itself t) refl (live-push t P x here.knows.live refl) here.knows.right (known-all P t here.known here.knows.right none_open) entry;
+        learns =
+            entry-decided deck P x t here.known h (follows deck P x right m) (same_task-itself t) refl
+            (live-push t P x here.knows.live refl) here.knows.right
+            (known-all P t here.known here.knows.right none_open) entry;
         due = here.due ∙ ap one none_open;
-        leaves = λ u ls T T' y apart told k. here-kept deck os os (P ++ x ∷ []) T T' u ls y refl (λ a. a) (λ a. a) told (here-other deck os P x T u ls y apart refl k);
+        leaves = λ u ls T T' y apart told k.
+            here-kept deck os os (P ++ x ∷ []) T T' u ls y refl (λ a. a) (λ a. a) told
+            (here-other deck os P x T u ls y apart refl k);
         away = free;
         away_out = free_out;
         owners = λ u e.
-            let owned : owns (list_of (lists (P ++ x ∷ [])) r) u ≡ true = owner-behind (is_res_of s) P x q r u refl wanted own (ap (λ z. is_among u (new_owners z t w)) (sym seen.own) ∙ e) in
-            let all : IsHistory deck (P ++ x ∷ []) = follows deck P x right m in
-            ((and_parts _ _ (owns-may deck (P ++ x ∷ []) r u all.asks owned)).0, λ T ls y k. owns-still r u (P ++ x ∷ []) _ (stays-open deck.limit ls u y r _ k.opened k.knows.request (own-one_system s r own)) owned);
+            let owned : owns (list_of (lists (P ++ x ∷ [])) r) u ≡ true =
+            owner-behind (is_res_of s) P x q r u refl wanted own
+            (ap (λ z. is_among u (new_owners z t w)) (sym seen.own) ∙ e) in
+            let all : IsHistory deck (P ++ x ∷ []) = follows deck P x right m in (
+              (and_parts _ _ (owns-may deck (P ++ x ∷ []) r u all.asks owned)).0,
+              λ T ls y k.
+                  owns-still r u (P ++ x ∷ []) _
+                  (stays-open deck.limit ls u y r _ k.opened k.knows.request (own-one_system s r own)) owned,
+            );
       }
 
       -- the code that the entry tells
-      decided : (v0 : TasksView) (unit : Option ℕ) (answer : Answer) → answer_to (lists P) t w ≡ answer → (m : MayFollow deck P x) →
-          (Decides deck os os P (P ++ x ∷ []) t p h r (new_owners n.own t w) → StaysGood deck s os (P ++ x ∷ []) n.tasks.told (tell_new (replied v0 t w unit answer) (Some r) (new_owners n.own t w))) →
+      decided : (v0 : TasksView) (unit : Option ℕ) (answer : Answer) → answer_to (lists P) t w ≡ answer
+          → (m : MayFollow deck P x) →
+          (Decides deck os os P (P ++ x ∷ []) t p h r (new_owners n.own t w)
+          → StaysGood deck s os (P ++ x ∷ []) n.tasks.told
+          (tell_new (replied v0 t w unit answer) (Some r) (new_owners n.own t w)))
+          →
           QuietStep deck s c P before later out n (decide (with_tasks n v0) t w unit)
       unfolding decide
       decided v0 unit answer told_is m done =
           let z = done (decides m) in
-          let tasks : tell_new (replied v0 t w unit (answer_to n.own t w)) (res_wanted w) (new_owners n.own t w) ≡ tell_new (replied v0 t w unit answer) (Some r) (new_owners n.own t w) =
-          ap (λ y. tell_new (replied v0 t w unit y) (res_wanted w) (new_owners n.own t w)) (ap (λ y. answer_to y t w) seen.own ∙ answer_to-part (is_res_of s) (lists P) t w r wanted own ∙ told_is)
+          let tasks : tell_new (replied v0 t w unit (answer_to n.own t w)) (res_wanted w) (new_owners n.own t w)
+          ≡ tell_new (replied v0 t w unit answer) (Some r) (new_owners n.own t w) =
+          ap (λ y. tell_new (replied v0 t w unit y) (res_wanted w) (new_owners n.own t w))
+          (ap (λ y. answer_to y t w) seen.own ∙ answer_to-part (is_res_of s) (lists P) t w r wanted own ∙ told_is)
           ∙ ap (λ y. tell_new (replied v0 t w unit answer) y (new_owners n.own t w)) wanted in
           fixes q refl (eq-eqb _ _ ours.home) (wants-round w r wanted ∙ own-one_system s r own) m
           (record {
@@ -153,50 +193,82 @@ module _ (deck : Deck) (s : ℕ) (c : SysId) (P before later : List RunItem) (ri
             homes = seen.homes;
             apart = seen.apart;
           })
-          (subst (λ (v : TasksView). ToldBy deck s (out ++ n.outbox) (history (P ++ x ∷ [])) n.tasks.told v.told) (sym tasks) z.told)
+          (subst (λ (v : TasksView). ToldBy deck s (out ++ n.outbox) (history (P ++ x ∷ [])) n.tasks.told v.told)
+          (sym tasks) z.told)
 
     -- a request that waits to be put into the message
     posted : (v1 : TasksView) (w : Want) (unit : Option ℕ) (x : TaskState) → Did n.tasks v1 t x n.tasks.told →
-        IsTask ls p n.tasks.told (λ q. false) t (record x { line = line_asked w x.line; phase = phase_asking w x.code }) →
-        IsAskedFor deck.limit ls x.line x.records w unit → QuietStep deck s c P before later out n (post (with_tasks n v1) t w unit)
+        IsTask ls p n.tasks.told (λ q. false) t (record x { line = line_asked w x.line; phase = phase_asking w x.code })
+        →
+        IsAskedFor deck.limit ls x.line x.records w unit
+        → QuietStep deck s c P before later out n (post (with_tasks n v1) t w unit)
     unfolding post
     posted v1 w unit x did k asked =
         let q : Req = record { task = t; want = w } in
         let a : Asked = record { req = q; unit = unit } in
         let did1 = did-phase n.tasks v1 t x n.tasks.told ours.here did phases.ToSend in
         let did2 = did-outstanding n.tasks (with_phase v1 t phases.ToSend) t _ n.tasks.told ours.here did1 (Some a) in
-        let z : TaskState = record { line = x.line; phase = phases.ToSend; code = x.code; records = x.records; outstanding = Some a; rows = x.rows } in
+        let z :
+        TaskState = record {
+          line = x.line;
+          phase = phases.ToSend;
+          code = x.code;
+          records = x.records;
+          outstanding = Some a;
+          rows = x.rows;
+        } in
         let pushed : (out ++ n.outbox) ++ q ∷ [] ≡ out ++ (n.outbox ++ q ∷ []) = append_assoc out n.outbox (q ∷ []) in
         let os' : Opens = record { later = later; out = out; all = out ++ (n.outbox ++ q ∷ []) } in
         let task : IsTask ls p n.tasks.told (λ r. is_leaving r (Some a)) t (unasked z) =
-        task-leaving ls p n.tasks.told (λ r. is_leaving r (Some a)) t (unasked z) (task-open ls p n.tasks.told (λ q. false) t (record x { line = line_asked w x.line; phase = phase_asking w x.code }) (Some a) k) in
-        let done = quiet_good deck s os os' P n.tasks seen.good t ls ours (with_outstanding (with_phase v1 t phases.ToSend) t (Some a)) z n.tasks.told did2
+        task-leaving ls p n.tasks.told (λ r. is_leaving r (Some a)) t (unasked z)
+        (task-open ls p n.tasks.told (λ q. false) t
+        (record x { line = line_asked w x.line; phase = phase_asking w x.code }) (Some a) k) in
+        let done =
+        quiet_good deck s os os' P n.tasks seen.good t ls ours
+        (with_outstanding (with_phase v1 t phases.ToSend) t (Some a)) z n.tasks.told did2
         (record {
           known = here.known;
-          knows = record { right = here.knows.right; request = subst (IsOutstanding (Some a)) (sym none_open) tt; live = here.knows.live };
+          knows = record {
+            right = here.knows.right;
+            request = subst (IsOutstanding (Some a)) (sym none_open) tt;
+            live = here.knows.live;
+          };
           due = here.due;
           task = task;
           opened = (refl, refl, asked);
-          asked = subst (λ qs. IsAskedBy t (Some a) qs) pushed (asked-push_own t (Some a) (out ++ n.outbox) q free refl);
+          asked =
+              subst (λ qs. IsAskedBy t (Some a) qs) pushed (asked-push_own t (Some a) (out ++ n.outbox) q free refl);
           sent = sent-absent t phases.ToSend out free_out;
         })
-        (λ u o apart j. subst (λ qs. IsAskedBy u o qs) pushed (asked-push_other u o (out ++ n.outbox) q apart j)) (λ u ph apart j. j) refl (λ u ms apart z leaving y j. j) none in
-        subst (λ (qs : List Req). QuietStep deck s c P before later out n (only (record n { tasks = with_outstanding (with_phase v1 t phases.ToSend) t (Some a); outbox = qs }))) (sym (outbox-ring (with_tasks n v1) q alone))
+        (λ u o apart j. subst (λ qs. IsAskedBy u o qs) pushed (asked-push_other u o (out ++ n.outbox) q apart j))
+        (λ u ph apart j. j) refl (λ u ms apart z leaving y j. j) none in
+        subst (λ (qs : List Req).
+        QuietStep deck s c P before later out n
+        (only (record n { tasks = with_outstanding (with_phase v1 t phases.ToSend) t (Some a); outbox = qs })))
+        (sym (outbox-ring (with_tasks n v1) q alone))
         (keeps refl
         (record {
           good = done.good;
           own = seen.own;
           shared = seen.shared;
-          homes = ap (list_all (λ y. is_home_at deck s y.task)) (sym pushed) ∙ all-more (λ (y : Req). is_home_at deck s y.task) (out ++ n.outbox) q seen.homes (ours-home deck s n.tasks t ls ours);
+          homes =
+              ap (list_all (λ y. is_home_at deck s y.task)) (sym pushed)
+              ∙ all-more (λ (y : Req). is_home_at deck s y.task) (out ++ n.outbox) q seen.homes
+              (ours-home deck s n.tasks t ls ours);
           apart = ap (λ qs. stand_apart (askers qs)) (sym pushed) ∙ apart-push (out ++ n.outbox) q seen.apart free;
         })
         done.told)
 
     -- what makes the task one of ours after a step that leaves its open requests
-    still_here : (T : List ToldLine) (x : TaskState) → x.outstanding ≡ None → IsAtLines x.phase x.code → IsTask ls p T (λ q. false) t x → IsHere deck os P T t ls x
+    still_here : (T : List ToldLine) (x : TaskState) → x.outstanding ≡ None → IsAtLines x.phase x.code
+        → IsTask ls p T (λ q. false) t x → IsHere deck os P T t ls x
     still_here T x o at k = record {
       known = here.known;
-      knows = record { right = here.knows.right; request = subst (IsOutstanding x.outstanding) (sym none_open) tt; live = here.knows.live };
+      knows = record {
+        right = here.knows.right;
+        request = subst (IsOutstanding x.outstanding) (sym none_open) tt;
+        live = here.knows.live;
+      };
       due = here.due;
       task = task-closed ls p T t x o k;
       opened = subst (λ z. IsOpenBy deck.limit ls t x z) (sym o) at;
@@ -205,10 +277,14 @@ module _ (deck : Deck) (s : ℕ) (c : SysId) (P before later : List RunItem) (ri
     }
 
     -- a step that changes the task alone, and tells no more than lines to it
-    by_task : (v : TasksView) (x : TaskState) (T : List ToldLine) → Did n.tasks v t x T → x.outstanding ≡ None → IsAtLines x.phase x.code → IsTask ls p T (λ q. false) t x →
+    by_task : (v : TasksView) (x : TaskState) (T : List ToldLine) → Did n.tasks v t x T → x.outstanding ≡ None
+        → IsAtLines x.phase x.code → IsTask ls p T (λ q. false) t x →
         ((u : TaskId) (ms : List Meaning) → same_task u t ≡ false → Untold n.tasks.told T u ms) →
-        ToldBy deck s (out ++ n.outbox) (history P) n.tasks.told T → QuietStep deck s c P before later out n (only (with_tasks n v))
-    by_task v x T did o at k told agreed = by_tasks v (quiet_good deck s os os P n.tasks seen.good t ls ours v x T did (still_here T x o at k) (λ u z apart j. j) (λ u ph apart j. j) refl told agreed)
+        ToldBy deck s (out ++ n.outbox) (history P) n.tasks.told T
+        → QuietStep deck s c P before later out n (only (with_tasks n v))
+    by_task v x T did o at k told agreed =
+        by_tasks v (quiet_good deck s os os P n.tasks seen.good t ls ours v x T did (still_here T x o at k)
+        (λ u z apart j. j) (λ u ph apart j. j) refl told agreed)
 
     place : (r : Res) → is_own s r ≡ true → is_own t.system.0 r ≡ true
     place r h = subst (λ z. is_own z r ≡ true) (sym ours.home) h
@@ -217,20 +293,37 @@ module _ (deck : Deck) (s : ℕ) (c : SysId) (P before later : List RunItem) (ri
     own-of r h = subst (λ z. is_own z r ≡ true) ours.home h
 
     -- an ending task, by its parts
-    module _ (v : TasksView) (m d code : ℕ) (xs : List Rec) (ws : List Row) (did : Did n.tasks v t (record { line = m; phase = phases.Ending d; code = code; records = xs; outstanding = None; rows = ws }) n.tasks.told) (coded : code ≡ d)
-        (k : IsTask ls p n.tasks.told (λ q. false) t (record { line = m; phase = phases.Ending d; code = code; records = xs; outstanding = None; rows = ws })) where
+    module _ (v : TasksView) (m d code : ℕ) (xs : List Rec) (ws : List Row)
+        (did :
+        Did n.tasks v t
+        (record { line = m; phase = phases.Ending d; code = code; records = xs; outstanding = None; rows = ws })
+        n.tasks.told)
+        (coded : code ≡ d)
+        (k :
+        IsTask ls p n.tasks.told (λ q. false) t
+        (record { line = m; phase = phases.Ending d; code = code; records = xs; outstanding = None; rows = ws })) where
       -- it releases the first resource on record
-      released : (y : Rec) (ys : List Rec) → xs ≡ y ∷ ys → QuietStep deck s c P before later out n (ask (with_tasks n v) t (Release y.res) None)
+      released : (y : Rec) (ys : List Rec) → xs ≡ y ∷ ys
+          → QuietStep deck s c P before later out n (ask (with_tasks n v) t (Release y.res) None)
       unfolding ask
       released y ys e = by_test (QuietStep deck s c P before later out n) (is_systems y.res) _ _
-          (λ all. posted v (Release y.res) None (record { line = m; phase = phases.Ending d; code = code; records = xs; outstanding = None; rows = ws }) did
-          (subst (λ z. IsTask ls p n.tasks.told (λ q. false) t (record { line = m; phase = phases.Ending z; code = code; records = xs; outstanding = None; rows = ws })) (sym coded) k)
+          (λ all.
+          posted v (Release y.res) None
+          (record { line = m; phase = phases.Ending d; code = code; records = xs; outstanding = None; rows = ws }) did
+          (subst (λ z.
+          IsTask ls p n.tasks.told (λ q. false) t
+          (record { line = m; phase = phases.Ending z; code = code; records = xs; outstanding = None; rows = ws }))
+          (sym coded) k)
           (first, all))
           (λ alone.
           let own : is_res_of s y.res ≡ true = or_other (is_systems y.res) (is_res_of s y.res) proper alone in
           decided (Release y.res) y.res refl own (entries.Release t y.res) refl v None (answers.Coded C00) refl
-          (may_follow deck P right t p speaks ls ours.lines here.knows.live c (Release y.res) y.res refl (place y.res proper) tt (AsksRelease y.res) refl (next-ending ls p n.tasks.told (λ q. false) t m d code xs None ws k y.res first))
-          (λ z. release-good deck s os os P _ n.tasks seen.good t ls ours p y.res _ m d code xs ws v did coded (λ q. false) (λ q apart. refl) k z None))
+          (may_follow deck P right t p speaks ls ours.lines here.knows.live c (Release y.res) y.res refl
+          (place y.res proper) tt (AsksRelease y.res) refl
+          (next-ending ls p n.tasks.told (λ q. false) t m d code xs None ws k y.res first))
+          (λ z.
+          release-good deck s os os P _ n.tasks seen.good t ls ours p y.res _ m d code xs ws v did coded (λ q. false)
+          (λ q apart. refl) k z None))
         where
           first : slice_get (map (λ (z : Rec). z.res) xs) 0 ≡ Some y.res
           first = ap (λ zs. slice_get (map (λ (z : Rec). z.res) zs) 0) e
@@ -239,53 +332,112 @@ module _ (deck : Deck) (s : ℕ) (c : SysId) (P before later : List RunItem) (ri
           there = ap (has_res y.res) e ∙ ap (λ b. b || has_res y.res ys) (same_res-itself y.res)
 
           proper : is_own s y.res ≡ true
-          proper = own-of y.res (and_parts (is_some (lines_of deck t)) (is_own t.system.0 y.res) (has-may deck P y.res t right.asks (has-known deck P right t p speaks y.res ∙ sym (has_res-own y.res xs p.own k.keys) ∙ there))).1
+          proper =
+              own-of y.res (and_parts (is_some (lines_of deck t)) (is_own t.system.0 y.res)
+              (has-may deck P y.res t right.asks
+              (has-known deck P right t p speaks y.res ∙ sym (has_res-own y.res xs p.own k.keys) ∙ there))).1
 
       -- it has ended
-      ended : xs ≡ [] → QuietStep deck s c P before later out n (only (with_tasks n (telling (with_phase v t phases.Ended) (Ended t d))))
+      ended : xs ≡ []
+          → QuietStep deck s c P before later out n
+          (only (with_tasks n (telling (with_phase v t phases.Ended) (Ended t d))))
       ended e =
-          let none_left = subst (λ zs. IsTask ls p n.tasks.told (λ q. false) t (record { line = m; phase = phases.Ending d; code = code; records = zs; outstanding = None; rows = ws })) e k in
+          let none_left =
+          subst (λ zs.
+          IsTask ls p n.tasks.told (λ q. false) t
+          (record { line = m; phase = phases.Ending d; code = code; records = zs; outstanding = None; rows = ws }))
+          e k in
           let done = task-ended ls p n.tasks.told (λ q. false) t m d code None ws none_left in
-          let did1 = did-telling n.tasks (with_phase v t phases.Ended) t (record { line = m; phase = phases.Ended; code = code; records = xs; outstanding = None; rows = ws }) n.tasks.told (Ended t d)
-          (did-phase n.tasks v t (record { line = m; phase = phases.Ending d; code = code; records = xs; outstanding = None; rows = ws }) n.tasks.told ours.here did phases.Ended) in
+          let did1 =
+          did-telling n.tasks (with_phase v t phases.Ended) t
+          (record { line = m; phase = phases.Ended; code = code; records = xs; outstanding = None; rows = ws })
+          n.tasks.told (Ended t d)
+          (did-phase n.tasks v t
+          (record { line = m; phase = phases.Ending d; code = code; records = xs; outstanding = None; rows = ws })
+          n.tasks.told ours.here did phases.Ended) in
           by_task (telling (with_phase v t phases.Ended) (Ended t d)) _ _ did1 refl tt
-          (subst (λ zs. IsTask ls p (n.tasks.told ++ Ended t d ∷ []) (λ q. false) t (record { line = m; phase = phases.Ended; code = code; records = zs; outstanding = None; rows = ws })) (sym e) done.0)
+          (subst (λ zs.
+          IsTask ls p (n.tasks.told ++ Ended t d ∷ []) (λ q. false) t
+          (record { line = m; phase = phases.Ended; code = code; records = zs; outstanding = None; rows = ws }))
+          (sym e) done.0)
           (λ u ms apart q leaving y j. task-told ms q n.tasks.told leaving u y (Ended t d) apart j)
-          (more n.tasks.told (Ended t d) none (ours-line deck s n.tasks t ls ours) (agrees-ours deck t ls (history P) n.tasks.told (Ended t d) ours.lines (done.1 deck.limit (history P) speaks)) tt)
+          (more n.tasks.told (Ended t d) none (ours-line deck s n.tasks t ls ours)
+          (agrees-ours deck t ls (history P) n.tasks.told (Ended t d) ours.lines (done.1 deck.limit (history P) speaks))
+          tt)
 
       -- a step of its end
-      end_outcome : (zs : List Rec) → xs ≡ zs → QuietStep deck s c P before later out n (end_step (with_tasks n v) t d zs)
+      end_outcome : (zs : List Rec) → xs ≡ zs
+          → QuietStep deck s c P before later out n (end_step (with_tasks n v) t d zs)
       unfolding end_step
       end_outcome [] e = ended e
       end_outcome (y ∷ ys) e = released y ys e
 
     -- a task that is ready, by its parts
     module _ (ready : (state_of n.tasks t).phase ≡ phases.Ready) where
-      is_ready : IsTask ls p n.tasks.told (λ q. false) t (record (state_of n.tasks t) { phase = phases.Ready; outstanding = None })
+      is_ready :
+          IsTask ls p n.tasks.told (λ q. false) t
+          (record (state_of n.tasks t) { phase = phases.Ready; outstanding = None })
       is_ready = plain-task ls p n.tasks.told t (state_of n.tasks t) phases.Ready ready closed here.task
 
-      begun : Did n.tasks n.tasks t (record (state_of n.tasks t) { phase = phases.Ready; outstanding = None }) n.tasks.told
-      begun = subst (λ y. Did n.tasks n.tasks t y n.tasks.told) (state-is (state_of n.tasks t) phases.Ready ready closed) (did-none n.tasks t)
+      begun :
+          Did n.tasks n.tasks t (record (state_of n.tasks t) { phase = phases.Ready; outstanding = None }) n.tasks.told
+      begun =
+          subst (λ y. Did n.tasks n.tasks t y n.tasks.told) (state-is (state_of n.tasks t) phases.Ready ready closed)
+          (did-none n.tasks t)
 
       -- the task with its next line taken
-      taken : Did n.tasks (with_line n.tasks t) t (record { line = suc (state_of n.tasks t).line; phase = phases.Ready; code = (state_of n.tasks t).code; records = (state_of n.tasks t).records; outstanding = None; rows = (state_of n.tasks t).rows }) n.tasks.told
-      taken = did-line n.tasks n.tasks t (record (state_of n.tasks t) { phase = phases.Ready; outstanding = None }) n.tasks.told ours.here begun
+      taken :
+          Did n.tasks (with_line n.tasks t) t (record {
+            line = suc (state_of n.tasks t).line;
+            phase = phases.Ready;
+            code = (state_of n.tasks t).code;
+            records = (state_of n.tasks t).records;
+            outstanding = None;
+            rows = (state_of n.tasks t).rows;
+          })
+          n.tasks.told
+      taken =
+          did-line n.tasks n.tasks t (record (state_of n.tasks t) { phase = phases.Ready; outstanding = None })
+          n.tasks.told ours.here begun
 
       most-is : has_most deck.limit (with_line n.tasks t) t ≡ nat_le deck.limit (length (state_of n.tasks t).records)
       most-is = ap (λ (y : TaskState). nat_le deck.limit (length y.records)) taken.state
 
       -- a request for a resource of the whole complex waits
-      kept : (w : Want) (unit : Option ℕ) → line_asked w (suc (state_of n.tasks t).line) ≡ (state_of n.tasks t).line → phase_asking w (state_of n.tasks t).code ≡ phases.Ready →
-          IsAskedFor deck.limit ls (suc (state_of n.tasks t).line) (state_of n.tasks t).records w unit → QuietStep deck s c P before later out n (post (with_tasks n (with_line n.tasks t)) t w unit)
+      kept : (w : Want) (unit : Option ℕ) → line_asked w (suc (state_of n.tasks t).line) ≡ (state_of n.tasks t).line
+          → phase_asking w (state_of n.tasks t).code ≡ phases.Ready →
+          IsAskedFor deck.limit ls (suc (state_of n.tasks t).line) (state_of n.tasks t).records w unit
+          → QuietStep deck s c P before later out n (post (with_tasks n (with_line n.tasks t)) t w unit)
       kept w unit line phase asked =
           let x : TaskState = state_of n.tasks t in
-          posted (with_line n.tasks t) w unit (record { line = suc x.line; phase = phases.Ready; code = x.code; records = x.records; outstanding = None; rows = x.rows }) taken
-          (subst (λ m. IsTask ls p n.tasks.told (λ q. false) t (record { line = m; phase = phase_asking w x.code; code = x.code; records = x.records; outstanding = None; rows = x.rows })) (sym line)
-          (subst (λ ph. IsTask ls p n.tasks.told (λ q. false) t (record { line = x.line; phase = ph; code = x.code; records = x.records; outstanding = None; rows = x.rows })) (sym phase) is_ready))
+          posted (with_line n.tasks t) w unit (record {
+            line = suc x.line;
+            phase = phases.Ready;
+            code = x.code;
+            records = x.records;
+            outstanding = None;
+            rows = x.rows;
+          })
+          taken
+          (subst (λ m.
+          IsTask ls p n.tasks.told (λ q. false) t (record {
+            line = m;
+            phase = phase_asking w x.code;
+            code = x.code;
+            records = x.records;
+            outstanding = None;
+            rows = x.rows;
+          }))
+          (sym line)
+          (subst (λ ph.
+          IsTask ls p n.tasks.told (λ q. false) t
+          (record { line = x.line; phase = ph; code = x.code; records = x.records; outstanding = None; rows = x.rows }))
+          (sym phase) is_ready))
           asked
 
       -- a line that asks nothing and is passed
-      skipped : (l : Meaning) → slice_get ls (state_of n.tasks t).line ≡ Some l → asks_in l ≡ [] → may_pass p l ≡ true → QuietStep deck s c P before later out n (only (with_tasks n (with_line n.tasks t)))
+      skipped : (l : Meaning) → slice_get ls (state_of n.tasks t).line ≡ Some l → asks_in l ≡ [] → may_pass p l ≡ true
+          → QuietStep deck s c P before later out n (only (with_tasks n (with_line n.tasks t)))
       skipped l at asks lets =
           let x : TaskState = state_of n.tasks t in
           by_task (with_line n.tasks t) _ _ taken refl tt
@@ -293,7 +445,8 @@ module _ (deck : Deck) (s : ℕ) (c : SysId) (P before later : List RunItem) (ri
           (λ u ms apart q leaving y j. j) none
 
       -- a WAIT line told by its code
-      waited : (l : Meaning) → slice_get ls (state_of n.tasks t).line ≡ Some l → asks_in l ≡ [] → (d : Code) → may_pass p l ≡ true →
+      waited : (l : Meaning) → slice_get ls (state_of n.tasks t).line ≡ Some l → asks_in l ≡ [] → (d : Code)
+          → may_pass p l ≡ true →
           TellsWait t ls (line_entries t (history P)) n.tasks.told (replay deck.limit (history P)) d (Some l) →
           (w : TasksView) → w ≡ telling (with_line n.tasks t) (Coded t (suc (state_of n.tasks t).line) 0 verbs.Wait d) →
           QuietStep deck s c P before later out n (only (with_tasks n w))
@@ -301,110 +454,198 @@ module _ (deck : Deck) (s : ℕ) (c : SysId) (P before later : List RunItem) (ri
           let x : TaskState = state_of n.tasks t in
           let T : List ToldLine = n.tasks.told in
           let told_line : ToldLine = Coded t (suc x.line) 0 verbs.Wait d in
-          let did1 = did-telling n.tasks (with_line n.tasks t) t (record { line = suc x.line; phase = phases.Ready; code = x.code; records = x.records; outstanding = None; rows = x.rows }) T told_line taken in
-          let agrees : LineAgrees deck.limit ls (history P) T told_line = (omega arith, subst (TellsWait t ls (line_entries t (history P)) T (replay deck.limit (history P)) d) (sym (ap (slice_get ls) (omega (arith)) ∙ at)) tells, is_ready.codes, is_ready.phase.going.no_end) in
+          let did1 =
+          did-telling n.tasks (with_line n.tasks t) t (record {
+            line = suc x.line;
+            phase = phases.Ready;
+            code = x.code;
+            records = x.records;
+            outstanding = None;
+            rows = x.rows;
+          })
+          T told_line taken in
+          let agrees :
+          LineAgrees deck.limit ls (history P) T told_line = (
+            omega arith,
+            subst (TellsWait t ls (line_entries t (history P)) T (replay deck.limit (history P)) d)
+                (sym (ap (slice_get ls) (omega (arith)) ∙ at)) tells,
+            is_ready.codes,
+            is_ready.phase.going.no_end,
+          ) in
           subst (λ z. QuietStep deck s c P before later out n (only (with_tasks n z))) (sym is)
           (by_task (telling (with_line n.tasks t) told_line) _ _ did1 refl tt
           (task-waited ls p T (λ q. false) t x.line x.code x.records None x.rows l is_ready at asks d lets)
           (λ u ms apart q leaving y j. task-told ms q T leaving u y told_line apart j)
-          (more T told_line none (ours-line deck s n.tasks t ls ours) (refl, agrees-ours deck t ls (history P) T told_line ours.lines agrees) free))
+          (more T told_line none (ours-line deck s n.tasks t ls ours)
+          (refl, agrees-ours deck t ls (history P) T told_line ours.lines agrees) free))
 
       -- a WAIT line
       wait_outcome : (q : Res) → slice_get ls (state_of n.tasks t).line ≡ Some (lines.Wait q) →
-          QuietStep deck s c P before later out n (only (with_tasks n (wait (with_line n.tasks t) t q (record_of (state_of (with_line n.tasks t) t).records q))))
+          QuietStep deck s c P before later out n (only
+          (with_tasks n (wait (with_line n.tasks t) t q (record_of (state_of (with_line n.tasks t) t).records q))))
       unfolding wait tell_code
-      wait_outcome q at = by_record (record_of (state_of (with_line n.tasks t) t).records q) (sym (ap (λ (y : TaskState). record_of y.records q) taken.state))
+      wait_outcome q at =
+          by_record (record_of (state_of (with_line n.tasks t) t).records q)
+          (sym (ap (λ (y : TaskState). record_of y.records q) taken.state))
         where
           line_is : (state_of (with_line n.tasks t) t).line ≡ suc (state_of n.tasks t).line
           line_is = ap (λ (y : TaskState). y.line) taken.state
 
-          tells_line : (d : Code) → telling (with_line n.tasks t) (Coded t (state_of (with_line n.tasks t) t).line 0 verbs.Wait d) ≡ telling (with_line n.tasks t) (Coded t (suc (state_of n.tasks t).line) 0 verbs.Wait d)
+          tells_line : (d : Code)
+              → telling (with_line n.tasks t) (Coded t (state_of (with_line n.tasks t) t).line 0 verbs.Wait d)
+              ≡ telling (with_line n.tasks t) (Coded t (suc (state_of n.tasks t).line) 0 verbs.Wait d)
           tells_line d = ap (λ m. telling (with_line n.tasks t) (Coded t m 0 verbs.Wait d)) line_is
 
-          by_record : (o : Option Rec) → record_of (state_of n.tasks t).records q ≡ o → QuietStep deck s c P before later out n (only (with_tasks n (wait (with_line n.tasks t) t q o)))
+          by_record : (o : Option Rec) → record_of (state_of n.tasks t).records q ≡ o
+              → QuietStep deck s c P before later out n (only (with_tasks n (wait (with_line n.tasks t) t q o)))
           by_record None e =
-              let absent : has_own q p.own ≡ false = sym (has_res-own q (state_of n.tasks t).records p.own is_ready.keys) ∙ not_found (state_of n.tasks t).records q e in
-              waited (lines.Wait q) at refl C08 (or_right (p.owns q) _ (ap not absent)) (has-speaks deck.limit t p (history P) speaks q ∙ absent) _ (tells_line C08)
+              let absent : has_own q p.own ≡ false =
+              sym (has_res-own q (state_of n.tasks t).records p.own is_ready.keys)
+              ∙ not_found (state_of n.tasks t).records q e in
+              waited (lines.Wait q) at refl C08 (or_right (p.owns q) _ (ap not absent))
+              (has-speaks deck.limit t p (history P) speaks q ∙ absent) _ (tells_line C08)
           by_record (Some y) e = by_told y.told refl
             where
-              f : IsRec ls p.asked n.tasks.told p.owns (λ z. false) t (state_of n.tasks t).line phases.Ready y × (same_res q y.res ≡ true)
-              f = found (IsRec ls p.asked n.tasks.told p.owns (λ z. false) t (state_of n.tasks t).line phases.Ready) (state_of n.tasks t).records q y is_ready.records e
+              f : IsRec ls p.asked n.tasks.told p.owns (λ z. false) t (state_of n.tasks t).line phases.Ready y
+                  × (same_res q y.res ≡ true)
+              f =
+                  found (IsRec ls p.asked n.tasks.told p.owns (λ z. false) t (state_of n.tasks t).line phases.Ready)
+                  (state_of n.tasks t).records q y is_ready.records e
 
               same : y.res ≡ q
               same = sym (same_res-exact q y.res f.1)
 
-              by_told : (b : Bool) → y.told ≡ b → QuietStep deck s c P before later out n (only (with_tasks n (cond b (tell_code (with_line n.tasks t) t verbs.Wait C00) (with_phase (with_line n.tasks t) t (phases.HeldLine q)))))
+              by_told : (b : Bool) → y.told ≡ b
+                  → QuietStep deck s c P before later out n (only
+                  (with_tasks n (cond b (tell_code (with_line n.tasks t) t verbs.Wait C00)
+                  (with_phase (with_line n.tasks t) t (phases.HeldLine q)))))
               by_told true g =
                   let own : p.owns q ≡ true = subst (λ z. p.owns z ≡ true) same (sym f.0.known ∙ g) in
-                  let told : list_any (tells_control t ls p.asked q) n.tasks.told ≡ true = subst (λ z. list_any (tells_control t ls p.asked z) n.tasks.told ≡ true) same (f.0.control (sym f.0.known ∙ g) refl) in
-                  waited (lines.Wait q) at refl C00 (or_left (p.owns q) _ own) (speaks.owns q own, subst (λ E. list_any (tells_control t ls E q) n.tasks.told ≡ true) (sym speaks.asked) told) _ (tells_line C00)
+                  let told : list_any (tells_control t ls p.asked q) n.tasks.told ≡ true =
+                  subst (λ z. list_any (tells_control t ls p.asked z) n.tasks.told ≡ true) same
+                  (f.0.control (sym f.0.known ∙ g) refl) in
+                  waited (lines.Wait q) at refl C00 (or_left (p.owns q) _ own) (
+                    speaks.owns q own,
+                    subst (λ E. list_any (tells_control t ls E q) n.tasks.told ≡ true) (sym speaks.asked) told,
+                  )
+                  _ (tells_line C00)
               by_told false g =
                   let x : TaskState = state_of n.tasks t in
-                  let did1 = did-phase n.tasks (with_line n.tasks t) t (record { line = suc x.line; phase = phases.Ready; code = x.code; records = x.records; outstanding = None; rows = x.rows }) n.tasks.told ours.here taken (phases.HeldLine q) in
+                  let did1 =
+                  did-phase n.tasks (with_line n.tasks t) t (record {
+                    line = suc x.line;
+                    phase = phases.Ready;
+                    code = x.code;
+                    records = x.records;
+                    outstanding = None;
+                    rows = x.rows;
+                  })
+                  n.tasks.told ours.here taken (phases.HeldLine q) in
                   by_task (with_phase (with_line n.tasks t) t (phases.HeldLine q)) _ _ did1 refl tt
-                  (task-held ls p n.tasks.told (λ q. false) t x.line x.code x.records None x.rows (lines.Wait q) is_ready at refl q refl)
+                  (task-held ls p n.tasks.told (λ q. false) t x.line x.code x.records None x.rows (lines.Wait q)
+                  is_ready at refl q refl)
                   (λ u ms apart z leaving w j. j) none
 
       -- any line
-      line_outcome : (l : Meaning) → slice_get ls (state_of n.tasks t).line ≡ Some l → QuietStep deck s c P before later out n (take_line deck.limit (with_tasks n (with_line n.tasks t)) t l)
+      line_outcome : (l : Meaning) → slice_get ls (state_of n.tasks t).line ≡ Some l
+          → QuietStep deck s c P before later out n (take_line deck.limit (with_tasks n (with_line n.tasks t)) t l)
       unfolding take_line ask
       line_outcome (lines.Enq r ctl ret unit) at =
           let x : TaskState = state_of n.tasks t in
           let full : Bool = has_most deck.limit (with_line n.tasks t) t in
-          let full_is : full ≡ is_full deck.limit (lists P) t = most-is ∙ is_full-known deck P right t p speaks x.records is_ready.keys in
-          let proper : is_own s r ≡ true = own-of r (lines_own deck t ls x.line (lines.Enq r ctl ret unit) ours.lines at) in
+          let full_is : full ≡ is_full deck.limit (lists P) t =
+          most-is ∙ is_full-known deck P right t p speaks x.records is_ready.keys in
+          let proper : is_own s r ≡ true =
+          own-of r (lines_own deck t ls x.line (lines.Enq r ctl ret unit) ours.lines at) in
           by_test (QuietStep deck s c P before later out n) (is_systems r) _ _
-          (λ all. kept (Enq r ctl ret full) unit (omega arith) refl (omega arith, ap (slice_get ls) (omega arith) ∙ at, all, most-is))
+          (λ all.
+          kept (Enq r ctl ret full) unit (omega arith) refl
+          (omega arith, ap (slice_get ls) (omega arith) ∙ at, all, most-is))
           (λ alone.
-          let k : Asks ls p n.tasks.told (λ q. false) t x.line x.code x.records None x.rows (lines.Enq r ctl ret unit) (AsksEnq r ctl ret) = record { before = is_ready; at = at; asks = refl } in
-          decided (Enq r ctl ret full) r refl (or_other (is_systems r) (is_res_of s r) proper alone) (entries.Enq t r ctl ret (enq_code (lists P) r t ctl ret full)) refl (with_line n.tasks t) unit (answers.Coded (enq_code (lists P) r t ctl ret full)) refl
-          (may_follow deck P right t p speaks ls ours.lines here.knows.live c (Enq r ctl ret full) r refl (place r proper) full_is (AsksEnq r ctl ret) refl (next-asked ls p n.tasks.told (λ q. false) t x.line x.code x.records None x.rows (lines.Enq r ctl ret unit) (AsksEnq r ctl ret) k))
-          (λ z. enq-good deck s os os P _ n.tasks seen.good t ls ours p r _ x.line x.code x.records x.rows (with_line n.tasks t) taken (lines.Enq r ctl ret unit) (enq_code (lists P) r t ctl ret full) ctl unit ret full z k))
+          let k :
+          Asks ls p n.tasks.told (λ q. false) t x.line x.code x.records None x.rows (lines.Enq r ctl ret unit)
+          (AsksEnq r ctl ret) = record { before = is_ready; at = at; asks = refl } in
+          decided (Enq r ctl ret full) r refl (or_other (is_systems r) (is_res_of s r) proper alone)
+          (entries.Enq t r ctl ret (enq_code (lists P) r t ctl ret full)) refl (with_line n.tasks t) unit
+          (answers.Coded (enq_code (lists P) r t ctl ret full)) refl
+          (may_follow deck P right t p speaks ls ours.lines here.knows.live c (Enq r ctl ret full) r refl
+          (place r proper) full_is (AsksEnq r ctl ret) refl (next-asked ls p n.tasks.told (λ q. false) t x.line x.code
+          x.records None x.rows (lines.Enq r ctl ret unit) (AsksEnq r ctl ret) k))
+          (λ z.
+          enq-good deck s os os P _ n.tasks seen.good t ls ours p r _ x.line x.code x.records x.rows
+          (with_line n.tasks t) taken (lines.Enq r ctl ret unit) (enq_code (lists P) r t ctl ret full) ctl unit ret full
+          z k))
       line_outcome (lines.Deq r have) at =
           let x : TaskState = state_of n.tasks t in
           let proper : is_own s r ≡ true = own-of r (lines_own deck t ls x.line (lines.Deq r have) ours.lines at) in
           by_test (QuietStep deck s c P before later out n) (is_systems r) _ _
           (λ all. kept (Deq r have) None (omega arith) refl (omega arith, ap (slice_get ls) (omega arith) ∙ at, all))
           (λ alone.
-          let k : Asks ls p n.tasks.told (λ q. false) t x.line x.code x.records None x.rows (lines.Deq r have) (AsksDeq r have) = record { before = is_ready; at = at; asks = refl } in
-          decided (Deq r have) r refl (or_other (is_systems r) (is_res_of s r) proper alone) (entries.Deq t r have (deq_reply (lists P) r t have)) refl (with_line n.tasks t) None (answers.Coded (deq_reply (lists P) r t have)) refl
-          (may_follow deck P right t p speaks ls ours.lines here.knows.live c (Deq r have) r refl (place r proper) tt (AsksDeq r have) refl (next-asked ls p n.tasks.told (λ q. false) t x.line x.code x.records None x.rows (lines.Deq r have) (AsksDeq r have) k))
-          (λ z. deq-good deck s os os P _ n.tasks seen.good t ls ours p r _ x.line x.code x.records x.rows (with_line n.tasks t) taken (lines.Deq r have) (deq_reply (lists P) r t have) have (λ q. false) (λ q apart. refl) z k None))
+          let k :
+          Asks ls p n.tasks.told (λ q. false) t x.line x.code x.records None x.rows (lines.Deq r have)
+          (AsksDeq r have) = record { before = is_ready; at = at; asks = refl } in
+          decided (Deq r have) r refl (or_other (is_systems r) (is_res_of s r) proper alone)
+          (entries.Deq t r have (deq_reply (lists P) r t have)) refl (with_line n.tasks t) None
+          (answers.Coded (deq_reply (lists P) r t have)) refl
+          (may_follow deck P right t p speaks ls ours.lines here.knows.live c (Deq r have) r refl (place r proper) tt
+          (AsksDeq r have) refl (next-asked ls p n.tasks.told (λ q. false) t x.line x.code x.records None x.rows
+          (lines.Deq r have) (AsksDeq r have) k))
+          (λ z.
+          deq-good deck s os os P _ n.tasks seen.good t ls ours p r _ x.line x.code x.records x.rows
+          (with_line n.tasks t) taken (lines.Deq r have) (deq_reply (lists P) r t have) have (λ q. false)
+          (λ q apart. refl) z k None))
       line_outcome (lines.Wait r) at = wait_outcome r at
       line_outcome lines.Nothing at = skipped lines.Nothing at refl refl
 
       -- the next line, or the end
-      ready_outcome : QuietStep deck s c P before later out n (ready_step deck.limit n t (slice_get ls (state_of n.tasks t).line))
+      ready_outcome :
+          QuietStep deck s c P before later out n (ready_step deck.limit n t (slice_get ls (state_of n.tasks t).line))
       unfolding ready_step
       ready_outcome = by_line (slice_get ls (state_of n.tasks t).line) refl
         where
-          by_line : (o : Option Meaning) → slice_get ls (state_of n.tasks t).line ≡ o → QuietStep deck s c P before later out n (ready_step deck.limit n t o)
+          by_line : (o : Option Meaning) → slice_get ls (state_of n.tasks t).line ≡ o
+              → QuietStep deck s c P before later out n (ready_step deck.limit n t o)
           by_line (Some l) e = line_outcome l e
           by_line None e =
               let x : TaskState = state_of n.tasks t in
-              let did1 = did-phase n.tasks n.tasks t (record x { phase = phases.Ready; outstanding = None }) n.tasks.told ours.here begun (phases.Ending 0) in
+              let did1 =
+              did-phase n.tasks n.tasks t (record x { phase = phases.Ready; outstanding = None }) n.tasks.told ours.here
+              begun (phases.Ending 0) in
               let k = task-ending ls p n.tasks.told (λ q. false) t x.line x.code x.records None x.rows is_ready e in
-              subst (λ zs. QuietStep deck s c P before later out n (end_step (with_tasks n (with_phase n.tasks t (phases.Ending 0))) t 0 zs)) (sym (ap (λ (y : TaskState). y.records) did1.state))
-              (end_outcome (with_phase n.tasks t (phases.Ending 0)) x.line 0 0 x.records x.rows did1 refl k x.records refl)
+              subst (λ zs.
+              QuietStep deck s c P before later out n
+              (end_step (with_tasks n (with_phase n.tasks t (phases.Ending 0))) t 0 zs))
+              (sym (ap (λ (y : TaskState). y.records) did1.state))
+              (end_outcome (with_phase n.tasks t (phases.Ending 0)) x.line 0 0 x.records x.rows did1 refl k x.records
+              refl)
 
     -- an ending task
-    ending_outcome : (d : ℕ) → (state_of n.tasks t).phase ≡ phases.Ending d → QuietStep deck s c P before later out n (end_step n t d (state_of n.tasks t).records)
+    ending_outcome : (d : ℕ) → (state_of n.tasks t).phase ≡ phases.Ending d
+        → QuietStep deck s c P before later out n (end_step n t d (state_of n.tasks t).records)
     ending_outcome d e =
         let x : TaskState = state_of n.tasks t in
         let k = plain-task ls p n.tasks.told t x (phases.Ending d) e closed here.task in
-        let did = subst (λ y. Did n.tasks n.tasks t y n.tasks.told) (state-is x (phases.Ending d) e closed) (did-none n.tasks t) in
-        let coded : x.code ≡ d = subst (λ ph. IsAtLines ph x.code) e (subst (λ o. IsOpenBy deck.limit ls t x o) closed here.opened) in
+        let did =
+        subst (λ y. Did n.tasks n.tasks t y n.tasks.told) (state-is x (phases.Ending d) e closed)
+        (did-none n.tasks t) in
+        let coded : x.code ≡ d =
+        subst (λ ph. IsAtLines ph x.code) e (subst (λ o. IsOpenBy deck.limit ls t x o) closed here.opened) in
         end_outcome n.tasks x.line d x.code x.records x.rows did coded k x.records refl
 
   -- whatever the phase
-  phase_outcome : (t : TaskId) (ls : List Meaning) → IsOurs deck s n.tasks t ls → goes_on (state_of n.tasks t).phase ≡ true → QuietStep deck s c P before later out n (phase_step deck.limit n t ls (state_of n.tasks t).phase)
+  phase_outcome : (t : TaskId) (ls : List Meaning) → IsOurs deck s n.tasks t ls
+      → goes_on (state_of n.tasks t).phase ≡ true
+      → QuietStep deck s c P before later out n (phase_step deck.limit n t ls (state_of n.tasks t).phase)
   unfolding phase_step
   phase_outcome t ls ours goes = by_phase (state_of n.tasks t).phase refl goes
     where
-      closed : (ph : Phase) → (state_of n.tasks t).phase ≡ ph → is_unsent ph ≡ false → (state_of n.tasks t).outstanding ≡ None
-      closed ph e f = held-none deck.limit ls t (state_of n.tasks t) (seen.good.tasks.each t ls ours).opened (ap is_unsent e ∙ f)
+      closed : (ph : Phase) → (state_of n.tasks t).phase ≡ ph → is_unsent ph ≡ false
+          → (state_of n.tasks t).outstanding ≡ None
+      closed ph e f =
+          held-none deck.limit ls t (state_of n.tasks t) (seen.good.tasks.each t ls ours).opened (ap is_unsent e ∙ f)
 
-      by_phase : (ph : Phase) → (state_of n.tasks t).phase ≡ ph → goes_on ph ≡ true → QuietStep deck s c P before later out n (phase_step deck.limit n t ls ph)
+      by_phase : (ph : Phase) → (state_of n.tasks t).phase ≡ ph → goes_on ph ≡ true
+          → QuietStep deck s c P before later out n (phase_step deck.limit n t ls ph)
       by_phase phases.Ready e g = ready_outcome t ls ours (closed phases.Ready e refl) e
       by_phase (phases.Ending d) e g = ending_outcome t ls ours (closed (phases.Ending d) e refl) d e
       by_phase phases.ToSend e g = cc
@@ -414,10 +655,14 @@ module _ (deck : Deck) (s : ℕ) (c : SysId) (P before later : List RunItem) (ri
       by_phase phases.Ended e g = cc
 
 -- a task goes on
-pub quiet : (deck : Deck) (s : ℕ) (c : SysId) (P before later : List RunItem) (out : List Req) (n : NodeState) (t : TaskId) → n.star ≡ None → IsHistory deck P → Seen deck s P before later out n → may_go deck n t ≡ true → QuietStep deck s c P before later out n (finish_quiet deck n (choices.Task t))
+pub quiet :
+    (deck : Deck) (s : ℕ) (c : SysId) (P before later : List RunItem) (out : List Req) (n : NodeState) (t : TaskId)
+    → n.star ≡ None → IsHistory deck P → Seen deck s P before later out n → may_go deck n t ≡ true
+    → QuietStep deck s c P before later out n (finish_quiet deck n (choices.Task t))
 unfolding may_go finish_quiet
 quiet deck s c P before later out n t alone right seen goes =
     let here = and_parts (is_task n.tasks t) (is_some (lines_of deck t) && goes_on (state_of n.tasks t).phase) goes in
     let both = and_parts (is_some (lines_of deck t)) (goes_on (state_of n.tasks t).phase) here.1 in
     let mine = home-ours deck s n.tasks t seen.good.system both.0 here.0 in
-    subst (λ o. QuietStep deck s c P before later out n (task_step deck.limit n t o)) (sym mine.ours.lines) (phase_outcome deck s c P before later right out n seen alone t mine.lines mine.ours both.1)
+    subst (λ o. QuietStep deck s c P before later out n (task_step deck.limit n t o)) (sym mine.ours.lines)
+    (phase_outcome deck s c P before later right out n seen alone t mine.lines mine.ours both.1)

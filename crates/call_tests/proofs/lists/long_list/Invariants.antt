@@ -8,5 +8,6 @@ invariant-loop-place l = record {
   which : l.list.which ≡ Excl;
   long : length l.list.entries ≡ l.place;
   named : count_by (is_under (65 ∷ [])) l.list.entries ≡ cond (nat_lt 7 l.place) 1 0 + cond (nat_lt 4000 l.place) 1 0;
-  apart : count_by is_pattern l.list.entries ≡ cond (nat_lt 2 l.place) 1 0 + cond (nat_lt 2000 l.place) 1 0 + cond (nat_lt 4095 l.place) 1 0;
+  apart : count_by is_pattern l.list.entries
+      ≡ cond (nat_lt 2 l.place) 1 0 + cond (nat_lt 2000 l.place) 1 0 + cond (nat_lt 4095 l.place) 1 0;
 }

@@ -9,5 +9,11 @@ pub returns : goal.returns
 returns c = λ s are.
     let old = mark_in c.args.marks.now.names.entries c.args.marks.now.marks.entries in
     let took = mark_in c.take.new.self.names.entries c.take.new.self.marks.entries in
-    let all = c.give_all_control.ensures (release_state s c.args.res.now c.args.task) (marked-without old took c.args.res.now c.args.task c.take.ensures s are) in
-    (all.0 ∙ ap (with_control c.args.system.0 c.args.res.now c.args.owners.now) (ranked-without old took c.args.res.now c.args.task c.take.ensures s), all.1)
+    let all =
+    c.give_all_control.ensures (release_state s c.args.res.now c.args.task)
+    (marked-without old took c.args.res.now c.args.task c.take.ensures s are) in (
+      all.0
+          ∙ ap (with_control c.args.system.0 c.args.res.now c.args.owners.now)
+          (ranked-without old took c.args.res.now c.args.task c.take.ensures s),
+      all.1,
+    )

@@ -9,7 +9,9 @@ invariant-rows l = record {
   marked : AreMarked (mark_in l.marks.names.entries l.marks.marks.entries) l.table.elements;
   free : rows_free l.table.elements l.rest ≡ true;
   apart : all_apart l.rest ≡ true;
-  items : ranked_all (mark_in l.marks.names.entries l.marks.marks.entries) l.table.elements ++ ranked_rows l.rest ≡ ranked_all (mark_in l.fn.marks.names.entries l.fn.marks.marks.entries) l.fn.table.elements ++ ranked_rows l.rows;
+  items : ranked_all (mark_in l.marks.names.entries l.marks.marks.entries) l.table.elements ++ ranked_rows l.rest
+      ≡ ranked_all (mark_in l.fn.marks.names.entries l.fn.marks.marks.entries) l.fn.table.elements
+      ++ ranked_rows l.rows;
 }
 
 abbrev pub decreases-rows : goal.decreases-rows

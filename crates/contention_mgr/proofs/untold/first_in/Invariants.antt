@@ -4,7 +4,9 @@ use Rattle.contention_mgr.specs.Untold.{first_to_tell}
 use Rattle.contention_mgr.proofs.untold.first_in.Given as goal
 
 abbrev pub invariant-elems : goal.invariant-elems
-invariant-elems l = first_to_tell l.home.0 (mark_in l.marks.names.entries l.marks.marks.entries) l.res l.rest ≡ first_to_tell l.home.0 (mark_in l.marks.names.entries l.marks.marks.entries) l.res l.elems
+invariant-elems l =
+    first_to_tell l.home.0 (mark_in l.marks.names.entries l.marks.marks.entries) l.res l.rest
+    ≡ first_to_tell l.home.0 (mark_in l.marks.names.entries l.marks.marks.entries) l.res l.elems
 
 abbrev pub decreases-elems : goal.decreases-elems
 decreases-elems l = length l.rest

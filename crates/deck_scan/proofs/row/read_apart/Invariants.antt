@@ -5,7 +5,11 @@ use Rattle.deck_scan.proofs.Rows.{Along}
 use Rattle.deck_scan.proofs.row.read_apart.Given as goal
 
 abbrev pub invariant-loop-b : goal.invariant-loop-b
-invariant-loop-b l = record { along : (more : List ℕ) → Along l.at l.text l.row l.rest more; printable : list_all is_printable l.rest ≡ true; apart : l.row.begun ≡ None }
+invariant-loop-b l = record {
+  along : (more : List ℕ) → Along l.at l.text l.row l.rest more;
+  printable : list_all is_printable l.rest ≡ true;
+  apart : l.row.begun ≡ None;
+}
 
 abbrev pub decreases-loop-b : goal.decreases-loop-b
 decreases-loop-b l = length l.rest

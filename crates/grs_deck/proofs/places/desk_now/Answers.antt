@@ -4,4 +4,7 @@ use Rattle.grs_deck.proofs.Last.{at_last-is}
 use Rattle.grs_deck.proofs.places.desk_now.Goals as goal
 
 pub returns-in-Some : goal.returns-in-Some
-returns-in-Some c = c.as_slice.ensures ∙ at_last-is (λ (s : SystemDef). s.desk) c.args.systems.now c.in-Some.field-0-1.now c.in-Some.s.now c.in-Some.ensures.cases.0
+returns-in-Some c =
+    c.as_slice.ensures
+    ∙ at_last-is (λ (s : SystemDef). s.desk) c.args.systems.now c.in-Some.field-0-1.now c.in-Some.s.now
+    c.in-Some.ensures.cases.0

@@ -8,23 +8,38 @@ use Rattle.grs_deck.proofs.read.take_all.Goals as goal
 
 pub loop-draft-preserved : goal.loop-draft-preserved
 loop-draft-preserved c = record {
-  reads = goes_on c.loop-draft.draft c.take_line.new.draft c.loop-draft.rest c.next.new.self c.in-Some.line _ (one_next c.in_ok-line.field-0 c.in-Some.line c.loop-draft.rest c.next.new.self c.in-Some.is c.in_ok-line.ensures) c.in_ok-take_line.ensures c.loop-draft.invariant.reads;
-  fits = fits_judge c.loop-draft.draft c.take_line.new.draft c.in-Some.line c.in_ok-take_line.ensures c.loop-draft.invariant.fits;
-  lists = lists_judge c.loop-draft.draft c.take_line.new.draft c.in-Some.line c.in_ok-take_line.ensures c.loop-draft.invariant.lists;
+  reads =
+      goes_on c.loop-draft.draft c.take_line.new.draft c.loop-draft.rest c.next.new.self c.in-Some.line _
+      (one_next c.in_ok-line.field-0 c.in-Some.line c.loop-draft.rest c.next.new.self c.in-Some.is c.in_ok-line.ensures)
+      c.in_ok-take_line.ensures c.loop-draft.invariant.reads;
+  fits =
+      fits_judge c.loop-draft.draft c.take_line.new.draft c.in-Some.line c.in_ok-take_line.ensures
+      c.loop-draft.invariant.fits;
+  lists =
+      lists_judge c.loop-draft.draft c.take_line.new.draft c.in-Some.line c.in_ok-take_line.ensures
+      c.loop-draft.invariant.lists;
 }
 
 pub loop-draft-smaller : goal.loop-draft-smaller
 loop-draft-smaller c =
-    let long = ap length (one_next c.in_ok-line.field-0 c.in-Some.line c.loop-draft.rest c.next.new.self c.in-Some.is c.in_ok-line.ensures) in
+    let long =
+    ap length (one_next c.in_ok-line.field-0 c.in-Some.line c.loop-draft.rest c.next.new.self c.in-Some.is
+    c.in_ok-line.ensures) in
     omega (arith, long)
 
 pub returns-in_err-take_line : goal.returns-in_err-take_line
 returns-in_err-take_line c =
     let p = err_from_is_err_and c.from_residual-in_err-take_line.result c.from_residual-in_err-take_line.ensures.1 in
-    let reads : judge_all c.loop-draft.draft c.loop-draft.rest ≡ judge_all (no_draft c.args.names) c.args.statements = c.loop-draft.invariant.reads ∙ ap (λ (d : Draft). judge_all d c.args.statements) c.start-draft.ensures in
-    rw (p.1, p.2) (fails c.in_err-take_line.field-0.0 c.loop-draft.draft c.loop-draft.rest c.next.new.self c.in-Some.line _ (one_next c.in_ok-line.field-0 c.in-Some.line c.loop-draft.rest c.next.new.self c.in-Some.is c.in_ok-line.ensures) c.in_err-take_line.ensures reads)
+    let reads : judge_all c.loop-draft.draft c.loop-draft.rest ≡ judge_all (no_draft c.args.names) c.args.statements =
+    c.loop-draft.invariant.reads ∙ ap (λ (d : Draft). judge_all d c.args.statements) c.start-draft.ensures in
+    rw (p.1, p.2) (fails c.in_err-take_line.field-0.0 c.loop-draft.draft c.loop-draft.rest c.next.new.self
+    c.in-Some.line _
+    (one_next c.in_ok-line.field-0 c.in-Some.line c.loop-draft.rest c.next.new.self c.in-Some.is c.in_ok-line.ensures)
+    c.in_err-take_line.ensures reads)
 
 pub returns : goal.returns
 returns c =
-    let reads : judge_all c.loop-draft.draft c.loop-draft.rest ≡ judge_all (no_draft c.args.names) c.args.statements = c.loop-draft.invariant.reads ∙ ap (λ (d : Draft). judge_all d c.args.statements) c.start-draft.ensures in
-    is_done c.loop-draft.draft c.loop-draft.rest _ (none_next c.in_ok-line.field-0 c.loop-draft.rest c.next.new.self c.in_default.is c.in_ok-line.ensures) reads
+    let reads : judge_all c.loop-draft.draft c.loop-draft.rest ≡ judge_all (no_draft c.args.names) c.args.statements =
+    c.loop-draft.invariant.reads ∙ ap (λ (d : Draft). judge_all d c.args.statements) c.start-draft.ensures in
+    is_done c.loop-draft.draft c.loop-draft.rest _
+    (none_next c.in_ok-line.field-0 c.loop-draft.rest c.next.new.self c.in_default.is c.in_ok-line.ensures) reads

@@ -6,6 +6,9 @@ use Rattle.grs_history.proofs.order.merge_steps.Given as goal
 
 abbrev pub invariant-loop-entry : goal.invariant-loop-entry
 invariant-loop-entry l = record {
-  still : Still [] (record { events = []; hist = []; told = [] }) (in_order l.journal (map (λ x. x.now) l.logs)) l.merging.table.elements l.merging.merged (by_journal (map (λ r. r.now) l.rests.items) (drop l.entry-index l.journal));
+  still :
+      Still [] (record { events = []; hist = []; told = [] }) (in_order l.journal (map (λ x. x.now) l.logs))
+      l.merging.table.elements l.merging.merged
+      (by_journal (map (λ r. r.now) l.rests.items) (drop l.entry-index l.journal));
   few : length l.merging.merged.events ≤ last_number;
 }

@@ -9,5 +9,6 @@ use Rattle.grs_history.proofs.queues.queues_after.Goals as goal
 pub returns : goal.returns
 returns c =
     subst (λ (s : State). IfOk c.rows.result (λ rows. rows ≡ rows_of s))
-    (replay-end c.args.limit c.loop-entry.table.elements (replay c.args.limit c.args.hist.now) c.args.hist.now c.loop-entry.entry-index c.loop-entry-test.false c.loop-entry.invariant)
+    (replay-end c.args.limit c.loop-entry.table.elements (replay c.args.limit c.args.hist.now) c.args.hist.now
+    c.loop-entry.entry-index c.loop-entry-test.false c.loop-entry.invariant)
     c.rows.ensures

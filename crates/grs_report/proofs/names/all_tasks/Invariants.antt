@@ -4,4 +4,5 @@ use Rattle.grs_report.proofs.names.all_tasks.Given as goal
 
 abbrev pub invariant-loop-system : goal.invariant-loop-system
 invariant-loop-system l =
-    l.names ++ map (λ s. names_in_jobs s.jobs) (drop l.system-index l.systems) ≡ map (λ s. names_in_jobs s.jobs) l.systems
+    l.names ++ map (λ s. names_in_jobs s.jobs) (drop l.system-index l.systems)
+    ≡ map (λ s. names_in_jobs s.jobs) l.systems

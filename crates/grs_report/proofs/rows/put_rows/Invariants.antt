@@ -5,4 +5,5 @@ use Rattle.grs_report.proofs.rows.put_rows.Given as goal
 
 abbrev pub invariant-loop-row : goal.invariant-loop-row
 invariant-loop-row l =
-    l.out ++ flat_map (row_line l.names l.letter) (drop l.row-index l.rows) ≡ l.initial.out ++ flat_map (row_line l.names l.letter) l.rows
+    l.out ++ flat_map (row_line l.names l.letter) (drop l.row-index l.rows)
+    ≡ l.initial.out ++ flat_map (row_line l.names l.letter) l.rows

@@ -5,4 +5,5 @@ use Rattle.grs_report.proofs.schedule.put_events.Given as goal
 
 abbrev pub invariant-loop-event : goal.invariant-loop-event
 invariant-loop-event l =
-    l.out ++ flat_map (event_line l.names) (drop l.event-index l.events) ≡ l.initial.out ++ flat_map (event_line l.names) l.events
+    l.out ++ flat_map (event_line l.names) (drop l.event-index l.events)
+    ≡ l.initial.out ++ flat_map (event_line l.names) l.events

@@ -5,4 +5,5 @@ use Rattle.grs_report.proofs.state.put_unit_lines.Given as goal
 
 abbrev pub invariant-loop-unit : goal.invariant-loop-unit
 invariant-loop-unit l =
-    l.out ++ flat_map (unit_line l.names) (drop l.unit-index l.units) ≡ l.initial.out ++ flat_map (unit_line l.names) l.units
+    l.out ++ flat_map (unit_line l.names) (drop l.unit-index l.units)
+    ≡ l.initial.out ++ flat_map (unit_line l.names) l.units

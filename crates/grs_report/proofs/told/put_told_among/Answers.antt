@@ -8,5 +8,9 @@ returns c =
     let lines = map (λ t. t.now) c.under-lines.result.now in
     let under = c.under-lines.ensures task.system.0 task.job in
     let same : told_to task lines ≡ told_to task c.args.told.now =
-    subst (λ n. told_to (task_at task.system.0 task.job n) lines ≡ told_to (task_at task.system.0 task.job n) c.args.told.now) c.from.ensures under in
-    subst (λ told. OnOk c.put_told_to.result (c.put_told_to.new.out ≡ c.args.out.now ++ told_lines c.args.names.now told)) same c.put_told_to.ensures
+    subst (λ n.
+    told_to (task_at task.system.0 task.job n) lines ≡ told_to (task_at task.system.0 task.job n) c.args.told.now)
+    c.from.ensures under in
+    subst (λ told.
+    OnOk c.put_told_to.result (c.put_told_to.new.out ≡ c.args.out.now ++ told_lines c.args.names.now told))
+    same c.put_told_to.ensures

@@ -2,7 +2,8 @@ use Rattle.std.proofs.Common.{refl}
 use Rattle.grs_top.proofs.command.grs.Goals as goal
 
 pub returns-in-Some-Replay-clause-command : goal.returns-in-Some-Replay-clause-command
-returns-in-Some-Replay-clause-command g c = rw (← c.in-Some-Replay.ensures, c.in-Some-Replay.field-0-is) c.replay_command.ensures
+returns-in-Some-Replay-clause-command g c =
+    rw (← c.in-Some-Replay.ensures, c.in-Some-Replay.field-0-is) c.replay_command.ensures
 
 pub returns-in-Some-Replay-clause-words : goal.returns-in-Some-Replay-clause-words
 returns-in-Some-Replay-clause-words g c = rw (← c.in-Some-Replay.ensures) tt
@@ -26,7 +27,8 @@ pub returns-in-Some-Run-clause-unwritten : goal.returns-in-Some-Run-clause-unwri
 returns-in-Some-Run-clause-unwritten g c = rw (← c.in-Some-Run.ensures) tt
 
 pub returns-in-Some-Lists-clause-command : goal.returns-in-Some-Lists-clause-command
-returns-in-Some-Lists-clause-command g c = rw (← c.in-Some-Lists.ensures, c.in-Some-Lists.field-0-is) c.lists_command.ensures.answer
+returns-in-Some-Lists-clause-command g c =
+    rw (← c.in-Some-Lists.ensures, c.in-Some-Lists.field-0-is) c.lists_command.ensures.answer
 
 pub returns-in-Some-Lists-clause-words : goal.returns-in-Some-Lists-clause-words
 returns-in-Some-Lists-clause-words g c = rw (← c.in-Some-Lists.ensures) tt

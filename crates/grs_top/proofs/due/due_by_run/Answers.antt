@@ -8,4 +8,5 @@ returns-in-Ok g c = answered_due Run c.args.text.now c.in-Ok.deck c.ran.result c
 pub returns-in-Err-Fault : goal.returns-in-Err-Fault
 returns-in-Err-Fault g c =
     let first = rw c.in-Err-Fault.field-0-is at c.in-Err-Fault.ensures.exact in
-    refused_due Run c.args.text.now c.in-Err-Fault.fault c.refused.result first c.refused.ensures.out c.refused.ensures.status
+    refused_due Run c.args.text.now c.in-Err-Fault.fault c.refused.result first c.refused.ensures.out
+    c.refused.ensures.status

@@ -2,7 +2,9 @@ use Rattle.grs_top.proofs.DueLemmas.{answered_due, refused_due}
 use Rattle.grs_top.proofs.due.due_for.Goals as goal
 
 pub returns-in-Ok : goal.returns-in-Ok
-returns-in-Ok c = answered_due c.args.command c.args.text.now c.in-Ok.deck c.answered.result c.in-Ok.ensures.exact.0 c.answered.ensures
+returns-in-Ok c =
+    answered_due c.args.command c.args.text.now c.in-Ok.deck c.answered.result c.in-Ok.ensures.exact.0
+    c.answered.ensures
 
 pub returns-in-Err-Fault : goal.returns-in-Err-Fault
 returns-in-Err-Fault c =

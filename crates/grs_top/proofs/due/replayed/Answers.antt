@@ -2,4 +2,6 @@ use Rattle.grs_top.proofs.DueLemmas.{replay_due}
 use Rattle.grs_top.proofs.due.replayed.Goals as goal
 
 pub returns : goal.returns
-returns c = replay_due c.args.deck.now c.in_ok-seen.seen c.report_due.result c.requires c.runs_are_sound.ensures c.in_ok-seen.ensures c.report_due.ensures.out c.report_due.ensures.status
+returns c =
+    replay_due c.args.deck.now c.in_ok-seen.seen c.report_due.result c.requires c.runs_are_sound.ensures
+    c.in_ok-seen.ensures c.report_due.ensures.out c.report_due.ensures.status

@@ -5,4 +5,5 @@ use Rattle.grs_top.proofs.ends.put_tasks.Given as goal
 abbrev pub invariant-loop-task : goal.invariant-loop-task
 invariant-loop-task l =
     (l.task + length (drop l._task-index l.tasks) ≡ l.initial.first + length l.tasks)
-    × (l.out ++ tasks_in l.system l.job l.task (drop l._task-index l.tasks) ≡ l.initial.out ++ tasks_in l.system l.job l.initial.first l.tasks)
+    × (l.out ++ tasks_in l.system l.job l.task (drop l._task-index l.tasks)
+    ≡ l.initial.out ++ tasks_in l.system l.job l.initial.first l.tasks)

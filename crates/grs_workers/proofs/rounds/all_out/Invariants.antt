@@ -7,6 +7,7 @@ use Rattle.grs_workers.proofs.rounds.all_out.Given as goal
 
 abbrev pub invariant-loop-worker : goal.invariant-loop-worker
 invariant-loop-worker l = record {
-  out : (l.all && list_all (λ w. is_out w.outcome) (drop l.worker-index l.workers)) ≡ list_all (λ w. is_out w.outcome) l.workers;
+  out : (l.all && list_all (λ w. is_out w.outcome) (drop l.worker-index l.workers))
+      ≡ list_all (λ w. is_out w.outcome) l.workers;
   ok : (k : ℕ) (d : Worker) → k < l.worker-index → IfErr (get_or l.workers k d).outcome (λ _. ⊥);
 }

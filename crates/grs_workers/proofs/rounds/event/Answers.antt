@@ -9,7 +9,9 @@ returns-in_ok-finish-in-Quiet-clause-done g c = (
   record { choice = c.in_ok-choice.choice; told = None },
   record {
     prepared = sym c.in_ok-choice.ensures.prepared ∙ c.in-Quiet.is;
-    node = c.in_ok-finish-in-Quiet.ensures.step ∙ ap (λ (n : NodeView). finished n c.in_ok-choice.choice None) c.pick.ensures.same;
+    node =
+        c.in_ok-finish-in-Quiet.ensures.step
+        ∙ ap (λ (n : NodeView). finished n c.in_ok-choice.choice None) c.pick.ensures.same;
     seat = refl;
     calls = refl;
   },
@@ -21,7 +23,9 @@ returns-in_ok-finish-in-Quiet-clause-agrees g c =
     agrees-done (stand c.args.worker.now) _ (record { choice = c.in_ok-choice.choice; told = None })
     (record {
       prepared = sym c.in_ok-choice.ensures.prepared ∙ c.in-Quiet.is;
-      node = c.in_ok-finish-in-Quiet.ensures.step ∙ ap (λ (n : NodeView). finished n c.in_ok-choice.choice None) c.pick.ensures.same;
+      node =
+          c.in_ok-finish-in-Quiet.ensures.step
+          ∙ ap (λ (n : NodeView). finished n c.in_ok-choice.choice None) c.pick.ensures.same;
       seat = refl;
       calls = refl;
     })

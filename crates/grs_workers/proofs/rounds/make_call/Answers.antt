@@ -5,26 +5,63 @@ use Rattle.grs_workers.proofs.Fits.{act-fits, home-addressed}
 use Rattle.grs_workers.proofs.rounds.make_call.Goals as goal
 
 pub call-requires-clause-call : goal.call-requires-clause-call
-call-requires-clause-call g c = (c.requires.on.caller, act-fits c.args.bus.now.first c.args.worker.now.seat.system c.args.worker.now.node.deck c.args.call.act (home-addressed c.args.worker.now.seat.system.0 c.args.worker.now.node.node.tasks.system c.args.worker.now.node.deck c.args.call.act c.requires.agrees.system c.requires.addressed) c.requires.on.systems c.requires.on.entries)
+call-requires-clause-call g c = (
+  c.requires.on.caller,
+  act-fits c.args.bus.now.first c.args.worker.now.seat.system c.args.worker.now.node.deck c.args.call.act
+      (home-addressed c.args.worker.now.seat.system.0 c.args.worker.now.node.node.tasks.system
+      c.args.worker.now.node.deck c.args.call.act c.requires.agrees.system c.requires.addressed)
+      c.requires.on.systems c.requires.on.entries,
+)
 
 pub finish-requires : goal.finish-requires
-finish-requires g c = may_finish c.args.worker.now.node c.args.worker.now.seat c.call.new.seat c.args.choice c.args.call (c.in_ok-reply.reply, c.in_ok-reply.entered) c.requires.prepared c.in_ok-reply.ensures.ok
+finish-requires g c =
+    may_finish c.args.worker.now.node c.args.worker.now.seat c.call.new.seat c.args.choice c.args.call
+    (c.in_ok-reply.reply, c.in_ok-reply.entered) c.requires.prepared c.in_ok-reply.ensures.ok
 
 pub after-requires-clause-agrees : goal.after-requires-clause-agrees
 after-requires-clause-agrees g c =
-    agrees-done (stand c.args.worker.now) _ (record { choice = c.args.choice; told = Some (c.in_ok-reply.reply, c.in_ok-reply.entered) })
-    (record { in_time = c.requires.in_time; call = c.args.call; prepared = c.requires.prepared; same = c.call.ensures.same; takes = c.call.ensures.takes; answered = c.in_ok-reply.ensures.ok; node = c.in_ok-finish.ensures.step; calls = c.saturating_add-worker.ensures })
+    agrees-done (stand c.args.worker.now) _
+    (record { choice = c.args.choice; told = Some (c.in_ok-reply.reply, c.in_ok-reply.entered) })
+    (record {
+      in_time = c.requires.in_time;
+      call = c.args.call;
+      prepared = c.requires.prepared;
+      same = c.call.ensures.same;
+      takes = c.call.ensures.takes;
+      answered = c.in_ok-reply.ensures.ok;
+      node = c.in_ok-finish.ensures.step;
+      calls = c.saturating_add-worker.ensures;
+    })
     c.call.ensures.same.1 c.finish.ensures.system c.requires.agrees
 
 pub returns-clause-done : goal.returns-clause-done
 returns-clause-done g c = (
   record { choice = c.args.choice; told = Some (c.in_ok-reply.reply, c.in_ok-reply.entered) },
-  record { in_time = c.requires.in_time; call = c.args.call; prepared = c.requires.prepared; same = c.call.ensures.same; takes = c.call.ensures.takes; answered = c.in_ok-reply.ensures.ok; node = c.in_ok-finish.ensures.step; calls = c.saturating_add-worker.ensures },
+  record {
+    in_time = c.requires.in_time;
+    call = c.args.call;
+    prepared = c.requires.prepared;
+    same = c.call.ensures.same;
+    takes = c.call.ensures.takes;
+    answered = c.in_ok-reply.ensures.ok;
+    node = c.in_ok-finish.ensures.step;
+    calls = c.saturating_add-worker.ensures;
+  },
   sym c.is_last_reply-out.ensures,
 )
 
 pub returns-clause-agrees : goal.returns-clause-agrees
 returns-clause-agrees g c =
-    agrees-done (stand c.args.worker.now) _ (record { choice = c.args.choice; told = Some (c.in_ok-reply.reply, c.in_ok-reply.entered) })
-    (record { in_time = c.requires.in_time; call = c.args.call; prepared = c.requires.prepared; same = c.call.ensures.same; takes = c.call.ensures.takes; answered = c.in_ok-reply.ensures.ok; node = c.in_ok-finish.ensures.step; calls = c.saturating_add-worker.ensures })
+    agrees-done (stand c.args.worker.now) _
+    (record { choice = c.args.choice; told = Some (c.in_ok-reply.reply, c.in_ok-reply.entered) })
+    (record {
+      in_time = c.requires.in_time;
+      call = c.args.call;
+      prepared = c.requires.prepared;
+      same = c.call.ensures.same;
+      takes = c.call.ensures.takes;
+      answered = c.in_ok-reply.ensures.ok;
+      node = c.in_ok-finish.ensures.step;
+      calls = c.saturating_add-worker.ensures;
+    })
     c.call.ensures.same.1 c.finish.ensures.system c.requires.agrees

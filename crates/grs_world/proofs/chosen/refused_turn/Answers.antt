@@ -5,20 +5,32 @@ use Rattle.grs_world.proofs.chosen.refused_turn.Goals as goal
 
 pub finished-requires : goal.finished-requires
 finished-requires c =
-    rw c.into_reply.ensures
-    (refused-ends c.args.node.now.deck c.args.medium.now.state c.args.system c.args.node.now.node c.args.known c.requires.prepared (refusal_reply c.args.refusal) c.requires.refused, refl)
+    rw c.into_reply.ensures (
+      refused-ends c.args.node.now.deck c.args.medium.now.state c.args.system c.args.node.now.node c.args.known
+          c.requires.prepared (refusal_reply c.args.refusal) c.requires.refused,
+      refl,
+    )
 
 pub returns-clause-medium : goal.returns-clause-medium
 returns-clause-medium c =
-    rw (chosen-refused c.args.node.now.deck c.args.medium.now.state c.args.system c.args.node.now.node c.args.known c.requires.prepared (refusal_reply c.args.refusal) c.requires.refused)
+    rw (chosen-refused c.args.node.now.deck c.args.medium.now.state c.args.system c.args.node.now.node c.args.known
+    c.requires.prepared (refusal_reply c.args.refusal) c.requires.refused)
     (search rules)
 
 pub returns-clause-node : goal.returns-clause-node
 returns-clause-node c =
-    rw (chosen-refused c.args.node.now.deck c.args.medium.now.state c.args.system c.args.node.now.node c.args.known c.requires.prepared (refusal_reply c.args.refusal) c.requires.refused, ← c.into_reply.ensures)
+    rw (
+      chosen-refused c.args.node.now.deck c.args.medium.now.state c.args.system c.args.node.now.node c.args.known
+          c.requires.prepared (refusal_reply c.args.refusal) c.requires.refused,
+      ← c.into_reply.ensures,
+    )
     c.finished.ensures.node
 
 pub returns-clause-done : goal.returns-clause-done
 returns-clause-done c =
-    rw (chosen-refused c.args.node.now.deck c.args.medium.now.state c.args.system c.args.node.now.node c.args.known c.requires.prepared (refusal_reply c.args.refusal) c.requires.refused, ← c.into_reply.ensures)
+    rw (
+      chosen-refused c.args.node.now.deck c.args.medium.now.state c.args.system c.args.node.now.node c.args.known
+          c.requires.prepared (refusal_reply c.args.refusal) c.requires.refused,
+      ← c.into_reply.ensures,
+    )
     c.finished.ensures.done

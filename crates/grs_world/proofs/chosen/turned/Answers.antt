@@ -10,18 +10,55 @@ use Rattle.grs_world.proofs.chosen.turned.Goals as goal
 pub take_done-requires : goal.take_done-requires
 take_done-requires c =
     rw c.in_ok-finish_turn.ensures.step
-    (finished-some c.args.node.now Turn (Some (Turned (unseen c.args.system c.entries.result.now) c.taken_of-taken.result c.is_closed-closed.result)))
+    (finished-some c.args.node.now Turn
+    (Some (Turned (unseen c.args.system c.entries.result.now) c.taken_of-taken.result c.is_closed-closed.result)))
 
 pub returns-clause-node : goal.returns-clause-node
 returns-clause-node c =
-    let reply : Turned (unseen c.args.system c.entries.result.now) c.taken_of-taken.result c.is_closed-closed.result ≡ Turned (unseen c.args.system c.args.medium.now.state.message.entries) (cond c.args.medium.now.state.message.closed 0 (length (take most_additions c.args.node.now.node.outbox))) c.args.medium.now.state.message.closed =
-    rw (c.entries.ensures, c.taken_of-taken.ensures, c.is_closed-closed.ensures, c.in_ok-reserve_places.ensures.state, c.len-count.ensures, c.in_ok-out.ensures.first) refl in
-    rw (c.take_done.ensures.node, c.in_ok-finish_turn.ensures.step, chosen-given c.args.node.now.deck c.args.medium.now.state c.args.system c.args.node.now.node c.args.known c.requires.prepared c.requires.given, ← reply)
-    (finished-node c.args.node.now Turn (Some (Turned (unseen c.args.system c.entries.result.now) c.taken_of-taken.result c.is_closed-closed.result)))
+    let reply : Turned (unseen c.args.system c.entries.result.now) c.taken_of-taken.result c.is_closed-closed.result
+    ≡ Turned (unseen c.args.system c.args.medium.now.state.message.entries)
+    (cond c.args.medium.now.state.message.closed 0 (length (take most_additions c.args.node.now.node.outbox)))
+    c.args.medium.now.state.message.closed =
+    rw (
+      c.entries.ensures,
+      c.taken_of-taken.ensures,
+      c.is_closed-closed.ensures,
+      c.in_ok-reserve_places.ensures.state,
+      c.len-count.ensures,
+      c.in_ok-out.ensures.first,
+    )
+    refl in
+    rw (
+      c.take_done.ensures.node,
+      c.in_ok-finish_turn.ensures.step,
+      chosen-given c.args.node.now.deck c.args.medium.now.state c.args.system c.args.node.now.node c.args.known
+          c.requires.prepared c.requires.given,
+      ← reply,
+    )
+    (finished-node c.args.node.now Turn
+    (Some (Turned (unseen c.args.system c.entries.result.now) c.taken_of-taken.result c.is_closed-closed.result)))
 
 pub returns-clause-done : goal.returns-clause-done
 returns-clause-done c =
-    let reply : Turned (unseen c.args.system c.entries.result.now) c.taken_of-taken.result c.is_closed-closed.result ≡ Turned (unseen c.args.system c.args.medium.now.state.message.entries) (cond c.args.medium.now.state.message.closed 0 (length (take most_additions c.args.node.now.node.outbox))) c.args.medium.now.state.message.closed =
-    rw (c.entries.ensures, c.taken_of-taken.ensures, c.is_closed-closed.ensures, c.in_ok-reserve_places.ensures.state, c.len-count.ensures, c.in_ok-out.ensures.first) refl in
-    rw (c.take_done.ensures.done, c.in_ok-finish_turn.ensures.step, chosen-given c.args.node.now.deck c.args.medium.now.state c.args.system c.args.node.now.node c.args.known c.requires.prepared c.requires.given, ← reply)
-    (finished-done c.args.node.now Turn (Some (Turned (unseen c.args.system c.entries.result.now) c.taken_of-taken.result c.is_closed-closed.result)))
+    let reply : Turned (unseen c.args.system c.entries.result.now) c.taken_of-taken.result c.is_closed-closed.result
+    ≡ Turned (unseen c.args.system c.args.medium.now.state.message.entries)
+    (cond c.args.medium.now.state.message.closed 0 (length (take most_additions c.args.node.now.node.outbox)))
+    c.args.medium.now.state.message.closed =
+    rw (
+      c.entries.ensures,
+      c.taken_of-taken.ensures,
+      c.is_closed-closed.ensures,
+      c.in_ok-reserve_places.ensures.state,
+      c.len-count.ensures,
+      c.in_ok-out.ensures.first,
+    )
+    refl in
+    rw (
+      c.take_done.ensures.done,
+      c.in_ok-finish_turn.ensures.step,
+      chosen-given c.args.node.now.deck c.args.medium.now.state c.args.system c.args.node.now.node c.args.known
+          c.requires.prepared c.requires.given,
+      ← reply,
+    )
+    (finished-done c.args.node.now Turn
+    (Some (Turned (unseen c.args.system c.entries.result.now) c.taken_of-taken.result c.is_closed-closed.result)))

@@ -1,6 +1,7 @@
--- Which elements of a system's tasks are on record: all but the one whose item is still to come, which is of an entry that
--- another system manages.
-use Rattle.std.proofs.Common.{inl, inr, ◌≡◌, ℕ, Bool, true, false, cond, List, [], ◌∷◌, map, Option, Some, None, refl, ap, sym, ◌∙◌, subst}
+-- Which elements of a system's tasks are on record: all but the one whose item is still to come, which is of an entry
+-- that another system manages.
+use Rattle.std.proofs.Common.{inl, inr, ◌≡◌, ℕ, Bool, true, false, cond, List, [], ◌∷◌, map, Option, Some, None, refl}
+use Rattle.std.proofs.Common.{ap, sym, ◌∙◌, subst}
 use Rattle.std.specs.Prelude.{◌⊎◌}
 use Rattle.std.proofs.lemmas.Option.{same_Some}
 use Rattle.contention_mgr.specs.Manager.{entry_wanted}
@@ -48,9 +49,11 @@ use Rattle.grs_world.proofs.star.hearing.Mails.{answers}
 use Rattle.grs_world.proofs.system.AtNode.{opens_of}
 use Rattle.grs_world.proofs.system.Puts.{home-task}
 
--- An item of task t that is still to come, of the entry of resource r, which another system manages: it is what the task's
--- outstanding request asked.
-pub record IsDueOn (deck : Deck) (words : List ℕ) (s : ℕ) (n : NodeState) (later : List RunItem) (t : TaskId) (r : Res) : Type 0 where
+-- An item of task t that is still to come, of the entry of resource r, which another system manages: it is what the
+-- task's outstanding request asked.
+pub record IsDueOn (deck : Deck) (words : List ℕ) (s : ℕ) (n : NodeState) (later : List RunItem) (t : TaskId)
+    (r : Res) :
+    Type 0 where
   pub item : RunItem
   pub due : mine t later ≡ item ∷ []
   pub asked : Asked
@@ -60,30 +63,51 @@ pub record IsDueOn (deck : Deck) (words : List ℕ) (s : ℕ) (n : NodeState) (l
   pub at : entry_of_res deck.entries r ≡ Some entry
   pub away : Away words s entry
 
-module _ (deck : Deck) (words : List ℕ) (T : List RunItem) (right : IsHistory deck T) (s : ℕ) (n : NodeState) (ms : List Mail) (later : List RunItem) (out : List Req) (h : IsSystem deck words T s n ms later out) (t : TaskId) (home : is_home_at deck s t ≡ true) where
+module _ (deck : Deck) (words : List ℕ) (T : List RunItem) (right : IsHistory deck T) (s : ℕ) (n : NodeState)
+    (ms : List Mail) (later : List RunItem) (out : List Req) (h : IsSystem deck words T s n ms later out) (t : TaskId)
+    (home : is_home_at deck s t ≡ true) where
   -- what the task asks, if it asks anything
-  request : (y : RunItem) → outstanding t (here deck s T later out n h.at t home).known T ≡ Some y → (a : Asked) × ((state_of n.tasks t).outstanding ≡ Some a) × (y.fixed ≡ fixing.Asked a.req)
-  request y e = go (state_of n.tasks t).outstanding refl (subst (IsOutstanding (state_of n.tasks t).outstanding) e (here deck s T later out n h.at t home).knows.request)
+  request : (y : RunItem) → outstanding t (here deck s T later out n h.at t home).known T ≡ Some y
+      → (a : Asked) × ((state_of n.tasks t).outstanding ≡ Some a) × (y.fixed ≡ fixing.Asked a.req)
+  request y e =
+      go (state_of n.tasks t).outstanding refl
+      (subst (IsOutstanding (state_of n.tasks t).outstanding) e (here deck s T later out n h.at t home).knows.request)
     where
-      go : (o : Option Asked) → (state_of n.tasks t).outstanding ≡ o → IsOutstanding (state_of n.tasks t).outstanding (Some y) → (a : Asked) × ((state_of n.tasks t).outstanding ≡ Some a) × (y.fixed ≡ fixing.Asked a.req)
+      go : (o : Option Asked) → (state_of n.tasks t).outstanding ≡ o
+          → IsOutstanding (state_of n.tasks t).outstanding (Some y)
+          → (a : Asked) × ((state_of n.tasks t).outstanding ≡ Some a) × (y.fixed ≡ fixing.Asked a.req)
       go None is z = absurd (subst (λ o. IsOutstanding o (Some y)) is z)
       go (Some a) is z = (a, is, subst (λ o. IsOutstanding o (Some y)) is z)
 
-  asks_some : (a : Asked) → (state_of n.tasks t).outstanding ≡ Some a → (q : Res) × (res_wanted a.req.want ≡ Some q) × (entry_wanted deck.entries a.req.want ≡ entry_of_res deck.entries q)
-  asks_some a is = go a.req.want (subst (λ o. IsOpenBy deck.limit (home-task deck s (opens_of later out (ghosted n)) T n.tasks t h.at.good home).0 t (state_of n.tasks t) o) is (here deck s T later out n h.at t home).opened).2
+  asks_some : (a : Asked) → (state_of n.tasks t).outstanding ≡ Some a
+      → (q : Res) × (res_wanted a.req.want ≡ Some q)
+      × (entry_wanted deck.entries a.req.want ≡ entry_of_res deck.entries q)
+  asks_some a is =
+      go a.req.want (subst (λ o.
+      IsOpenBy deck.limit (home-task deck s (opens_of later out (ghosted n)) T n.tasks t h.at.good home).0 t
+      (state_of n.tasks t) o)
+      is (here deck s T later out n h.at t home).opened).2
     where
-      go : (w : Want) → IsAskedFor deck.limit (home-task deck s (opens_of later out (ghosted n)) T n.tasks t h.at.good home).0 (state_of n.tasks t).line (state_of n.tasks t).records w a.unit → (q : Res) × (res_wanted w ≡ Some q) × (entry_wanted deck.entries w ≡ entry_of_res deck.entries q)
+      go : (w : Want)
+          → IsAskedFor deck.limit (home-task deck s (opens_of later out (ghosted n)) T n.tasks t h.at.good home).0
+          (state_of n.tasks t).line (state_of n.tasks t).records w a.unit
+          → (q : Res) × (res_wanted w ≡ Some q) × (entry_wanted deck.entries w ≡ entry_of_res deck.entries q)
       go (Enq q c ret full) z = (q, refl, refl)
       go (Deq q have) z = (q, refl, refl)
       go (Release q) z = (q, refl, refl)
       go (Look first count f) z = absurd z
 
   -- an element is on record, or its item is still to come
-  pub recorded-or-due : (r : Res) → has_task (list_of (lists T) r) t ≡ true → (has_res r (state_of n.tasks t).records ≡ true) ⊎ IsDueOn deck words s n later t r
+  pub recorded-or-due : (r : Res) → has_task (list_of (lists T) r) t ≡ true
+      → (has_res r (state_of n.tasks t).records ≡ true) ⊎ IsDueOn deck words s n later t r
   recorded-or-due r has = go (outstanding t (here deck s T later out n h.at t home).known T) refl
     where
-      go : (o : Option RunItem) → outstanding t (here deck s T later out n h.at t home).known T ≡ o → (has_res r (state_of n.tasks t).records ≡ true) ⊎ IsDueOn deck words s n later t r
-      go None e = inl (busy-idle deck (opens_of later out (ghosted n)) T right n.tasks.told t (home-task deck s (opens_of later out (ghosted n)) T n.tasks t h.at.good home).0 (state_of n.tasks t) (here deck s T later out n h.at t home) r e has)
+      go : (o : Option RunItem) → outstanding t (here deck s T later out n h.at t home).known T ≡ o
+          → (has_res r (state_of n.tasks t).records ≡ true) ⊎ IsDueOn deck words s n later t r
+      go None e =
+          inl (busy-idle deck (opens_of later out (ghosted n)) T right n.tasks.told t
+          (home-task deck s (opens_of later out (ghosted n)) T n.tasks t h.at.good home).0 (state_of n.tasks t)
+          (here deck s T later out n h.at t home) r e has)
       go (Some y) e =
           let rq = request y e in
           let some = asks_some rq.0 rq.1 in
@@ -91,27 +115,58 @@ module _ (deck : Deck) (words : List ℕ) (T : List RunItem) (right : IsHistory 
           let i = late-in deck words s t y [] later due h.late in
           let same : fixing.Asked i.req ≡ fixing.Asked (rq.0).req = sym i.asked ∙ rq.2 in
           let req : i.req ≡ (rq.0).req = cc in
-          let asker : (rq.0).req.task ≡ t = (subst (λ o. IsOpenBy deck.limit (home-task deck s (opens_of later out (ghosted n)) T n.tasks t h.at.good home).0 t (state_of n.tasks t) o) rq.1 (here deck s T later out n h.at t home).opened).0 in
-          let made : y.entries ≡ entries_for i.lists t (rq.0).req.want = i.made ∙ (ap (λ (q : Req). entries_for i.lists q.task q.want) req ∙ ap (λ z. entries_for i.lists z (rq.0).req.want) asker) in
-          decide rq.0 rq.1 some.0 some.1 i (sym some.2 ∙ (ap (λ (q : Req). entry_wanted deck.entries q.want) (sym req) ∙ i.at)) due
-          (busy-behind deck (opens_of later out (ghosted n)) T right n.tasks.told t (home-task deck s (opens_of later out (ghosted n)) T n.tasks t h.at.good home).0 (state_of n.tasks t) (here deck s T later out n h.at t home) r rq.0 y i.lists e made some.0 some.1 has)
+          let asker : (rq.0).req.task ≡ t =
+          (subst (λ o.
+          IsOpenBy deck.limit (home-task deck s (opens_of later out (ghosted n)) T n.tasks t h.at.good home).0 t
+          (state_of n.tasks t) o)
+          rq.1 (here deck s T later out n h.at t home).opened).0 in
+          let made : y.entries ≡ entries_for i.lists t (rq.0).req.want =
+          i.made
+          ∙ (ap (λ (q : Req). entries_for i.lists q.task q.want) req
+          ∙ ap (λ z. entries_for i.lists z (rq.0).req.want) asker) in
+          decide rq.0 rq.1 some.0 some.1 i
+          (sym some.2 ∙ (ap (λ (q : Req). entry_wanted deck.entries q.want) (sym req) ∙ i.at)) due
+          (busy-behind deck (opens_of later out (ghosted n)) T right n.tasks.told t
+          (home-task deck s (opens_of later out (ghosted n)) T n.tasks t h.at.good home).0 (state_of n.tasks t)
+          (here deck s T later out n h.at t home) r rq.0 y i.lists e made some.0 some.1 has)
         where
-          decide : (a : Asked) → (state_of n.tasks t).outstanding ≡ Some a → (q : Res) → res_wanted a.req.want ≡ Some q → (i : IsLate deck words s y) → entry_of_res deck.entries q ≡ Some i.entry → mine t later ≡ y ∷ [] →
-              (has_res r (state_of n.tasks t).records ≡ true) ⊎ (q ≡ r) → (has_res r (state_of n.tasks t).records ≡ true) ⊎ IsDueOn deck words s n later t r
+          decide : (a : Asked) → (state_of n.tasks t).outstanding ≡ Some a → (q : Res) → res_wanted a.req.want ≡ Some q
+              → (i : IsLate deck words s y) → entry_of_res deck.entries q ≡ Some i.entry → mine t later ≡ y ∷ [] →
+              (has_res r (state_of n.tasks t).records ≡ true) ⊎ (q ≡ r)
+              → (has_res r (state_of n.tasks t).records ≡ true) ⊎ IsDueOn deck words s n later t r
           decide a is q wanted i at due (inl z) = inl z
-          decide a is q wanted i at due (inr z) = inr (record { item = y; due = due; asked = a; is = is; wanted = wanted ∙ ap Some z; entry = i.entry; at = ap (entry_of_res deck.entries) (sym z) ∙ at; away = i.away })
+          decide a is q wanted i at due (inr z) =
+              inr (record {
+                item = y;
+                due = due;
+                asked = a;
+                is = is;
+                wanted = wanted ∙ ap Some z;
+                entry = i.entry;
+                at = ap (entry_of_res deck.entries) (sym z) ∙ at;
+                away = i.away;
+              })
 
   -- so it is on record where the system itself manages the entry
-  pub recorded-here : (r : Res) → has_task (list_of (lists T) r) t ≡ true → (e : ℕ) → entry_of_res deck.entries r ≡ Some e → has_manager words e s ≡ true → has_res r (state_of n.tasks t).records ≡ true
+  pub recorded-here : (r : Res) → has_task (list_of (lists T) r) t ≡ true → (e : ℕ)
+      → entry_of_res deck.entries r ≡ Some e → has_manager words e s ≡ true
+      → has_res r (state_of n.tasks t).records ≡ true
   recorded-here r has e at mine_entry = go (recorded-or-due r has)
     where
-      go : (has_res r (state_of n.tasks t).records ≡ true) ⊎ IsDueOn deck words s n later t r → has_res r (state_of n.tasks t).records ≡ true
+      go : (has_res r (state_of n.tasks t).records ≡ true) ⊎ IsDueOn deck words s n later t r
+          → has_res r (state_of n.tasks t).records ≡ true
       go (inl z) = z
-      go (inr d) = no_truth (has_manager words d.entry s) (ap (λ i. has_manager words i s) (same_Some d.entry e (sym d.at ∙ at)) ∙ mine_entry) d.away.0
+      go (inr d) =
+          no_truth (has_manager words d.entry s)
+          (ap (λ i. has_manager words i s) (same_Some d.entry e (sym d.at ∙ at)) ∙ mine_entry) d.away.0
 
   -- a task whose item is still to come has sent its request
-  pub due-sent : (y : RunItem) → mine t later ≡ y ∷ [] → (is_among t (askers out) ≡ true) × (is_sent (state_of n.tasks t).phase ≡ true)
-  due-sent y due = (among, sent-among t (state_of n.tasks t).phase out (here deck s T later out n h.at t home).sent among)
+  pub due-sent : (y : RunItem) → mine t later ≡ y ∷ []
+      → (is_among t (askers out) ≡ true) × (is_sent (state_of n.tasks t).phase ≡ true)
+  due-sent y due = (
+    among,
+    sent-among t (state_of n.tasks t).phase out (here deck s T later out n h.at t home).sent among,
+  )
     where
       among : is_among t (askers out) ≡ true
       among = go (is_among t (askers out)) refl
@@ -123,20 +178,31 @@ module _ (deck : Deck) (words : List ℕ) (T : List RunItem) (right : IsHistory 
   -- ---- no item of the task is to come
   module _ (idle : mine t later ≡ []) where
     idle-is : outstanding t (here deck s T later out n h.at t home).known T ≡ None
-    idle-is = ap (λ b. cond b (last_of (mine t T)) None) (behind-late deck s T later out n h.at t home ∙ late-none t later idle)
+    idle-is =
+        ap (λ b. cond b (last_of (mine t T)) None)
+        (behind-late deck s T later out n h.at t home ∙ late-none t later idle)
 
     -- each resource on record is that of an element
-    pub idle-element : (r : Res) → has_res r (state_of n.tasks t).records ≡ true → has_task (list_of (lists T) r) t ≡ true
+    pub idle-element : (r : Res) → has_res r (state_of n.tasks t).records ≡ true
+        → has_task (list_of (lists T) r) t ≡ true
     idle-element r has =
-        has-known deck T right t (past_of t (here deck s T later out n h.at t home).known T) (speaks-known deck T t (here deck s T later out n h.at t home).known right (here deck s T later out n h.at t home).knows.live (here deck s T later out n h.at t home).knows.right idle-is) r
-        ∙ (sym (has_res-own r (state_of n.tasks t).records (past_of t (here deck s T later out n h.at t home).known T).own (ap (map key) (sym (records-unasked (state_of n.tasks t))) ∙ (here deck s T later out n h.at t home).task.keys)) ∙ has)
+        has-known deck T right t (past_of t (here deck s T later out n h.at t home).known T)
+        (speaks-known deck T t (here deck s T later out n h.at t home).known right
+        (here deck s T later out n h.at t home).knows.live (here deck s T later out n h.at t home).knows.right idle-is)
+        r
+        ∙ (sym (has_res-own r (state_of n.tasks t).records
+        (past_of t (here deck s T later out n h.at t home).known T).own
+        (ap (map key) (sym (records-unasked (state_of n.tasks t))) ∙ (here deck s T later out n h.at t home).task.keys))
+        ∙ has)
 
     -- and no answer comes to it
     pub idle-silent : answers t ms ≡ false
     idle-silent = no-answer t (blank (is_late t later)) T (news_of ms) (late-none t later idle) (h.coming t home)
 
   pub records-distinct : is_distinct (state_of n.tasks t).records ≡ true
-  records-distinct = ap is_distinct (sym (records-unasked (state_of n.tasks t))) ∙ (here deck s T later out n h.at t home).task.distinct
+  records-distinct =
+      ap is_distinct (sym (records-unasked (state_of n.tasks t)))
+      ∙ (here deck s T later out n h.at t home).task.distinct
 
 -- ---- an answer comes first
 -- What it answers: the request that the task has sent, by some lists.
@@ -149,20 +215,32 @@ pub record IsAnswered (n : NodeState) (t : TaskId) (answer : Answer) : Type 0 wh
   pub wanted : res_wanted asked.req.want ≡ Some res
   pub sent : is_sent (state_of n.tasks t).phase ≡ true
 
-pub answer-awaited : (deck : Deck) (words : List ℕ) (T : List RunItem) → IsHistory deck T → (s : ℕ) (n : NodeState) (t : TaskId) (answer : Answer) (rank : ℕ) (ms : List Mail) (later : List RunItem) (out : List Req) →
-    IsSystem deck words T s n (Answered t answer rank ∷ ms) later out → is_home_at deck s t ≡ true → IsAnswered n t answer
+pub answer-awaited : (deck : Deck) (words : List ℕ) (T : List RunItem) → IsHistory deck T
+    → (s : ℕ) (n : NodeState) (t : TaskId) (answer : Answer) (rank : ℕ) (ms : List Mail) (later : List RunItem)
+    (out : List Req)
+    →
+    IsSystem deck words T s n (Answered t answer rank ∷ ms) later out → is_home_at deck s t ≡ true
+    → IsAnswered n t answer
 answer-awaited deck words T right s n t answer rank ms later out h home =
     let z = (h.coming t home).0 (same_task-itself t) in
     let k = here deck s T later out n h.at t home in
-    let out_is : outstanding t k.known T ≡ Some z.0 = ap (λ b. cond b (last_of (mine t T)) None) (behind-late deck s T later out n h.at t home) ∙ z.1 in
+    let out_is : outstanding t k.known T ≡ Some z.0 =
+    ap (λ b. cond b (last_of (mine t T)) None) (behind-late deck s T later out n h.at t home) ∙ z.1 in
     let due : mine t later ≡ z.0 ∷ [] = k.due ∙ ap one out_is in
     let rq = request deck words T right s n (Answered t answer rank ∷ ms) later out h t home z.0 out_is in
     let some = asks_some deck words T right s n (Answered t answer rank ∷ ms) later out h t home rq.0 rq.1 in
     let i : IsLate deck words s z.0 = late-in deck words s t z.0 [] later due h.late in
     let same : fixing.Asked i.req ≡ fixing.Asked (rq.0).req = sym i.asked ∙ rq.2 in
     let req : i.req ≡ (rq.0).req = cc in
-    let asker : (rq.0).req.task ≡ t = (subst (λ o. IsOpenBy deck.limit (home-task deck s (opens_of later out (ghosted n)) T n.tasks t h.at.good home).0 t (state_of n.tasks t) o) rq.1 k.opened).0 in
-    let made : (z.0).entries ≡ entries_for i.lists t (rq.0).req.want = i.made ∙ (ap (λ (q : Req). entries_for i.lists q.task q.want) req ∙ ap (λ u. entries_for i.lists u (rq.0).req.want) asker) in
+    let asker : (rq.0).req.task ≡ t =
+    (subst (λ o.
+    IsOpenBy deck.limit (home-task deck s (opens_of later out (ghosted n)) T n.tasks t h.at.good home).0 t
+    (state_of n.tasks t) o)
+    rq.1 k.opened).0 in
+    let made : (z.0).entries ≡ entries_for i.lists t (rq.0).req.want =
+    i.made
+    ∙ (ap (λ (q : Req). entries_for i.lists q.task q.want) req
+    ∙ ap (λ u. entries_for i.lists u (rq.0).req.want) asker) in
     record {
       asked = rq.0;
       is = rq.1;

@@ -1,5 +1,7 @@
--- A manager decides a request by its lists of the entry, which are what all lists have of it: whom it has still to tell then.
-use Rattle.std.proofs.Common.{◌≡◌, ◌≢◌, ◌≤◌, ℕ, suc, Bool, true, false, not, ◌&&◌, List, [], ◌∷◌, ◌++◌, length, Some, refl, ap, sym, ◌∙◌, subst, arith}
+-- A manager decides a request by its lists of the entry, which are what all lists have of it: whom it has still to tell
+-- then.
+use Rattle.std.proofs.Common.{◌≡◌, ◌≢◌, ◌≤◌, ℕ, suc, Bool, true, false, not, ◌&&◌, List, [], ◌∷◌, ◌++◌, length, Some}
+use Rattle.std.proofs.Common.{refl, ap, sym, ◌∙◌, subst, arith}
 use Rattle.std.specs.Prelude.{is_some}
 use Rattle.std.proofs.lemmas.Bool.{ne_eqb}
 use Rattle.contention_mgr.specs.Laws.{is_elsewhere, owns_by}
@@ -19,9 +21,12 @@ use Rattle.grs_known.proofs.lists.Alike.{Alike, alike-want}
 use Rattle.grs_world.proofs.star.Heard.{enq_count, is_enq, is_enq_want}
 use Rattle.grs_world.proofs.star.Members.{IsPart}
 use Rattle.grs_world.proofs.star.Under.{entry-same, in_entry, list-under, res-entry, under, under-want}
-use Rattle.grs_world.proofs.star.hearing.Gains.{gained-among, next-bound, request-gained, request-next, request-untold, untold_of}
+use Rattle.grs_world.proofs.star.hearing.Gains.{gained-among, next-bound, request-gained, request-next, request-untold}
+use Rattle.grs_world.proofs.star.hearing.Gains.{untold_of}
 
-module _ (deck : Deck) (words : List ℕ) (L : State) (s : ℕ) (p : StarPart) (k : IsPart deck words L s p) (t : TaskId) (w : Want) (r : Res) (wanted : res_wanted w ≡ Some r) (e : ℕ) (of_entry : entry_wanted deck.entries w ≡ Some e) (x : Managed) (is : managed_at p.manager e ≡ Some x) where
+module _ (deck : Deck) (words : List ℕ) (L : State) (s : ℕ) (p : StarPart) (k : IsPart deck words L s p) (t : TaskId)
+    (w : Want) (r : Res) (wanted : res_wanted w ≡ Some r) (e : ℕ) (of_entry : entry_wanted deck.entries w ≡ Some e)
+    (x : Managed) (is : managed_at p.manager e ≡ Some x) where
   at : entry_wanted (length p.manager.entries) w ≡ Some e
   at = ap (λ i. entry_wanted i w) k.entries ∙ of_entry
 
@@ -32,26 +37,38 @@ module _ (deck : Deck) (words : List ℕ) (L : State) (s : ℕ) (p : StarPart) (
   before-here = subst (λ o. Alike (plain (items_of o)) (under deck.entries e L)) is (k.lists e (ap is_some is))
 
   after-here : Alike (after_want (plain x.items) t w) (under deck.entries e (after_want L t w))
-  after-here = subst (Alike (after_want (plain x.items) t w)) (under-want deck.entries e L t w (entry-same e (entry_wanted deck.entries w) of_entry)) (alike-want (plain x.items) (under deck.entries e L) t w before-here)
+  after-here =
+      subst (Alike (after_want (plain x.items) t w))
+      (under-want deck.entries e L t w (entry-same e (entry_wanted deck.entries w) of_entry))
+      (alike-want (plain x.items) (under deck.entries e L) t w before-here)
 
-  owns-before : (q : Res) (u : TaskId) → in_entry deck.entries e q ≡ true → owns (list_of (plain x.items) q) u ≡ owns (list_of L q) u
+  owns-before : (q : Res) (u : TaskId) → in_entry deck.entries e q ≡ true
+      → owns (list_of (plain x.items) q) u ≡ owns (list_of L q) u
   owns-before q u here = ap (λ es. owns es u) (before-here.lists q ∙ list-under deck.entries e L q here)
 
-  owns-after : (q : Res) (u : TaskId) → in_entry deck.entries e q ≡ true → owns (list_of (after_want (plain x.items) t w) q) u ≡ owns (list_of (after_want L t w) q) u
+  owns-after : (q : Res) (u : TaskId) → in_entry deck.entries e q ≡ true
+      → owns (list_of (after_want (plain x.items) t w) q) u ≡ owns (list_of (after_want L t w) q) u
   owns-after q u here = ap (λ es. owns es u) (after-here.lists q ∙ list-under deck.entries e (after_want L t w) q here)
 
   -- who was still to be told, and owns
-  pub untold-then : (q : Res) (u : TaskId) → owns (list_of (after_want L t w) q) u ≡ true → untold_of p.manager q u ≡ true → untold_of (after_request p.manager t w) q u ≡ true
-  untold-then q u owned before = request-untold p.manager t w e at x is q u (λ here. owns-after q u (sym (in-same q) ∙ here) ∙ owned) before
+  pub untold-then : (q : Res) (u : TaskId) → owns (list_of (after_want L t w) q) u ≡ true
+      → untold_of p.manager q u ≡ true → untold_of (after_request p.manager t w) q u ≡ true
+  untold-then q u owned before =
+      request-untold p.manager t w e at x is q u (λ here. owns-after q u (sym (in-same q) ∙ here) ∙ owned) before
 
   -- who gains control at another system
-  pub gained-then : (q : Res) (u : TaskId) → same_task t u ≡ false → u.system.0 ≢ s → owns (list_of L q) u ≡ false → owns (list_of (after_want L t w) q) u ≡ true → untold_of (after_request p.manager t w) q u ≡ true
+  pub gained-then : (q : Res) (u : TaskId) → same_task t u ≡ false → u.system.0 ≢ s → owns (list_of L q) u ≡ false
+      → owns (list_of (after_want L t w) q) u ≡ true → untold_of (after_request p.manager t w) q u ≡ true
   gained-then q u apart away before after =
       let z = gained-among L t w r q u wanted apart before after in
-      let here : in_entry deck.entries e q ≡ true = ap (in_entry deck.entries e) z.0 ∙ entry-same e (entry_of_res deck.entries r) (res-entry deck.entries w r e wanted of_entry) in
+      let here : in_entry deck.entries e q ≡ true =
+      ap (in_entry deck.entries e) z.0
+      ∙ entry-same e (entry_of_res deck.entries r) (res-entry deck.entries w r e wanted of_entry) in
       request-gained p.manager t w e at x is q u (in-same q ∙ here)
-      (four (owns_by (after_want (plain x.items) t w) q u) (not (owns_by (plain x.items) q u)) (not (same_task t u)) (is_elsewhere p.manager.system.0 q u)
-      (owns-after q u here ∙ after) (ap not (owns-before q u here ∙ before)) (ap not apart) (ap not (ne_eqb p.manager.system.0 u.system.0 (λ same. away (sym same ∙ k.home)))))
+      (four (owns_by (after_want (plain x.items) t w) q u) (not (owns_by (plain x.items) q u)) (not (same_task t u))
+      (is_elsewhere p.manager.system.0 q u)
+      (owns-after q u here ∙ after) (ap not (owns-before q u here ∙ before)) (ap not apart)
+      (ap not (ne_eqb p.manager.system.0 u.system.0 (λ same. away (sym same ∙ k.home)))))
     where
       four : (a b c d : Bool) → a ≡ true → b ≡ true → c ≡ true → d ≡ true → (a && b && c && d) ≡ true
       four true true true true f g h i = refl
@@ -61,9 +78,14 @@ module _ (deck : Deck) (words : List ℕ) (L : State) (s : ℕ) (p : StarPart) (
       four false b c d f g h i = absurd (cc)
 
   -- no rank that it gives is past the number of requests
-  pub next-then : (T : List RunItem) (item : RunItem) → (is_enq_want w ≡ true → is_enq item.fixed ≡ true) → enq_count T ≤ enq_count (T ++ item ∷ []) → ((i : ℕ) (z : Managed) → managed_at p.manager i ≡ Some z → z.next ≤ suc (enq_count T)) →
-      (i : ℕ) (z : Managed) → managed_at (after_request p.manager t w) i ≡ Some z → z.next ≤ suc (enq_count (T ++ item ∷ []))
-  next-then T item enq more low = request-next p.manager t w e at x is (suc (enq_count (T ++ item ∷ []))) (λ i z managed. grown z.next (low i z managed)) (next-bound p.manager.system.0 x t w T item enq more (low e x is))
+  pub next-then : (T : List RunItem) (item : RunItem) → (is_enq_want w ≡ true → is_enq item.fixed ≡ true)
+      → enq_count T ≤ enq_count (T ++ item ∷ [])
+      → ((i : ℕ) (z : Managed) → managed_at p.manager i ≡ Some z → z.next ≤ suc (enq_count T)) →
+      (i : ℕ) (z : Managed) → managed_at (after_request p.manager t w) i ≡ Some z
+      → z.next ≤ suc (enq_count (T ++ item ∷ []))
+  next-then T item enq more low =
+      request-next p.manager t w e at x is (suc (enq_count (T ++ item ∷ [])))
+      (λ i z managed. grown z.next (low i z managed)) (next-bound p.manager.system.0 x t w T item enq more (low e x is))
     where
       grown : (n : ℕ) → n ≤ suc (enq_count T) → n ≤ suc (enq_count (T ++ item ∷ []))
       grown n h = omega (arith, h, more)

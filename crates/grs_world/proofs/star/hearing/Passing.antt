@@ -1,6 +1,7 @@
--- What an event of one system has to show for what is still to be heard, beside what is the same for all events: that of its
--- own tasks, and of what was in its hands; and that nothing is lost then.
-use Rattle.std.proofs.Common.{inl, inr, ◌≡◌, ◌≢◌, ◌≤◌, ℕ, suc, Bool, true, false, cond, ◌&&◌, ◌||◌, List, [], ◌∷◌, ◌++◌, length, Some, refl, ap, sym, ◌∙◌, subst, arith}
+-- What an event of one system has to show for what is still to be heard, beside what is the same for all events: that
+-- of its own tasks, and of what was in its hands; and that nothing is lost then.
+use Rattle.std.proofs.Common.{inl, inr, ◌≡◌, ◌≢◌, ◌≤◌, ℕ, suc, Bool, true, false, cond, ◌&&◌, ◌||◌, List, [], ◌∷◌, ◌++◌}
+use Rattle.std.proofs.Common.{length, Some, refl, ap, sym, ◌∙◌, subst, arith}
 use Rattle.std.specs.Prelude.{◌⊎◌, ◌==◌, filter, set, slice_get}
 use Rattle.std.specs.List.{list_any}
 use Rattle.std.proofs.lemmas.Bool.{and_parts, eqb-true, eqb-false}
@@ -27,7 +28,8 @@ use Rattle.grs_known.proofs.lists.Owners.{is_among}
 use Rattle.grs_known.proofs.lists.Placed.{put_here, put_other}
 use Rattle.grs_known.proofs.system.Says.{askers, is_home_at}
 use Rattle.grs_known.proofs.tasks.Invariant.{has_res}
-use Rattle.grs_world.proofs.star.Heard.{AreAddressed, IsHeard, IsInHands, IsUntold, enq_count, had_by, had_with, hears, is_enq, is_timely, sent_by, sent_with}
+use Rattle.grs_world.proofs.star.Heard.{AreAddressed, IsHeard, IsInHands, IsUntold, enq_count, had_by, had_with, hears}
+use Rattle.grs_world.proofs.star.Heard.{is_enq, is_timely, sent_by, sent_with}
 use Rattle.grs_world.proofs.star.Members.{all_lists}
 use Rattle.grs_world.proofs.star.Worlds.{AllHands, IsHand, IsWhole, in_hands, are_live}
 use Rattle.grs_world.proofs.star.hearing.Elements.{IsDueOn, due-sent, recorded-or-due}
@@ -60,41 +62,66 @@ pub record Passes (deck : Deck) (w : World) (c : SysId) (n : NodeState) (o : Tur
   pub boxes : (u : ℕ) → u ≢ c.0 → Grown deck (inbox w.medium u) (inbox o.medium u)
   pub own_box : AreAddressed deck (inbox o.medium c.0)
   -- its own requests, and those of others that it had in its hands
-  pub requests : (t : TaskId) → is_home_at deck c.0 t ≡ true → sent_by o.step.node t ≡ true → Requested (placed w c n o) c.0 t
-  pub passed : (s : ℕ) (t : TaskId) (p : StarPart) → s ≢ c.0 → is_home_at deck s t ≡ true → n.star ≡ Some p → is_among t (askers (in_hands p (inbox w.medium c.0))) ≡ true → Requested (placed w c n o) s t
+  pub requests : (t : TaskId) → is_home_at deck c.0 t ≡ true → sent_by o.step.node t ≡ true
+      → Requested (placed w c n o) c.0 t
+  pub passed : (s : ℕ) (t : TaskId) (p : StarPart) → s ≢ c.0 → is_home_at deck s t ≡ true → n.star ≡ Some p
+      → is_among t (askers (in_hands p (inbox w.medium c.0))) ≡ true → Requested (placed w c n o) s t
   -- its own owners, and those of others that it had to tell or that it makes
-  pub owners : (t : TaskId) (r : Res) → is_home_at deck c.0 t ≡ true → is_systems r ≡ true → owns (list_of (lists_then w c o) r) t ≡ true → (had_by o.step.node t r ≡ true) ⊎ Hearable (placed w c n o) c.0 o.step.node t r
-  pub told : (s : ℕ) (k : NodeState) (t : TaskId) (r : Res) (p : StarPart) → s ≢ c.0 → slice_get w.nodes s ≡ Some k → has w.medium.removed s ≡ false → is_home_at deck s t ≡ true → is_systems r ≡ true → owns (list_of (lists_then w c o) r) t ≡ true → n.star ≡ Some p → is_untold_by p t r ≡ true →
+  pub owners : (t : TaskId) (r : Res) → is_home_at deck c.0 t ≡ true → is_systems r ≡ true
+      → owns (list_of (lists_then w c o) r) t ≡ true
+      → (had_by o.step.node t r ≡ true) ⊎ Hearable (placed w c n o) c.0 o.step.node t r
+  pub told : (s : ℕ) (k : NodeState) (t : TaskId) (r : Res) (p : StarPart) → s ≢ c.0 → slice_get w.nodes s ≡ Some k
+      → has w.medium.removed s ≡ false → is_home_at deck s t ≡ true → is_systems r ≡ true
+      → owns (list_of (lists_then w c o) r) t ≡ true → n.star ≡ Some p → is_untold_by p t r ≡ true →
       Hearable (placed w c n o) s k t r
-  pub gained : (s : ℕ) (k : NodeState) (t : TaskId) (r : Res) → s ≢ c.0 → slice_get w.nodes s ≡ Some k → has w.medium.removed s ≡ false → is_home_at deck s t ≡ true → is_systems r ≡ true → owns (list_of (all_lists w) r) t ≡ false → owns (list_of (lists_then w c o) r) t ≡ true →
+  pub gained : (s : ℕ) (k : NodeState) (t : TaskId) (r : Res) → s ≢ c.0 → slice_get w.nodes s ≡ Some k
+      → has w.medium.removed s ≡ false → is_home_at deck s t ≡ true → is_systems r ≡ true
+      → owns (list_of (all_lists w) r) t ≡ false → owns (list_of (lists_then w c o) r) t ≡ true →
       Hearable (placed w c n o) s k t r
   -- a new element's answer comes
-  pub queued : (s : ℕ) (k : NodeState) (t : TaskId) (r : Res) → s ≢ c.0 → slice_get w.nodes s ≡ Some k → has w.medium.removed s ≡ false → is_home_at deck s t ≡ true → is_systems r ≡ true → has_task (list_of (all_lists w) r) t ≡ false → has_task (list_of (lists_then w c o) r) t ≡ true →
+  pub queued : (s : ℕ) (k : NodeState) (t : TaskId) (r : Res) → s ≢ c.0 → slice_get w.nodes s ≡ Some k
+      → has w.medium.removed s ≡ false → is_home_at deck s t ≡ true → is_systems r ≡ true
+      → has_task (list_of (all_lists w) r) t ≡ false → has_task (list_of (lists_then w c o) r) t ≡ true →
       list_any (is_timely t) (inbox o.medium s) ≡ true
-  pub ranks : (p : StarPart) (e : ℕ) (x : Managed) → o.step.node.star ≡ Some p → managed_at p.manager e ≡ Some x → x.next ≤ suc (enq_count (items (w.fixed ++ fixed_by c o.step.fixed)))
+  pub ranks : (p : StarPart) (e : ℕ) (x : Managed) → o.step.node.star ≡ Some p → managed_at p.manager e ≡ Some x
+      → x.next ≤ suc (enq_count (items (w.fixed ++ fixed_by c o.step.fixed)))
 
 -- a request in somebody's hands is one of these
-pub hand-found : (deck : Deck) (words : List ℕ) (live : ℕ → Bool) (later : ℕ → List RunItem) (out : ℕ → List Req) (m : ℕ) (t : TaskId) (qs : List Req) → AllHands deck words live later out m qs → is_among t (askers qs) ≡ true → (q : Req) × (t ≡ q.task) × IsHand deck words live later out m q
+pub hand-found :
+    (deck : Deck) (words : List ℕ) (live : ℕ → Bool) (later : ℕ → List RunItem) (out : ℕ → List Req) (m : ℕ)
+    (t : TaskId) (qs : List Req)
+    → AllHands deck words live later out m qs → is_among t (askers qs) ≡ true
+    → (q : Req) × (t ≡ q.task) × IsHand deck words live later out m q
 hand-found deck words live later out m t [] h e = absurd (cc)
-hand-found deck words live later out m t (q ∷ qs) h e = go (same_task t q.task) refl e (hand-found deck words live later out m t qs h.1)
+hand-found deck words live later out m t (q ∷ qs) h e =
+    go (same_task t q.task) refl e (hand-found deck words live later out m t qs h.1)
   where
-    go : (b : Bool) → same_task t q.task ≡ b → (b || is_among t (askers qs)) ≡ true → (is_among t (askers qs) ≡ true → (z : Req) × (t ≡ z.task) × IsHand deck words live later out m z) → (z : Req) × (t ≡ z.task) × IsHand deck words live later out m z
+    go : (b : Bool) → same_task t q.task ≡ b → (b || is_among t (askers qs)) ≡ true
+        → (is_among t (askers qs) ≡ true → (z : Req) × (t ≡ z.task) × IsHand deck words live later out m z)
+        → (z : Req) × (t ≡ z.task) × IsHand deck words live later out m z
     go true f k more = (q, same_task-exact t q.task f, h.0)
     go false f k more = more k
 
 -- whose item is still to come has no request in anybody's hands
-pub not-handed : (deck : Deck) (w : World) (g : IsWhole deck w) (s : ℕ) (t : TaskId) (y : RunItem) → is_home_at deck s t ≡ true → mine t (g.later s) ≡ y ∷ [] → IsInHands w t → ⊥
+pub not-handed : (deck : Deck) (w : World) (g : IsWhole deck w) (s : ℕ) (t : TaskId) (y : RunItem)
+    → is_home_at deck s t ≡ true → mine t (g.later s) ≡ y ∷ [] → IsInHands w t → ⊥
 not-handed deck w g s t y home due h =
-    let z = hand-found deck w.medium.words (are_live w) g.later g.out h.system t (in_hands h.part (inbox w.medium h.system)) (g.hands h.system h.node h.part h.at h.live h.star).each h.among in
+    let z =
+    hand-found deck w.medium.words (are_live w) g.later g.out h.system t (in_hands h.part (inbox w.medium h.system))
+    (g.hands h.system h.node h.part h.at h.live h.star).each h.among in
     let at_home : t.system.0 ≡ s = eqb-true t.system.0 s (and_parts (t.system.0 == s) _ home).0 in
-    let idle : mine t (g.later s) ≡ [] = ap (λ u. mine t (g.later u)) (sym at_home) ∙ (ap (λ (v : TaskId). mine v (g.later v.system.0)) z.1 ∙ z.2.idle) in
+    let idle : mine t (g.later s) ≡ [] =
+    ap (λ u. mine t (g.later u)) (sym at_home) ∙ (ap (λ (v : TaskId). mine v (g.later v.system.0)) z.1 ∙ z.2.idle) in
     let no : [] ≡ y ∷ [] = sym idle ∙ due in
     absurd (cc)
 
 -- the requests of a system's own tasks are in the hands of others
-pub handed-elsewhere : (deck : Deck) (w : World) (g : IsWhole deck w) (s : ℕ) (t : TaskId) → is_home_at deck s t ≡ true → (h : IsInHands w t) → h.system ≢ s
+pub handed-elsewhere : (deck : Deck) (w : World) (g : IsWhole deck w) (s : ℕ) (t : TaskId) → is_home_at deck s t ≡ true
+    → (h : IsInHands w t) → h.system ≢ s
 handed-elsewhere deck w g s t home h same =
-    let z = hand-found deck w.medium.words (are_live w) g.later g.out h.system t (in_hands h.part (inbox w.medium h.system)) (g.hands h.system h.node h.part h.at h.live h.star).each h.among in
+    let z =
+    hand-found deck w.medium.words (are_live w) g.later g.out h.system t (in_hands h.part (inbox w.medium h.system))
+    (g.hands h.system h.node h.part h.at h.live h.star).each h.among in
     let at_home : t.system.0 ≡ s = eqb-true t.system.0 s (and_parts (t.system.0 == s) _ home).0 in
     z.2.apart (ap (λ (v : TaskId). v.system.0) (sym z.1) ∙ (at_home ∙ sym same))
 
@@ -102,12 +129,16 @@ pub enq_count-grown : (xs ys : List RunItem) → enq_count xs ≤ enq_count (xs 
 enq_count-grown [] ys = omega arith
 enq_count-grown (x ∷ xs) ys = go (is_enq x.fixed) (enq_count-grown xs ys)
   where
-    go : (b : Bool) → enq_count xs ≤ enq_count (xs ++ ys) → length (cond b (x ∷ filter (λ z. is_enq z.fixed) xs) (filter (λ z. is_enq z.fixed) xs)) ≤ length (cond b (x ∷ filter (λ z. is_enq z.fixed) (xs ++ ys)) (filter (λ z. is_enq z.fixed) (xs ++ ys)))
+    go : (b : Bool) → enq_count xs ≤ enq_count (xs ++ ys)
+        → length (cond b (x ∷ filter (λ z. is_enq z.fixed) xs) (filter (λ z. is_enq z.fixed) xs))
+        ≤ length (cond b (x ∷ filter (λ z. is_enq z.fixed) (xs ++ ys)) (filter (λ z. is_enq z.fixed) (xs ++ ys)))
     go true h = omega (arith, h)
     go false h = h
 
 -- ---- the world after an event of system c
-module _ (deck : Deck) (w : World) (g : IsWhole deck w) (c : SysId) (n : NodeState) (at : slice_get w.nodes c.0 ≡ Some n) (alive : has w.medium.removed c.0 ≡ false) (o : Turnout) (same_removed : o.medium.removed ≡ w.medium.removed) where
+module _ (deck : Deck) (w : World) (g : IsWhole deck w) (c : SysId) (n : NodeState)
+    (at : slice_get w.nodes c.0 ≡ Some n) (alive : has w.medium.removed c.0 ≡ false) (o : Turnout)
+    (same_removed : o.medium.removed ≡ w.medium.removed) where
   -- who is removed stays so
   still-live : (s : ℕ) → has w.medium.removed s ≡ false → has o.medium.removed s ≡ false
   still-live s live = ap (λ i. has i s) same_removed ∙ live
@@ -125,7 +156,9 @@ module _ (deck : Deck) (w : World) (g : IsWhole deck w) (c : SysId) (n : NodeSta
           at = slice_get-set_other w.nodes c.0 h.system o.step.node ne ∙ h.at;
           live = still-live h.system h.live;
           star = h.star;
-          among = ap (λ ms. is_among t (askers (in_hands h.part ms))) b.1 ∙ among-grown t h.part.held (inbox w.medium h.system) b.0 h.among;
+          among =
+              ap (λ ms. is_among t (askers (in_hands h.part ms))) b.1
+              ∙ among-grown t h.part.held (inbox w.medium h.system) b.0 h.among;
         }
 
     -- those of the system's own tasks
@@ -133,24 +166,37 @@ module _ (deck : Deck) (w : World) (g : IsWhole deck w) (c : SysId) (n : NodeSta
     handed-own t home h = handed-on t h (handed-elsewhere deck w g c.0 t home h)
 
     -- by whose hands they are
-    by-hands : (t : TaskId) (X : Type 0) → IsInHands w t → ((p : StarPart) → n.star ≡ Some p → is_among t (askers (in_hands p (inbox w.medium c.0))) ≡ true → X) → (IsInHands (placed w c n o) t → X) → X
+    by-hands : (t : TaskId) (X : Type 0) → IsInHands w t
+        → ((p : StarPart) → n.star ≡ Some p → is_among t (askers (in_hands p (inbox w.medium c.0))) ≡ true → X)
+        → (IsInHands (placed w c n o) t → X) → X
     by-hands t X h own others = go (h.system == c.0) refl
       where
         go : (b : Bool) → (h.system == c.0) ≡ b → X
         go true e =
             let same : h.system ≡ c.0 = eqb-true h.system c.0 e in
             let node : n ≡ h.node = same_Some n h.node (sym at ∙ (ap (slice_get w.nodes) (sym same) ∙ h.at)) in
-            own h.part (ap (λ (z : NodeState). z.star) node ∙ h.star) (ap (λ u. is_among t (askers (in_hands h.part (inbox w.medium u)))) (sym same) ∙ h.among)
+            own h.part (ap (λ (z : NodeState). z.star) node ∙ h.star)
+            (ap (λ u. is_among t (askers (in_hands h.part (inbox w.medium u)))) (sym same) ∙ h.among)
         go false e = others (handed-on t h (eqb-false h.system c.0 e))
 
   untold-on : (s : ℕ) (t : TaskId) (r : Res) (h : IsUntold w s t r) → h.system ≢ c.0 → IsUntold (placed w c n o) s t r
   unfolding placed
-  untold-on s t r h ne = record { system = h.system; node = h.node; part = h.part; at = slice_get-set_other w.nodes c.0 h.system o.step.node ne ∙ h.at; live = still-live h.system h.live; star = h.star; apart = h.apart; untold = h.untold }
+  untold-on s t r h ne = record {
+    system = h.system;
+    node = h.node;
+    part = h.part;
+    at = slice_get-set_other w.nodes c.0 h.system o.step.node ne ∙ h.at;
+    live = still-live h.system h.live;
+    star = h.star;
+    apart = h.apart;
+    untold = h.untold;
+  }
 
   pub untold-own : (t : TaskId) (r : Res) → IsUntold w c.0 t r → IsUntold (placed w c n o) c.0 t r
   untold-own t r h = untold-on c.0 t r h h.apart
 
-  by-untold : (s : ℕ) (t : TaskId) (r : Res) (X : Type 0) → IsUntold w s t r → ((p : StarPart) → n.star ≡ Some p → is_untold_by p t r ≡ true → X) → (IsUntold (placed w c n o) s t r → X) → X
+  by-untold : (s : ℕ) (t : TaskId) (r : Res) (X : Type 0) → IsUntold w s t r
+      → ((p : StarPart) → n.star ≡ Some p → is_untold_by p t r ≡ true → X) → (IsUntold (placed w c n o) s t r → X) → X
   by-untold s t r X h own others = go (h.system == c.0) refl
     where
       go : (b : Bool) → (h.system == c.0) ≡ b → X
@@ -161,89 +207,158 @@ module _ (deck : Deck) (w : World) (g : IsWhole deck w) (c : SysId) (n : NodeSta
       go false e = others (untold-on s t r h (eqb-false h.system c.0 e))
 
   -- the system has these to tell now
-  pub untold-here : (s : ℕ) (t : TaskId) (r : Res) (p : StarPart) → s ≢ c.0 → o.step.node.star ≡ Some p → is_untold_by p t r ≡ true → IsUntold (placed w c n o) s t r
+  pub untold-here : (s : ℕ) (t : TaskId) (r : Res) (p : StarPart) → s ≢ c.0 → o.step.node.star ≡ Some p
+      → is_untold_by p t r ≡ true → IsUntold (placed w c n o) s t r
   unfolding placed
-  untold-here s t r p ne star untold = record { system = c.0; node = o.step.node; part = p; at = slice_get-set w.nodes c.0 n o.step.node at; live = still-live c.0 alive; star = star; apart = λ e. ne (sym e); untold = untold }
+  untold-here s t r p ne star untold = record {
+    system = c.0;
+    node = o.step.node;
+    part = p;
+    at = slice_get-set w.nodes c.0 n o.step.node at;
+    live = still-live c.0 alive;
+    star = star;
+    apart = λ e. ne (sym e);
+    untold = untold;
+  }
 
   -- and has these requests in its hands
-  pub handed-here : (t : TaskId) (p : StarPart) → o.step.node.star ≡ Some p → is_among t (askers (in_hands p (inbox o.medium c.0))) ≡ true → IsInHands (placed w c n o) t
+  pub handed-here : (t : TaskId) (p : StarPart) → o.step.node.star ≡ Some p
+      → is_among t (askers (in_hands p (inbox o.medium c.0))) ≡ true → IsInHands (placed w c n o) t
   unfolding placed
-  handed-here t p star among = record { system = c.0; node = o.step.node; part = p; at = slice_get-set w.nodes c.0 n o.step.node at; live = still-live c.0 alive; star = star; among = among }
+  handed-here t p star among = record {
+    system = c.0;
+    node = o.step.node;
+    part = p;
+    at = slice_get-set w.nodes c.0 n o.step.node at;
+    live = still-live c.0 alive;
+    star = star;
+    among = among;
+  }
 
   -- a task whose request isn't outstanding has each element on record
-  pub own-recorded : (g' : IsWhole deck (placed w c n o)) (t : TaskId) → is_home_at deck c.0 t ≡ true → (r : Res) → has_task (list_of (lists_then w c o) r) t ≡ true → (has_res r (state_of o.step.node.tasks t).records ≡ true) ⊎ ((y : RunItem) × (mine t (g'.later c.0) ≡ y ∷ []) × (sent_by o.step.node t ≡ true))
+  pub own-recorded : (g' : IsWhole deck (placed w c n o)) (t : TaskId) → is_home_at deck c.0 t ≡ true → (r : Res)
+      → has_task (list_of (lists_then w c o) r) t ≡ true
+      → (has_res r (state_of o.step.node.tasks t).records ≡ true)
+      ⊎ ((y : RunItem) × (mine t (g'.later c.0) ≡ y ∷ []) × (sent_by o.step.node t ≡ true))
   unfolding placed
   own-recorded g' t home r has =
       let h = g'.system c.0 o.step.node (slice_get-set w.nodes c.0 n o.step.node at) (still-live c.0 alive) in
-      go (recorded-or-due deck o.medium.words (items (w.fixed ++ fixed_by c o.step.fixed)) g'.right c.0 o.step.node (inbox o.medium c.0) (g'.later c.0) (g'.out c.0) h t home r has)
+      go (recorded-or-due deck o.medium.words (items (w.fixed ++ fixed_by c o.step.fixed)) g'.right c.0 o.step.node
+      (inbox o.medium c.0) (g'.later c.0) (g'.out c.0) h t home r has)
     where
-      go : (has_res r (state_of o.step.node.tasks t).records ≡ true) ⊎ IsDueOn deck o.medium.words c.0 o.step.node (g'.later c.0) t r → (has_res r (state_of o.step.node.tasks t).records ≡ true) ⊎ ((y : RunItem) × (mine t (g'.later c.0) ≡ y ∷ []) × (sent_by o.step.node t ≡ true))
+      go : (has_res r (state_of o.step.node.tasks t).records ≡ true)
+          ⊎ IsDueOn deck o.medium.words c.0 o.step.node (g'.later c.0) t r
+          → (has_res r (state_of o.step.node.tasks t).records ≡ true)
+          ⊎ ((y : RunItem) × (mine t (g'.later c.0) ≡ y ∷ []) × (sent_by o.step.node t ≡ true))
       go (inl z) = inl z
-      go (inr d) = inr (d.item, d.due, (due-sent deck o.medium.words (items (w.fixed ++ fixed_by c o.step.fixed)) g'.right c.0 o.step.node (inbox o.medium c.0) (g'.later c.0) (g'.out c.0) (g'.system c.0 o.step.node (slice_get-set w.nodes c.0 n o.step.node at) (still-live c.0 alive)) t home d.item d.due).1)
+      go (inr d) =
+          inr (
+            d.item,
+            d.due,
+            (due-sent deck o.medium.words (items (w.fixed ++ fixed_by c o.step.fixed)) g'.right c.0 o.step.node
+                (inbox o.medium c.0) (g'.later c.0) (g'.out c.0)
+                (g'.system c.0 o.step.node (slice_get-set w.nodes c.0 n o.step.node at) (still-live c.0 alive)) t home
+                d.item d.due).1,
+          )
 
   -- so where it has sent none
-  pub own-recorded-ready : IsWhole deck (placed w c n o) → (t : TaskId) → is_home_at deck c.0 t ≡ true → (r : Res) → has_task (list_of (lists_then w c o) r) t ≡ true → sent_by o.step.node t ≡ false → has_res r (state_of o.step.node.tasks t).records ≡ true
+  pub own-recorded-ready : IsWhole deck (placed w c n o) → (t : TaskId) → is_home_at deck c.0 t ≡ true → (r : Res)
+      → has_task (list_of (lists_then w c o) r) t ≡ true → sent_by o.step.node t ≡ false
+      → has_res r (state_of o.step.node.tasks t).records ≡ true
   own-recorded-ready g' t home r has ready = go (own-recorded g' t home r has)
     where
-      go : (has_res r (state_of o.step.node.tasks t).records ≡ true) ⊎ ((y : RunItem) × (mine t (g'.later c.0) ≡ y ∷ []) × (sent_by o.step.node t ≡ true)) → has_res r (state_of o.step.node.tasks t).records ≡ true
+      go : (has_res r (state_of o.step.node.tasks t).records ≡ true)
+          ⊎ ((y : RunItem) × (mine t (g'.later c.0) ≡ y ∷ []) × (sent_by o.step.node t ≡ true))
+          → has_res r (state_of o.step.node.tasks t).records ≡ true
       go (inl z) = z
       go (inr z) = absurd (let no : false ≡ true = sym ready ∙ z.2 in cc)
 
   -- ---- nothing is lost
-  module _ (sent : ℕ → TaskId → Bool) (had : ℕ → TaskId → Res → Bool) (h : IsHeard deck w (sent_with sent c n) (had_with had c n)) (g' : IsWhole deck (placed w c n o)) (z : Passes deck w c n o) where
+  module _ (sent : ℕ → TaskId → Bool) (had : ℕ → TaskId → Res → Bool)
+      (h : IsHeard deck w (sent_with sent c n) (had_with had c n)) (g' : IsWhole deck (placed w c n o))
+      (z : Passes deck w c n o) where
     -- by systems: that of the event, and the others
-    by-system : (P : ℕ → NodeState → Type 0) → P c.0 o.step.node → ((s : ℕ) (k : NodeState) → s ≢ c.0 → slice_get w.nodes s ≡ Some k → P s k) → (s : ℕ) (k : NodeState) → slice_get (set w.nodes c.0 o.step.node) s ≡ Some k → P s k
+    by-system : (P : ℕ → NodeState → Type 0) → P c.0 o.step.node
+        → ((s : ℕ) (k : NodeState) → s ≢ c.0 → slice_get w.nodes s ≡ Some k → P s k) → (s : ℕ) (k : NodeState)
+        → slice_get (set w.nodes c.0 o.step.node) s ≡ Some k → P s k
     by-system P own others s k f = go (s == c.0) refl
       where
         go : (b : Bool) → (s == c.0) ≡ b → P s k
         go true e =
             let same : s ≡ c.0 = eqb-true s c.0 e in
-            let is : o.step.node ≡ k = same_Some o.step.node k (sym (slice_get-set w.nodes c.0 n o.step.node at) ∙ (ap (slice_get (set w.nodes c.0 o.step.node)) (sym same) ∙ f)) in
+            let is : o.step.node ≡ k =
+            same_Some o.step.node k (sym (slice_get-set w.nodes c.0 n o.step.node at)
+            ∙ (ap (slice_get (set w.nodes c.0 o.step.node)) (sym same) ∙ f)) in
             subst (P s) is (subst (λ u. P u o.step.node) (sym same) own)
-        go false e = let ne : s ≢ c.0 = eqb-false s c.0 e in others s k ne (sym (slice_get-set_other w.nodes c.0 s o.step.node ne) ∙ f)
+        go false e =
+            let ne : s ≢ c.0 = eqb-false s c.0 e in
+            others s k ne (sym (slice_get-set_other w.nodes c.0 s o.step.node ne) ∙ f)
 
     grown_count : enq_count (items w.fixed) ≤ enq_count (items (w.fixed ++ fixed_by c o.step.fixed))
-    grown_count = subst (λ xs. enq_count (items w.fixed) ≤ enq_count xs) (sym (items-append w.fixed (fixed_by c o.step.fixed))) (enq_count-grown (items w.fixed) (items_from (lists (items w.fixed)) (fixed_by c o.step.fixed)))
+    grown_count =
+        subst (λ xs. enq_count (items w.fixed) ≤ enq_count xs) (sym (items-append w.fixed (fixed_by c o.step.fixed)))
+        (enq_count-grown (items w.fixed) (items_from (lists (items w.fixed)) (fixed_by c o.step.fixed)))
 
-    timely-on : (s : ℕ) → s ≢ c.0 → (t : TaskId) → list_any (is_timely t) (inbox w.medium s) ≡ true → list_any (is_timely t) (inbox o.medium s) ≡ true
-    timely-on s ne t e = let b = z.boxes s ne in ap (list_any (is_timely t)) b.1 ∙ any-grown (is_timely t) (inbox w.medium s) b.0 e
+    timely-on : (s : ℕ) → s ≢ c.0 → (t : TaskId) → list_any (is_timely t) (inbox w.medium s) ≡ true
+        → list_any (is_timely t) (inbox o.medium s) ≡ true
+    timely-on s ne t e =
+        let b = z.boxes s ne in ap (list_any (is_timely t)) b.1 ∙ any-grown (is_timely t) (inbox w.medium s) b.0 e
 
-    requests-others : (s : ℕ) → s ≢ c.0 → (t : TaskId) → is_home_at deck s t ≡ true → Requested w s t → Requested (placed w c n o) s t
+    requests-others : (s : ℕ) → s ≢ c.0 → (t : TaskId) → is_home_at deck s t ≡ true → Requested w s t
+        → Requested (placed w c n o) s t
     unfolding placed
-    requests-others s ne t home (inl i) = by-hands z.boxes t (Requested (placed w c n o) s t) i (λ p star among. z.passed s t p ne home star among) (λ j. inl j)
+    requests-others s ne t home (inl i) =
+        by-hands z.boxes t (Requested (placed w c n o) s t) i (λ p star among. z.passed s t p ne home star among)
+        (λ j. inl j)
     requests-others s ne t home (inr e) = inr (timely-on s ne t e)
 
-    owners-others : (s : ℕ) (k : NodeState) → s ≢ c.0 → slice_get w.nodes s ≡ Some k → has w.medium.removed s ≡ false → (t : TaskId) (r : Res) → is_home_at deck s t ≡ true → is_systems r ≡ true → owns (list_of (lists_then w c o) r) t ≡ true →
+    owners-others : (s : ℕ) (k : NodeState) → s ≢ c.0 → slice_get w.nodes s ≡ Some k → has w.medium.removed s ≡ false
+        → (t : TaskId) (r : Res) → is_home_at deck s t ≡ true → is_systems r ≡ true
+        → owns (list_of (lists_then w c o) r) t ≡ true →
         (had s t r ≡ true) ⊎ Hearable w s k t r → (had s t r ≡ true) ⊎ Hearable (placed w c n o) s k t r
     unfolding placed
     owners-others s k ne found lives t r home wide owned (inl e) = inl e
     owners-others s k ne found lives t r home wide owned (inr (inl e)) =
         let b = z.boxes s ne in
-        inr (inl (ap (hears t r (has_res r (state_of k.tasks t).records)) b.1 ∙ hears-grown t r (has_res r (state_of k.tasks t).records) (inbox w.medium s) b.0 e))
-    owners-others s k ne found lives t r home wide owned (inr (inr u)) = by-untold s t r ((had s t r ≡ true) ⊎ Hearable (placed w c n o) s k t r) u
+        inr (inl (ap (hears t r (has_res r (state_of k.tasks t).records)) b.1
+        ∙ hears-grown t r (has_res r (state_of k.tasks t).records) (inbox w.medium s) b.0 e))
+    owners-others s k ne found lives t r home wide owned (inr (inr u)) =
+        by-untold s t r ((had s t r ≡ true) ⊎ Hearable (placed w c n o) s k t r) u
         (λ p star untold. inr (z.told s k t r p ne found lives home wide owned star untold)) (λ v. inr (inr v))
 
-    recorded-own : (t : TaskId) (r : Res) → is_home_at deck c.0 t ≡ true → has_task (list_of (lists_then w c o) r) t ≡ true → (has_res r (state_of o.step.node.tasks t).records ≡ true) ⊎ (list_any (is_timely t) (inbox o.medium c.0) ≡ true)
+    recorded-own : (t : TaskId) (r : Res) → is_home_at deck c.0 t ≡ true
+        → has_task (list_of (lists_then w c o) r) t ≡ true
+        → (has_res r (state_of o.step.node.tasks t).records ≡ true)
+        ⊎ (list_any (is_timely t) (inbox o.medium c.0) ≡ true)
     unfolding placed
     recorded-own t r home has = go (own-recorded g' t home r has)
       where
-        go : (has_res r (state_of o.step.node.tasks t).records ≡ true) ⊎ ((y : RunItem) × (mine t (g'.later c.0) ≡ y ∷ []) × (sent_by o.step.node t ≡ true)) → (has_res r (state_of o.step.node.tasks t).records ≡ true) ⊎ (list_any (is_timely t) (inbox o.medium c.0) ≡ true)
+        go : (has_res r (state_of o.step.node.tasks t).records ≡ true)
+            ⊎ ((y : RunItem) × (mine t (g'.later c.0) ≡ y ∷ []) × (sent_by o.step.node t ≡ true))
+            → (has_res r (state_of o.step.node.tasks t).records ≡ true)
+            ⊎ (list_any (is_timely t) (inbox o.medium c.0) ≡ true)
         go (inl e) = inl e
         go (inr y) = by-request (z.requests t home y.2)
           where
-            by-request : Requested (placed w c n o) c.0 t → (has_res r (state_of o.step.node.tasks t).records ≡ true) ⊎ (list_any (is_timely t) (inbox o.medium c.0) ≡ true)
+            by-request : Requested (placed w c n o) c.0 t
+                → (has_res r (state_of o.step.node.tasks t).records ≡ true)
+                ⊎ (list_any (is_timely t) (inbox o.medium c.0) ≡ true)
             by-request (inl i) = absurd (not-handed deck (placed w c n o) g' c.0 t y.0 home y.1 i)
             by-request (inr e) = inr e
 
-    recorded-others : (s : ℕ) (k : NodeState) → s ≢ c.0 → slice_get w.nodes s ≡ Some k → has w.medium.removed s ≡ false → (t : TaskId) (r : Res) → is_home_at deck s t ≡ true → is_systems r ≡ true → has_task (list_of (lists_then w c o) r) t ≡ true →
+    recorded-others : (s : ℕ) (k : NodeState) → s ≢ c.0 → slice_get w.nodes s ≡ Some k → has w.medium.removed s ≡ false
+        → (t : TaskId) (r : Res) → is_home_at deck s t ≡ true → is_systems r ≡ true
+        → has_task (list_of (lists_then w c o) r) t ≡ true →
         (has_res r (state_of k.tasks t).records ≡ true) ⊎ (list_any (is_timely t) (inbox o.medium s) ≡ true)
     recorded-others s k ne found lives t r home wide has = go (has_task (list_of (all_lists w) r) t) refl
       where
-        before : (has_res r (state_of k.tasks t).records ≡ true) ⊎ (list_any (is_timely t) (inbox w.medium s) ≡ true) → (has_res r (state_of k.tasks t).records ≡ true) ⊎ (list_any (is_timely t) (inbox o.medium s) ≡ true)
+        before : (has_res r (state_of k.tasks t).records ≡ true) ⊎ (list_any (is_timely t) (inbox w.medium s) ≡ true)
+            → (has_res r (state_of k.tasks t).records ≡ true) ⊎ (list_any (is_timely t) (inbox o.medium s) ≡ true)
         before (inl e) = inl e
         before (inr e) = inr (timely-on s ne t e)
 
-        go : (b : Bool) → has_task (list_of (all_lists w) r) t ≡ b → (has_res r (state_of k.tasks t).records ≡ true) ⊎ (list_any (is_timely t) (inbox o.medium s) ≡ true)
+        go : (b : Bool) → has_task (list_of (all_lists w) r) t ≡ b
+            → (has_res r (state_of k.tasks t).records ≡ true) ⊎ (list_any (is_timely t) (inbox o.medium s) ≡ true)
         go true e = before (h.recorded s k t r found lives home wide e)
         go false e = inr (z.queued s k t r ne found lives home wide e has)
 
@@ -252,25 +367,47 @@ module _ (deck : Deck) (w : World) (g : IsWhole deck w) (c : SysId) (n : NodeSta
       where
         go : (b : Bool) → (s == c.0) ≡ b → AreAddressed deck (inbox o.medium s)
         go true e = subst (λ u. AreAddressed deck (inbox o.medium u)) (sym (eqb-true s c.0 e)) z.own_box
-        go false e = let b = z.boxes s (eqb-false s c.0 e) in subst (AreAddressed deck) (sym b.1) (addressed-grown deck (inbox w.medium s) b.0 (h.mails s) b.2)
+        go false e =
+            let b = z.boxes s (eqb-false s c.0 e) in
+            subst (AreAddressed deck) (sym b.1) (addressed-grown deck (inbox w.medium s) b.0 (h.mails s) b.2)
 
     pub heard-placed : IsHeard deck (placed w c n o) (sent_with sent c o.step.node) (had_with had c o.step.node)
     unfolding placed
     heard-placed = record {
-      requests = λ s k t found live home is. by-system (λ u y. has w.medium.removed u ≡ false → is_home_at deck u t ≡ true → sent_with sent c o.step.node u t ≡ true → Requested (placed w c n o) u t)
+      requests = λ s k t found live home is.
+          by-system (λ u y.
+          has w.medium.removed u ≡ false → is_home_at deck u t ≡ true → sent_with sent c o.step.node u t ≡ true
+          → Requested (placed w c n o) u t)
           (λ l own is_sent. z.requests t own (sym (ap (λ f. f t) (put_here sent c.0 (sent_by o.step.node))) ∙ is_sent))
-          (λ u y ne at_u l there is_sent. requests-others u ne t there (h.requests u y t at_u l there (ap (λ f. f t) (put_other sent c.0 (sent_by n) u ne) ∙ (sym (ap (λ f. f t) (put_other sent c.0 (sent_by o.step.node) u ne)) ∙ is_sent))))
+          (λ u y ne at_u l there is_sent.
+          requests-others u ne t there (h.requests u y t at_u l there
+          (ap (λ f. f t) (put_other sent c.0 (sent_by n) u ne)
+          ∙ (sym (ap (λ f. f t) (put_other sent c.0 (sent_by o.step.node) u ne)) ∙ is_sent))))
           s k found (was-live s live) home is;
-      owners = λ s k t r found live home wide owned. by-system (λ u y. has w.medium.removed u ≡ false → is_home_at deck u t ≡ true → (had_with had c o.step.node u t r ≡ true) ⊎ Hearable (placed w c n o) u y t r)
-          (λ l own. subst (λ b. (b ≡ true) ⊎ Hearable (placed w c n o) c.0 o.step.node t r) (sym (ap (λ f. f t r) (put_here had c.0 (had_by o.step.node)))) (z.owners t r own wide owned))
-          (λ u y ne at_u l there. subst (λ b. (b ≡ true) ⊎ Hearable (placed w c n o) u y t r) (sym (ap (λ f. f t r) (put_other had c.0 (had_by o.step.node) u ne))) (by-owner u y ne at_u l t r there wide owned))
+      owners = λ s k t r found live home wide owned.
+          by-system (λ u y.
+          has w.medium.removed u ≡ false → is_home_at deck u t ≡ true
+          → (had_with had c o.step.node u t r ≡ true) ⊎ Hearable (placed w c n o) u y t r)
+          (λ l own.
+          subst (λ b. (b ≡ true) ⊎ Hearable (placed w c n o) c.0 o.step.node t r)
+          (sym (ap (λ f. f t r) (put_here had c.0 (had_by o.step.node)))) (z.owners t r own wide owned))
+          (λ u y ne at_u l there.
+          subst (λ b. (b ≡ true) ⊎ Hearable (placed w c n o) u y t r)
+          (sym (ap (λ f. f t r) (put_other had c.0 (had_by o.step.node) u ne)))
+          (by-owner u y ne at_u l t r there wide owned))
           s k found (was-live s live) home;
-      recorded = λ s k t r found live home wide has_it. by-system (λ u y. has w.medium.removed u ≡ false → is_home_at deck u t ≡ true → (has_res r (state_of y.tasks t).records ≡ true) ⊎ (list_any (is_timely t) (inbox o.medium u) ≡ true))
+      recorded = λ s k t r found live home wide has_it.
+          by-system (λ u y.
+          has w.medium.removed u ≡ false → is_home_at deck u t ≡ true
+          → (has_res r (state_of y.tasks t).records ≡ true) ⊎ (list_any (is_timely t) (inbox o.medium u) ≡ true))
           (λ l own. recorded-own t r own has_it)
           (λ u y ne at_u l there. recorded-others u y ne at_u l t r there wide has_it)
           s k found (was-live s live) home;
       mails = mails-now;
-      ranks = λ m k p e x found live star managed. by-system (λ u y. has w.medium.removed u ≡ false → y.star ≡ Some p → x.next ≤ suc (enq_count (items (w.fixed ++ fixed_by c o.step.fixed))))
+      ranks = λ m k p e x found live star managed.
+          by-system (λ u y.
+          has w.medium.removed u ≡ false → y.star ≡ Some p
+          → x.next ≤ suc (enq_count (items (w.fixed ++ fixed_by c o.step.fixed))))
           (λ l own. z.ranks p e x own managed)
           (λ u y ne at_u l own. let old = h.ranks u y p e x at_u l own managed in omega (arith, old, grown_count))
           m k found (was-live m live) star;
@@ -279,9 +416,15 @@ module _ (deck : Deck) (w : World) (g : IsWhole deck w) (c : SysId) (n : NodeSta
         was-live : (s : ℕ) → has o.medium.removed s ≡ false → has w.medium.removed s ≡ false
         was-live s live = sym (ap (λ i. has i s) same_removed) ∙ live
 
-        by-owner : (u : ℕ) (y : NodeState) → u ≢ c.0 → slice_get w.nodes u ≡ Some y → has w.medium.removed u ≡ false → (t : TaskId) (r : Res) → is_home_at deck u t ≡ true → is_systems r ≡ true → owns (list_of (lists_then w c o) r) t ≡ true → (had u t r ≡ true) ⊎ Hearable (placed w c n o) u y t r
+        by-owner : (u : ℕ) (y : NodeState) → u ≢ c.0 → slice_get w.nodes u ≡ Some y → has w.medium.removed u ≡ false
+            → (t : TaskId) (r : Res) → is_home_at deck u t ≡ true → is_systems r ≡ true
+            → owns (list_of (lists_then w c o) r) t ≡ true → (had u t r ≡ true) ⊎ Hearable (placed w c n o) u y t r
         by-owner u y ne at_u lives t r there wide owned = go (owns (list_of (all_lists w) r) t) refl
           where
-            go : (b : Bool) → owns (list_of (all_lists w) r) t ≡ b → (had u t r ≡ true) ⊎ Hearable (placed w c n o) u y t r
-            go true e = owners-others u y ne at_u lives t r there wide owned (subst (λ b. (b ≡ true) ⊎ Hearable w u y t r) (ap (λ f. f t r) (put_other had c.0 (had_by n) u ne)) (h.owners u y t r at_u lives there wide e))
+            go : (b : Bool) → owns (list_of (all_lists w) r) t ≡ b
+                → (had u t r ≡ true) ⊎ Hearable (placed w c n o) u y t r
+            go true e =
+                owners-others u y ne at_u lives t r there wide owned
+                (subst (λ b. (b ≡ true) ⊎ Hearable w u y t r) (ap (λ f. f t r) (put_other had c.0 (had_by n) u ne))
+                (h.owners u y t r at_u lives there wide e))
             go false e = inr (z.gained u y t r ne at_u lives there wide e owned)

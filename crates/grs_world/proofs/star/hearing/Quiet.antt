@@ -1,5 +1,6 @@
 -- Events that leave all mail: nothing happens, a task goes on by itself, or a system gives up its interest in an entry.
-use Rattle.std.proofs.Common.{◌≡◌, ◌≤◌, ℕ, suc, true, false, ◌&&◌, List, [], ◌∷◌, ◌++◌, length, Some, refl, ap, sym, ◌∙◌, subst, arith}
+use Rattle.std.proofs.Common.{◌≡◌, ◌≤◌, ℕ, suc, true, false, ◌&&◌, List, [], ◌∷◌, ◌++◌, length, Some, refl, ap, sym}
+use Rattle.std.proofs.Common.{◌∙◌, subst, arith}
 use Rattle.std.specs.Prelude.{◌==◌, slice_get}
 use Rattle.std.proofs.lemmas.Bool.{and_parts}
 use Rattle.contention_mgr.specs.Manager.{Managed, items_of, managed_at}
@@ -38,66 +39,108 @@ use Rattle.grs_world.specs.World.{World, fixed_by, placed}
 use Rattle.grs_wire.specs.Masks.{has}
 
 -- the same part
-pub holds-same : (p : StarPart) (T T' : List RunItem) → enq_count T ≤ enq_count T' → ((e : ℕ) (x : Managed) → managed_at p.manager e ≡ Some x → x.next ≤ suc (enq_count T)) → Holds p p T'
-holds-same p T T' more ranks = record { held = refl; untold = λ t r h. h; ranks = λ e x managed. let low = ranks e x managed in omega (arith, low, more) }
+pub holds-same : (p : StarPart) (T T' : List RunItem) → enq_count T ≤ enq_count T'
+    → ((e : ℕ) (x : Managed) → managed_at p.manager e ≡ Some x → x.next ≤ suc (enq_count T)) → Holds p p T'
+holds-same p T T' more ranks = record {
+  held = refl;
+  untold = λ t r h. h;
+  ranks = λ e x managed. let low = ranks e x managed in omega (arith, low, more);
+}
 
-module _ (deck : Deck) (w : World) (g : IsWhole deck w) (c : SysId) (n : NodeState) (at : slice_get w.nodes c.0 ≡ Some n) (alive : has w.medium.removed c.0 ≡ false) where
+module _ (deck : Deck) (w : World) (g : IsWhole deck w) (c : SysId) (n : NodeState)
+    (at : slice_get w.nodes c.0 ≡ Some n) (alive : has w.medium.removed c.0 ≡ false) where
   abbrev me : IsMember deck w.medium.words (all_lists w) c.0 n
   me = g.roles.node c.0 n at alive
 
   -- ---- nothing happens to mail, tasks and the part, whatever happens to the medium else
-  pub heard-still : (m : MediumState) → m.inboxes ≡ w.medium.inboxes → m.removed ≡ w.medium.removed → (k : NodeState) → Gentle n.tasks k.tasks → k.star ≡ n.star →
-      IsWhole deck (placed w c n (record { medium = m; step = record { node = k; fixed = [] } })) → StaysHeard deck w c n (record { medium = m; step = record { node = k; fixed = [] } })
+  pub heard-still : (m : MediumState) → m.inboxes ≡ w.medium.inboxes → m.removed ≡ w.medium.removed → (k : NodeState)
+      → Gentle n.tasks k.tasks → k.star ≡ n.star →
+      IsWhole deck (placed w c n (record { medium = m; step = record { node = k; fixed = [] } }))
+      → StaysHeard deck w c n (record { medium = m; step = record { node = k; fixed = [] } })
   heard-still m boxes removed k gentle star =
       heard-calm deck w g c n at alive (record { medium = m; step = record { node = k; fixed = [] } }) removed
       (λ u. ap (λ bs. inbox_of bs u) boxes) gentle
       (λ r wide. ap (λ T. list_of (lists T) r) (items-none w.fixed c))
       me.part me.part me.star (star ∙ me.star)
-      (λ ranks. subst (λ T. Holds me.part me.part T) (sym (items-none w.fixed c)) (holds-same me.part (items w.fixed) (items w.fixed) (omega arith) ranks))
+      (λ ranks.
+      subst (λ T. Holds me.part me.part T) (sym (items-none w.fixed c))
+      (holds-same me.part (items w.fixed) (items w.fixed) (omega arith) ranks))
 
   -- ---- a task goes on by itself
   -- a request that doesn't go with the message leaves the resources of the whole complex
   pub other-kind : (q : Want) (r : Res) → is_systems r ≡ true → wants_round q ≡ false → speaks_of q r ≡ false
-  other-kind (Enq p c ret full) r wide narrow = false_by (same_res r p) (λ e. no_truth (is_systems r) wide (ap is_systems (same_res-exact r p e) ∙ narrow))
-  other-kind (Deq p have) r wide narrow = false_by (same_res r p) (λ e. no_truth (is_systems r) wide (ap is_systems (same_res-exact r p e) ∙ narrow))
-  other-kind (Release p) r wide narrow = false_by (same_res r p) (λ e. no_truth (is_systems r) wide (ap is_systems (same_res-exact r p e) ∙ narrow))
+  other-kind (Enq p c ret full) r wide narrow =
+      false_by (same_res r p) (λ e. no_truth (is_systems r) wide (ap is_systems (same_res-exact r p e) ∙ narrow))
+  other-kind (Deq p have) r wide narrow =
+      false_by (same_res r p) (λ e. no_truth (is_systems r) wide (ap is_systems (same_res-exact r p e) ∙ narrow))
+  other-kind (Release p) r wide narrow =
+      false_by (same_res r p) (λ e. no_truth (is_systems r) wide (ap is_systems (same_res-exact r p e) ∙ narrow))
   other-kind (Look first count f) r wide narrow = refl
 
   task_gentle : (t : TaskId) → may_go deck n t ≡ true → Gentle n.tasks (finish_quiet deck n (choices.Task t)).node.tasks
   unfolding finish_quiet may_go
-  task_gentle t goes = gentle-task t deck.limit n (lines_of deck t) (and_parts (is_task n.tasks t) (is_of_deck deck t && goes_on (state_of n.tasks t).phase) goes).0
+  task_gentle t goes =
+      gentle-task t deck.limit n (lines_of deck t)
+      (and_parts (is_task n.tasks t) (is_of_deck deck t && goes_on (state_of n.tasks t).phase) goes).0
 
   task_star : (t : TaskId) → (finish_quiet deck n (choices.Task t)).node.star ≡ Some me.part
   unfolding finish_quiet
   task_star t = (task-quiet me.part n me.star deck.limit t (lines_of deck t)).star ∙ me.star
 
-  pub heard-task : (t : TaskId) → may_go deck n t ≡ true → Task deck w.medium.words (items w.fixed) g.right c.0 n (inbox w.medium c.0) (g.later c.0) (g.out c.0) (g.system c.0 n at alive) c (finish_quiet deck n (choices.Task t)) →
-      IsWhole deck (placed w c n (record { medium = w.medium; step = finish_quiet deck n (choices.Task t) })) → StaysHeard deck w c n (record { medium = w.medium; step = finish_quiet deck n (choices.Task t) })
+  pub heard-task : (t : TaskId) → may_go deck n t ≡ true
+      → Task deck w.medium.words (items w.fixed) g.right c.0 n (inbox w.medium c.0) (g.later c.0) (g.out c.0)
+      (g.system c.0 n at alive) c (finish_quiet deck n (choices.Task t))
+      →
+      IsWhole deck (placed w c n (record { medium = w.medium; step = finish_quiet deck n (choices.Task t) }))
+      → StaysHeard deck w c n (record { medium = w.medium; step = finish_quiet deck n (choices.Task t) })
   heard-task t goes z =
       heard-calm deck w g c n at alive (record { medium = w.medium; step = finish_quiet deck n (choices.Task t) }) refl
       (λ u. refl) (task_gentle t goes)
       (λ r wide. (by-fixed z).0 r wide)
       me.part me.part me.star (task_star t)
-      (λ ranks. holds-same me.part (items w.fixed) (items (w.fixed ++ fixed_by c (finish_quiet deck n (choices.Task t)).fixed)) (by-fixed z).1 ranks)
+      (λ ranks.
+      holds-same me.part (items w.fixed) (items (w.fixed ++ fixed_by c (finish_quiet deck n (choices.Task t)).fixed))
+      (by-fixed z).1 ranks)
     where
-      by-fixed : Task deck w.medium.words (items w.fixed) g.right c.0 n (inbox w.medium c.0) (g.later c.0) (g.out c.0) (g.system c.0 n at alive) c (finish_quiet deck n (choices.Task t)) →
-          ((r : Res) → is_systems r ≡ true → list_of (lists (items (w.fixed ++ fixed_by c (finish_quiet deck n (choices.Task t)).fixed))) r ≡ list_of (lists (items w.fixed)) r) × (enq_count (items w.fixed) ≤ enq_count (items (w.fixed ++ fixed_by c (finish_quiet deck n (choices.Task t)).fixed)))
+      by-fixed :
+          Task deck w.medium.words (items w.fixed) g.right c.0 n (inbox w.medium c.0) (g.later c.0) (g.out c.0)
+          (g.system c.0 n at alive) c (finish_quiet deck n (choices.Task t))
+          →
+          ((r : Res) → is_systems r ≡ true
+          → list_of (lists (items (w.fixed ++ fixed_by c (finish_quiet deck n (choices.Task t)).fixed))) r
+          ≡ list_of (lists (items w.fixed)) r)
+          × (enq_count (items w.fixed)
+          ≤ enq_count (items (w.fixed ++ fixed_by c (finish_quiet deck n (choices.Task t)).fixed)))
       by-fixed (idle_task nothing y) =
-          let same : items (w.fixed ++ fixed_by c (finish_quiet deck n (choices.Task t)).fixed) ≡ items w.fixed = ap (λ fs. items (w.fixed ++ fixed_by c fs)) nothing ∙ items-none w.fixed c in
-          (λ r wide. ap (λ T. list_of (lists T) r) same, subst (λ T. enq_count (items w.fixed) ≤ enq_count T) (sym same) (omega arith))
+          let same : items (w.fixed ++ fixed_by c (finish_quiet deck n (choices.Task t)).fixed) ≡ items w.fixed =
+          ap (λ fs. items (w.fixed ++ fixed_by c fs)) nothing ∙ items-none w.fixed c in (
+            λ r wide. ap (λ T. list_of (lists T) r) same,
+            subst (λ T. enq_count (items w.fixed) ≤ enq_count T) (sym same) (omega arith),
+          )
       by-fixed (local_task q one mine away m y) =
           let item : RunItem = made_item c (items w.fixed) (fixing.Asked q) in
-          let same : items (w.fixed ++ fixed_by c (finish_quiet deck n (choices.Task t)).fixed) ≡ items w.fixed ++ item ∷ [] = ap (λ fs. items (w.fixed ++ fixed_by c fs)) one ∙ items-one w.fixed c (fixing.Asked q) in (
-            λ r wide. ap (λ T. list_of (lists T) r) same ∙ (ap (λ s. list_of s r) (lists-push (items w.fixed) item) ∙ list_of-want_other (lists (items w.fixed)) q.task q.want r (other-kind q.want r wide away)),
-            subst (λ T. enq_count (items w.fixed) ≤ enq_count T) (sym same) (enq_count-grown (items w.fixed) (item ∷ [])),
+          let same : items (w.fixed ++ fixed_by c (finish_quiet deck n (choices.Task t)).fixed)
+          ≡ items w.fixed ++ item ∷ [] =
+          ap (λ fs. items (w.fixed ++ fixed_by c fs)) one ∙ items-one w.fixed c (fixing.Asked q) in (
+            λ r wide.
+                ap (λ T. list_of (lists T) r) same
+                ∙ (ap (λ s. list_of s r) (lists-push (items w.fixed) item)
+                ∙ list_of-want_other (lists (items w.fixed)) q.task q.want r (other-kind q.want r wide away)),
+            subst (λ T. enq_count (items w.fixed) ≤ enq_count T) (sym same)
+                (enq_count-grown (items w.fixed) (item ∷ [])),
           )
 
   -- ---- a system gives up its interest in an entry
-  pub heard-left : (x : ℕ) → is_done_with me.part x ≡ true → (m : MediumState) → m.inboxes ≡ w.medium.inboxes → m.removed ≡ w.medium.removed →
-      IsWhole deck (placed w c n (record { medium = m; step = record { node = record n { star = Some (left_at me.part x) }; fixed = [] } })) → StaysHeard deck w c n (record { medium = m; step = record { node = record n { star = Some (left_at me.part x) }; fixed = [] } })
+  pub heard-left : (x : ℕ) → is_done_with me.part x ≡ true → (m : MediumState) → m.inboxes ≡ w.medium.inboxes
+      → m.removed ≡ w.medium.removed →
+      IsWhole deck (placed w c n
+      (record { medium = m; step = record { node = record n { star = Some (left_at me.part x) }; fixed = [] } }))
+      → StaysHeard deck w c n
+      (record { medium = m; step = record { node = record n { star = Some (left_at me.part x) }; fixed = [] } })
   heard-left x done m boxes removed =
       let empty = (and_parts (length (items_of (managed_at me.part.manager x)) == 0) _ done).0 in
-      heard-calm deck w g c n at alive (record { medium = m; step = record { node = record n { star = Some (left_at me.part x) }; fixed = [] } }) removed
+      heard-calm deck w g c n at alive
+      (record { medium = m; step = record { node = record n { star = Some (left_at me.part x) }; fixed = [] } }) removed
       (λ u. ap (λ bs. inbox_of bs u) boxes) (gentle-none n.tasks)
       (λ r wide. ap (λ T. list_of (lists T) r) (items-none w.fixed c))
       me.part (left_at me.part x) me.star refl

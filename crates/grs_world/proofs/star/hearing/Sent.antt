@@ -1,5 +1,6 @@
 -- A system sends a request of its own task to the manager of its entry: it is in that system's hands.
-use Rattle.std.proofs.Common.{inl, inr, ◌≡◌, ◌≢◌, ◌≤◌, ◌<◌, ℕ, suc, Bool, true, false, List, [], ◌∷◌, ◌++◌, length, Some, refl, ap, sym, ◌∙◌, subst, append-nil, arith}
+use Rattle.std.proofs.Common.{inl, inr, ◌≡◌, ◌≢◌, ◌≤◌, ◌<◌, ℕ, suc, Bool, true, false, List, [], ◌∷◌, ◌++◌, length}
+use Rattle.std.proofs.Common.{Some, refl, ap, sym, ◌∙◌, subst, append-nil, arith}
 use Rattle.std.specs.Prelude.{◌==◌, get_or, slice_get}
 use Rattle.std.proofs.lemmas.Bool.{eqb-true, eqb-false, or_left}
 use Rattle.std.proofs.lemmas.List.{get_or-set_same, get_or-set_other}
@@ -42,22 +43,35 @@ use Rattle.grs_world.proofs.star.hearing.Passing.{Grown, Requested, heard-placed
 use Rattle.grs_world.specs.World.{World, Turnout, fixed_by, placed}
 use Rattle.grs_wire.specs.Masks.{has}
 
-module _ (deck : Deck) (w : World) (g : IsWhole deck w) (c : SysId) (n : NodeState) (at : slice_get w.nodes c.0 ≡ Some n) (alive : has w.medium.removed c.0 ≡ false) (words : List ℕ) (flags : ℕ) (t : TaskId) (home : is_home_at deck c.0 t ≡ true) (here : is_task n.tasks t ≡ true) (a : Asked) (entry : ℕ) (of_entry : entry_wanted deck.entries a.req.want ≡ Some entry)
-    (s : SysId) (apart : s.0 ≢ c.0) (lives : are_live w s.0 ≡ true) (p p' : StarPart) (star : n.star ≡ Some p) (held : p'.held ≡ p.held) (manager : p'.manager ≡ p.manager) where
+module _ (deck : Deck) (w : World) (g : IsWhole deck w) (c : SysId) (n : NodeState)
+    (at : slice_get w.nodes c.0 ≡ Some n) (alive : has w.medium.removed c.0 ≡ false) (words : List ℕ) (flags : ℕ)
+    (t : TaskId) (home : is_home_at deck c.0 t ≡ true) (here : is_task n.tasks t ≡ true) (a : Asked) (entry : ℕ)
+    (of_entry : entry_wanted deck.entries a.req.want ≡ Some entry)
+    (s : SysId) (apart : s.0 ≢ c.0) (lives : are_live w s.0 ≡ true) (p p' : StarPart) (star : n.star ≡ Some p)
+    (held : p'.held ≡ p.held) (manager : p'.manager ≡ p.manager) where
   abbrev mail : Mail
   mail = Request entry c (request_of t a)
 
   abbrev sent_on : MediumState
-  sent_on = record w.medium { words = words; inboxes = with_mail w.medium.inboxes s.0 (Request entry c (request_of t a)); rest = flags }
+  sent_on =
+      record w.medium
+      { words = words; inboxes = with_mail w.medium.inboxes s.0 (Request entry c (request_of t a)); rest = flags }
 
   abbrev o : Turnout
-  o = record { medium = record w.medium { words = words; inboxes = with_mail w.medium.inboxes s.0 (Request entry c (request_of t a)); rest = flags }; step = record { node = record n { tasks = with_phase n.tasks t phases.Sent; star = Some p' }; fixed = [] } }
+  o = record {
+    medium =
+        record w.medium
+        { words = words; inboxes = with_mail w.medium.inboxes s.0 (Request entry c (request_of t a)); rest = flags };
+    step = record { node = record n { tasks = with_phase n.tasks t phases.Sent; star = Some p' }; fixed = [] };
+  }
 
   inside : s.0 < length w.nodes
   inside = (live-below w s.0 lives).0
 
   its_box : inbox sent_on s.0 ≡ inbox w.medium s.0 ++ mail ∷ []
-  its_box = get_or-set_same w.medium.inboxes s.0 (inbox w.medium s.0 ++ mail ∷ []) [] (omega (arith, inside, g.roles.systems, g.roles.inboxes))
+  its_box =
+      get_or-set_same w.medium.inboxes s.0 (inbox w.medium s.0 ++ mail ∷ []) []
+      (omega (arith, inside, g.roles.systems, g.roles.inboxes))
 
   other_box : (u : ℕ) → u ≢ s.0 → inbox sent_on u ≡ inbox w.medium u
   other_box u ne = get_or-set_other w.medium.inboxes s.0 u (inbox w.medium s.0 ++ mail ∷ []) [] ne
@@ -69,7 +83,9 @@ module _ (deck : Deck) (w : World) (g : IsWhole deck w) (c : SysId) (n : NodeSta
   grown u ne = go (u == s.0) refl
     where
       go : (b : Bool) → (u == s.0) ≡ b → Grown deck (inbox w.medium u) (inbox sent_on u)
-      go true e = subst (λ i. Grown deck (inbox w.medium i) (inbox sent_on i)) (sym (eqb-true u s.0 e)) (mail ∷ [], its_box, ((of_entry, known_system), tt))
+      go true e =
+          subst (λ i. Grown deck (inbox w.medium i) (inbox sent_on i)) (sym (eqb-true u s.0 e))
+          (mail ∷ [], its_box, ((of_entry, known_system), tt))
       go false e = ([], other_box u (eqb-false u s.0 e) ∙ sym (append-nil (inbox w.medium u)), tt)
 
   same_box : inbox sent_on c.0 ≡ inbox w.medium c.0
@@ -89,11 +105,18 @@ module _ (deck : Deck) (w : World) (g : IsWhole deck w) (c : SysId) (n : NodeSta
         system = s.0;
         node = k;
         part = m.part;
-        at = slice_get-set_other w.nodes c.0 s.0 (record n { tasks = with_phase n.tasks t phases.Sent; star = Some p' }) apart ∙ found;
+        at =
+            slice_get-set_other w.nodes c.0 s.0 (record n { tasks = with_phase n.tasks t phases.Sent; star = Some p' })
+            apart
+            ∙ found;
         live = (live-below w s.0 lives).1;
         star = m.star;
-        among = among-last t m.part.held (requests_in (inbox sent_on s.0)) (ap (λ ms. is_among t (askers (requests_in ms))) its_box ∙ (ap (λ qs. is_among t (askers qs)) (requests-grown (inbox w.medium s.0) (mail ∷ []))
-            ∙ among-last t (requests_in (inbox w.medium s.0)) (request_of t a ∷ []) (or_left (same_task t t) false (same_task-itself t))));
+        among =
+            among-last t m.part.held (requests_in (inbox sent_on s.0)) (ap (λ ms. is_among t (askers (requests_in ms)))
+            its_box
+            ∙ (ap (λ qs. is_among t (askers qs)) (requests-grown (inbox w.medium s.0) (mail ∷ []))
+            ∙ among-last t (requests_in (inbox w.medium s.0)) (request_of t a ∷ [])
+            (or_left (same_task t t) false (same_task-itself t))));
       }
 
   pub heard-sent : IsWhole deck (placed w c n o) → StaysHeard deck w c n o
@@ -101,28 +124,50 @@ module _ (deck : Deck) (w : World) (g : IsWhole deck w) (c : SysId) (n : NodeSta
     boxes = grown;
     own_box = own-addressed deck w g c n at alive o refl sent had h grown same_box;
     requests = λ u own is. sends u own is (u.task == t.task) refl;
-    passed = λ i u v ne own known among. hands-kept deck w g c n at alive o refl sent had h grown same_box i u p p' refl held (ap (λ z. is_among u (askers (in_hands z (inbox w.medium c.0)))) (part v known) ∙ among);
-    owners = λ u q own wide owned. owner-by deck w g c n at alive o refl sent had h grown same_box u q own wide (before u q owned) (λ marked. ap (is_marked q) (phase-records n.tasks t phases.Sent here u) ∙ marked) (ap (has_res q) (phase-records n.tasks t phases.Sent here u));
-    told = λ i y u q v ne found l own wide owned known untold. inr (untold-here deck w g c n at alive o refl i u q p' ne refl (keeps u q (ap (λ z. is_untold_by z u q) (part v known) ∙ untold)));
-    gained = λ i y u q ne found l own wide absent present. no_truth (owns (list_of (all_lists w) q) u) (before u q present) absent;
-    queued = λ i y u q ne found l own wide absent present. no_truth (has_task (list_of (all_lists w) q) u) (sym (ap (λ T. has_task (list_of (lists T) q) u) same_items) ∙ present) absent;
-    ranks = λ v e x known managed. subst (λ T. x.next ≤ suc (enq_count T)) (sym same_items) (h.ranks c.0 n p e x at alive star (sym (ap (λ (z : ManagerView). managed_at z e) manager) ∙ (ap (λ (z : StarPart). managed_at z.manager e) (same_Some p' v known) ∙ managed)));
+    passed = λ i u v ne own known among.
+        hands-kept deck w g c n at alive o refl sent had h grown same_box i u p p' refl held
+        (ap (λ z. is_among u (askers (in_hands z (inbox w.medium c.0)))) (part v known) ∙ among);
+    owners = λ u q own wide owned.
+        owner-by deck w g c n at alive o refl sent had h grown same_box u q own wide (before u q owned)
+        (λ marked. ap (is_marked q) (phase-records n.tasks t phases.Sent here u) ∙ marked)
+        (ap (has_res q) (phase-records n.tasks t phases.Sent here u));
+    told = λ i y u q v ne found l own wide owned known untold.
+        inr (untold-here deck w g c n at alive o refl i u q p' ne refl
+        (keeps u q (ap (λ z. is_untold_by z u q) (part v known) ∙ untold)));
+    gained = λ i y u q ne found l own wide absent present.
+        no_truth (owns (list_of (all_lists w) q) u) (before u q present) absent;
+    queued = λ i y u q ne found l own wide absent present.
+        no_truth (has_task (list_of (all_lists w) q) u)
+        (sym (ap (λ T. has_task (list_of (lists T) q) u) same_items) ∙ present) absent;
+    ranks = λ v e x known managed.
+        subst (λ T. x.next ≤ suc (enq_count T)) (sym same_items)
+        (h.ranks c.0 n p e x at alive star (sym (ap (λ (z : ManagerView). managed_at z e) manager)
+        ∙ (ap (λ (z : StarPart). managed_at z.manager e) (same_Some p' v known) ∙ managed)));
   })
     where
       part : (v : StarPart) → n.star ≡ Some v → p ≡ v
       part v known = same_Some p v (sym star ∙ known)
 
       keeps : (u : TaskId) (q : Res) → is_untold_by p u q ≡ true → is_untold_by p' u q ≡ true
-      keeps u q untold = subst (λ (z : ManagerView). is_untold_by (record p { manager = z }) u q ≡ true) (sym manager) untold
+      keeps u q untold =
+          subst (λ (z : ManagerView). is_untold_by (record p { manager = z }) u q ≡ true) (sym manager) untold
 
-      before : (u : TaskId) (q : Res) → owns (list_of (lists (items (w.fixed ++ fixed_by c []))) q) u ≡ true → owns (list_of (all_lists w) q) u ≡ true
+      before : (u : TaskId) (q : Res) → owns (list_of (lists (items (w.fixed ++ fixed_by c []))) q) u ≡ true
+          → owns (list_of (all_lists w) q) u ≡ true
       before u q owned = sym (ap (λ T. owns (list_of (lists T) q) u) same_items) ∙ owned
 
-      sends : (u : TaskId) → is_home_at deck c.0 u ≡ true → is_sent (state_of (with_phase n.tasks t phases.Sent) u).phase ≡ true → (b : Bool) → (u.task == t.task) ≡ b → Requested (placed w c n o) c.0 u
-      sends u own is false e = request-kept deck w g c n at alive o refl sent had h grown same_box u own (sym (ap (λ (y : TaskState). is_sent y.phase) (phase-others n.tasks t phases.Sent here u (eqb-false u.task t.task e))) ∙ is)
+      sends : (u : TaskId) → is_home_at deck c.0 u ≡ true
+          → is_sent (state_of (with_phase n.tasks t phases.Sent) u).phase ≡ true → (b : Bool) → (u.task == t.task) ≡ b
+          → Requested (placed w c n o) c.0 u
+      sends u own is false e =
+          request-kept deck w g c n at alive o refl sent had h grown same_box u own
+          (sym (ap (λ (y : TaskState). is_sent y.phase)
+          (phase-others n.tasks t phases.Sent here u (eqb-false u.task t.task e)))
+          ∙ is)
       sends u own is true e =
           let k = (g.system c.0 n at alive).at in
           let x = ours deck c.0 (items w.fixed) (g.later c.0) (g.out c.0) n k u own in
           let y = ours deck c.0 (items w.fixed) (g.later c.0) (g.out c.0) n k t home in
-          let same : u ≡ t = same_task-exact u t (same_place deck c.0 n.tasks u t x.0 y.0 x.1 y.1 (eqb-true u.task t.task e)) in
+          let same : u ≡ t =
+          same_task-exact u t (same_place deck c.0 n.tasks u t x.0 y.0 x.1 y.1 (eqb-true u.task t.task e)) in
           inl (subst (IsInHands (placed w c n o)) (sym same) in-manager)

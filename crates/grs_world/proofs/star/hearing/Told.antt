@@ -1,5 +1,6 @@
 -- A manager tells an owner of another system: it hears that where it has a record, or its answer comes before.
-use Rattle.std.proofs.Common.{inl, inr, ◌≡◌, ◌≢◌, ◌≤◌, ◌<◌, ℕ, suc, Bool, true, false, ◌&&◌, [], ◌∷◌, ◌++◌, length, Some, refl, ap, sym, ◌∙◌, subst, append-nil, arith}
+use Rattle.std.proofs.Common.{inl, inr, ◌≡◌, ◌≢◌, ◌≤◌, ◌<◌, ℕ, suc, Bool, true, false, ◌&&◌, [], ◌∷◌, ◌++◌, length}
+use Rattle.std.proofs.Common.{Some, refl, ap, sym, ◌∙◌, subst, append-nil, arith}
 use Rattle.std.specs.Prelude.{◌==◌, slice_get}
 use Rattle.std.proofs.lemmas.Bool.{and_parts, eqb-true, eqb-false}
 use Rattle.std.proofs.lemmas.List.{get_or-set_same, get_or-set_other}
@@ -36,7 +37,10 @@ use Rattle.grs_world.proofs.star.hearing.Passing.{Grown, Hearable, heard-placed,
 use Rattle.grs_world.specs.World.{World, Turnout, fixed_by, placed}
 use Rattle.grs_wire.specs.Masks.{has}
 
-module _ (deck : Deck) (w : World) (g : IsWhole deck w) (c : SysId) (n : NodeState) (at : slice_get w.nodes c.0 ≡ Some n) (alive : has w.medium.removed c.0 ≡ false) (p : StarPart) (star : n.star ≡ Some p) (t : TaskId) (r : Res) (apart : t.system.0 ≢ c.0) (inside : t.system.0 < length w.nodes) (flags : ℕ) where
+module _ (deck : Deck) (w : World) (g : IsWhole deck w) (c : SysId) (n : NodeState)
+    (at : slice_get w.nodes c.0 ≡ Some n) (alive : has w.medium.removed c.0 ≡ false) (p : StarPart)
+    (star : n.star ≡ Some p) (t : TaskId) (r : Res) (apart : t.system.0 ≢ c.0) (inside : t.system.0 < length w.nodes)
+    (flags : ℕ) where
   abbrev sent_on : MediumState
   sent_on = record w.medium { inboxes = with_mail w.medium.inboxes t.system.0 (Granted t r); rest = flags }
 
@@ -44,10 +48,18 @@ module _ (deck : Deck) (w : World) (g : IsWhole deck w) (c : SysId) (n : NodeSta
   p' = record p { manager = after_telling p.manager t r }
 
   abbrev o : Turnout
-  o = record { medium = record w.medium { inboxes = with_mail w.medium.inboxes t.system.0 (Granted t r); rest = flags }; step = record { node = record n { tasks = n.tasks; star = Some (record p { manager = after_telling p.manager t r }) }; fixed = [] } }
+  o = record {
+    medium = record w.medium { inboxes = with_mail w.medium.inboxes t.system.0 (Granted t r); rest = flags };
+    step = record {
+      node = record n { tasks = n.tasks; star = Some (record p { manager = after_telling p.manager t r }) };
+      fixed = [];
+    };
+  }
 
   its_box : inbox sent_on t.system.0 ≡ inbox w.medium t.system.0 ++ Granted t r ∷ []
-  its_box = get_or-set_same w.medium.inboxes t.system.0 (inbox w.medium t.system.0 ++ Granted t r ∷ []) [] (omega (arith, inside, g.roles.systems, g.roles.inboxes))
+  its_box =
+      get_or-set_same w.medium.inboxes t.system.0 (inbox w.medium t.system.0 ++ Granted t r ∷ []) []
+      (omega (arith, inside, g.roles.systems, g.roles.inboxes))
 
   other_box : (u : ℕ) → u ≢ t.system.0 → inbox sent_on u ≡ inbox w.medium u
   other_box u ne = get_or-set_other w.medium.inboxes t.system.0 u (inbox w.medium t.system.0 ++ Granted t r ∷ []) [] ne
@@ -56,7 +68,9 @@ module _ (deck : Deck) (w : World) (g : IsWhole deck w) (c : SysId) (n : NodeSta
   grown u ne = go (u == t.system.0) refl
     where
       go : (b : Bool) → (u == t.system.0) ≡ b → Grown deck (inbox w.medium u) (inbox sent_on u)
-      go true e = subst (λ s. Grown deck (inbox w.medium s) (inbox sent_on s)) (sym (eqb-true u t.system.0 e)) (Granted t r ∷ [], its_box, (tt, tt))
+      go true e =
+          subst (λ s. Grown deck (inbox w.medium s) (inbox sent_on s)) (sym (eqb-true u t.system.0 e))
+          (Granted t r ∷ [], its_box, (tt, tt))
       go false e = ([], other_box u (eqb-false u t.system.0 e) ∙ sym (append-nil (inbox w.medium u)), tt)
 
   same_box : inbox sent_on c.0 ≡ inbox w.medium c.0
@@ -71,30 +85,51 @@ module _ (deck : Deck) (w : World) (g : IsWhole deck w) (c : SysId) (n : NodeSta
     boxes = grown;
     own_box = own-addressed deck w g c n at alive o refl sent had h grown same_box;
     requests = λ u home is. request-kept deck w g c n at alive o refl sent had h grown same_box u home is;
-    passed = λ s u v ne home known among. hands-kept deck w g c n at alive o refl sent had h grown same_box s u p p' refl refl (ap (λ z. is_among u (askers (in_hands z (inbox w.medium c.0)))) (part v known) ∙ among);
-    owners = λ u q home wide owned. owner-kept deck w g c n at alive o refl sent had h grown same_box u q home wide (before u q owned) ((gentle-none n.tasks).each u);
-    told = λ s y u q v ne found lives home wide owned known untold. tells s y u q ne found lives home wide (before u q owned) (ap (λ z. is_untold_by z u q) (part v known) ∙ untold) (same_res r q && same_task t u) refl;
-    gained = λ s y u q ne found lives home wide absent present. no_truth (owns (list_of (all_lists w) q) u) (before u q present) absent;
-    queued = λ s y u q ne found lives home wide absent present. no_truth (has_task (list_of (all_lists w) q) u) (sym (ap (λ T. has_task (list_of (lists T) q) u) same_items) ∙ present) absent;
+    passed = λ s u v ne home known among.
+        hands-kept deck w g c n at alive o refl sent had h grown same_box s u p p' refl refl
+        (ap (λ z. is_among u (askers (in_hands z (inbox w.medium c.0)))) (part v known) ∙ among);
+    owners = λ u q home wide owned.
+        owner-kept deck w g c n at alive o refl sent had h grown same_box u q home wide (before u q owned)
+        ((gentle-none n.tasks).each u);
+    told = λ s y u q v ne found lives home wide owned known untold.
+        tells s y u q ne found lives home wide (before u q owned) (ap (λ z. is_untold_by z u q) (part v known) ∙ untold)
+        (same_res r q && same_task t u) refl;
+    gained = λ s y u q ne found lives home wide absent present.
+        no_truth (owns (list_of (all_lists w) q) u) (before u q present) absent;
+    queued = λ s y u q ne found lives home wide absent present.
+        no_truth (has_task (list_of (all_lists w) q) u)
+        (sym (ap (λ T. has_task (list_of (lists T) q) u) same_items) ∙ present) absent;
     ranks = λ v e x known managed. subst (λ T. x.next ≤ suc (enq_count T)) (sym same_items)
-        (telling-next p.manager t r (suc (enq_count (items w.fixed))) (λ i z is. h.ranks c.0 n p i z at alive star is) e x (ap (λ (z : StarPart). managed_at z.manager e) (same_Some p' v known) ∙ managed));
+        (telling-next p.manager t r (suc (enq_count (items w.fixed))) (λ i z is. h.ranks c.0 n p i z at alive star is) e
+        x (ap (λ (z : StarPart). managed_at z.manager e) (same_Some p' v known) ∙ managed));
   })
     where
       part : (v : StarPart) → n.star ≡ Some v → p ≡ v
       part v known = same_Some p v (sym star ∙ known)
 
-      before : (u : TaskId) (q : Res) → owns (list_of (lists (items (w.fixed ++ fixed_by c []))) q) u ≡ true → owns (list_of (all_lists w) q) u ≡ true
+      before : (u : TaskId) (q : Res) → owns (list_of (lists (items (w.fixed ++ fixed_by c []))) q) u ≡ true
+          → owns (list_of (all_lists w) q) u ≡ true
       before u q owned = sym (ap (λ T. owns (list_of (lists T) q) u) same_items) ∙ owned
 
-      tells : (s : ℕ) (y : NodeState) (u : TaskId) (q : Res) → s ≢ c.0 → slice_get w.nodes s ≡ Some y → has w.medium.removed s ≡ false → is_home_at deck s u ≡ true → is_systems q ≡ true → owns (list_of (all_lists w) q) u ≡ true → is_untold_by p u q ≡ true →
+      tells : (s : ℕ) (y : NodeState) (u : TaskId) (q : Res) → s ≢ c.0 → slice_get w.nodes s ≡ Some y
+          → has w.medium.removed s ≡ false → is_home_at deck s u ≡ true → is_systems q ≡ true
+          → owns (list_of (all_lists w) q) u ≡ true → is_untold_by p u q ≡ true →
           (b : Bool) → (same_res r q && same_task t u) ≡ b → Hearable (placed w c n o) s y u q
-      tells s y u q ne found lives home wide owned untold false e = inr (untold-here deck w g c n at alive o refl s u q p' ne refl (telling-untold p.manager t r q u e untold))
+      tells s y u q ne found lives home wide owned untold false e =
+          inr (untold-here deck w g c n at alive o refl s u q p' ne refl (telling-untold p.manager t r q u e untold))
       tells s y u q ne found lives home wide owned untold true e =
           let both = and_parts (same_res r q) (same_task t u) e in
           let task : t ≡ u = same_task-exact t u both.1 in
           let res : r ≡ q = same_res-exact r q both.0 in
-          let there : s ≡ t.system.0 = sym (eqb-true u.system.0 s (and_parts (u.system.0 == s) _ home).0) ∙ ap (λ (z : TaskId). z.system.0) (sym task) in
+          let there : s ≡ t.system.0 =
+          sym (eqb-true u.system.0 s (and_parts (u.system.0 == s) _ home).0)
+          ∙ ap (λ (z : TaskId). z.system.0) (sym task) in
           let box : inbox sent_on s ≡ inbox w.medium s ++ Granted u q ∷ [] =
-          ap (inbox sent_on) there ∙ (its_box ∙ (ap (λ i. inbox w.medium i ++ Granted t r ∷ []) (sym there) ∙ (ap (λ z. inbox w.medium s ++ Granted z r ∷ []) task ∙ ap (λ z. inbox w.medium s ++ Granted u z ∷ []) res))) in
+          ap (inbox sent_on) there
+          ∙ (its_box
+          ∙ (ap (λ i. inbox w.medium i ++ Granted t r ∷ []) (sym there)
+          ∙ (ap (λ z. inbox w.medium s ++ Granted z r ∷ []) task
+          ∙ ap (λ z. inbox w.medium s ++ Granted u z ∷ []) res))) in
           inl (ap (hears u q (has_res q (state_of y.tasks u).records)) box
-          ∙ hears-granted u q (has_res q (state_of y.tasks u).records) (inbox w.medium s) (h.recorded s y u q found lives home wide (owns-has (list_of (all_lists w) q) u owned)))
+          ∙ hears-granted u q (has_res q (state_of y.tasks u).records) (inbox w.medium s)
+          (h.recorded s y u q found lives home wide (owns-has (list_of (all_lists w) q) u owned)))

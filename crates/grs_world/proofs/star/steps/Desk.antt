@@ -1,5 +1,5 @@
--- A system's desk orders the change to star mode once more: it is told that there was one before. Or it orders a removal: there is
--- none in star mode.
+-- A system's desk orders the change to star mode once more: it is told that there was one before. Or it orders a
+-- removal: there is none in star mode.
 use Rattle.std.proofs.Common.{◌≡◌, ◌+◌, ◌++◌, ◌∙◌, ℕ, List, [], None, Option, Some, ap, cond, refl, subst, sym, false}
 use Rattle.std.specs.Prelude.{slice_get, ◌==◌}
 use Rattle.std.proofs.lemmas.Bool.{eqb-true}
@@ -21,7 +21,8 @@ use Rattle.grs_wire.proofs.WantLaws.{by_test}
 use Rattle.grs_wire.specs.declared.deck.Choice.TheVariants as choices
 use Rattle.grs_wire.specs.declared.medium.Reply.TheVariants as replies
 use Rattle.grs_wire.specs.declared.medium.Act.TheVariants as acts
-use Rattle.grs_node.specs.Node.{NodeState, desk_told, finish, finish_call, next_order, own_words, prepare, purge_call, switch_call, only}
+use Rattle.grs_node.specs.Node.{NodeState, desk_told, finish, finish_call, next_order, own_words, prepare, purge_call}
+use Rattle.grs_node.specs.Node.{switch_call, only}
 use Rattle.grs_node.specs.Star.{StarPart}
 use Rattle.grs_node.specs.declared.prepared.Prepared.TheVariants.{Call, Nothing}
 use Rattle.grs_base.specs.declared.resource.SysId.{SysId}
@@ -33,16 +34,28 @@ use Rattle.grs_medium.specs.Medium.{inbox}
 use Rattle.grs_medium.specs.Apply.{row, is_live, purge_row, switch_ring, switch_row, without_system}
 use Rattle.grs_world.proofs.rest.StarTasks.{IsDated, dated-by, keeps-telling}
 
-module _ (deck : Deck) (w : World) (g : IsWhole deck w) (c : SysId) (n : NodeState) (at : slice_get w.nodes c.0 ≡ Some n) (alive : has w.medium.removed c.0 ≡ false) where
+module _ (deck : Deck) (w : World) (g : IsWhole deck w) (c : SysId) (n : NodeState)
+    (at : slice_get w.nodes c.0 ≡ Some n) (alive : has w.medium.removed c.0 ≡ false) where
   abbrev T : List RunItem
   T = items w.fixed
 
-  own : (said : Said) → IsSystem deck w.medium.words (items w.fixed) c.0 (desk_told n said) (inbox w.medium c.0) (g.later c.0) (g.out c.0)
+  own : (said : Said)
+      → IsSystem deck w.medium.words (items w.fixed) c.0 (desk_told n said) (inbox w.medium c.0) (g.later c.0)
+      (g.out c.0)
   own said =
       let h = g.system c.0 n at alive in
-      record { at = desk-at deck c.0 T (g.later c.0) (g.out c.0) n said h.at; late = h.late; sent = h.sent; near = h.near; coming = h.coming; answered = h.answered; fits = h.fits }
+      record {
+        at = desk-at deck c.0 T (g.later c.0) (g.out c.0) n said h.at;
+        late = h.late;
+        sent = h.sent;
+        near = h.near;
+        coming = h.coming;
+        answered = h.answered;
+        fits = h.fits;
+      }
 
-  hands-own : (said : Said) (p : StarPart) → (desk_told n said).star ≡ Some p → Hands deck w.medium.words (are_live w) g.later g.out c.0 (in_hands p (inbox w.medium c.0))
+  hands-own : (said : Said) (p : StarPart) → (desk_told n said).star ≡ Some p
+      → Hands deck w.medium.words (are_live w) g.later g.out c.0 (in_hands p (inbox w.medium c.0))
   unfolding desk_told
   hands-own said p is = g.hands c.0 n p at alive is
 
@@ -62,9 +75,15 @@ module _ (deck : Deck) (w : World) (g : IsWhole deck w) (c : SysId) (n : NodeSta
   unfolding desk_told
   own_dated said h = dated-by deck c.0 n _ refl h (keeps-telling deck n.tasks _ h.date)
 
-  outcome-desk : (said : Said) → EventTells deck c (history (items (w.fixed ++ fixed_by c []))) [] n (desk_told n said) w.medium.star w.medium.star → Comes deck w g c n (record { medium = w.medium; step = only (desk_told n said) })
+  outcome-desk : (said : Said)
+      → EventTells deck c (history (items (w.fixed ++ fixed_by c []))) [] n (desk_told n said) w.medium.star
+      w.medium.star
+      → Comes deck w g c n (record { medium = w.medium; step = only (desk_told n said) })
   outcome-desk said news step = record {
-    stays = whole-placed deck w g c n at alive (record { medium = w.medium; step = only (desk_told n said) }) step T (items-none w.fixed c) g.later g.out (λ u ne. refl) none_fixed g.right g.near (own said) (λ s k ne found lives. g.system s k found lives) (hands-own said)
+    stays =
+        whole-placed deck w g c n at alive (record { medium = w.medium; step = only (desk_told n said) }) step T
+        (items-none w.fixed c) g.later g.out (λ u ne. refl) none_fixed g.right g.near (own said)
+        (λ s k ne found lives. g.system s k found lives) (hands-own said)
         (λ m k p ne found lives is. g.hands m k p found lives is);
     news = news;
     heard = heard-still deck w g c n at alive w.medium refl refl (desk_told n said) (calm said) (same_star said);
@@ -76,17 +95,27 @@ module _ (deck : Deck) (w : World) (g : IsWhole deck w) (c : SysId) (n : NodeSta
   nothing-done choice = comes-idle deck w g c n at alive
 
   -- ---- the change to star mode
-  desk-finished : next_order deck n ≡ Some orders.Star → ComesOf deck w g c n at alive choices.Switch (replies.Already, w.medium)
+  desk-finished : next_order deck n ≡ Some orders.Star
+      → ComesOf deck w g c n at alive choices.Switch (replies.Already, w.medium)
   unfolding finish finish_call
-  desk-finished next = outcome-desk saids.StarAlready (tells_already next (desk-told n saids.StarAlready) (done-more saids.StarAlready) g.roles.mode g.roles.mode)
+  desk-finished next =
+      outcome-desk saids.StarAlready
+      (tells_already next (desk-told n saids.StarAlready) (done-more saids.StarAlready) g.roles.mode g.roles.mode)
 
-  comes-already : next_order deck n ≡ Some orders.Star → ComesOf deck w g c n at alive choices.Switch (row w.medium c (acts.Switch (own_words deck n)))
+  comes-already : next_order deck n ≡ Some orders.Star
+      → ComesOf deck w g c n at alive choices.Switch (row w.medium c (acts.Switch (own_words deck n)))
   unfolding row switch_row
-  comes-already next = subst (λ b. ComesOf deck w g c n at alive choices.Switch (cond b (replies.Already, w.medium) (switch_ring w.medium c (own_words deck n) (first_number (unseen c w.medium.message.entries))))) (sym g.roles.mode) (desk-finished next)
+  comes-already next =
+      subst (λ b.
+      ComesOf deck w g c n at alive choices.Switch (cond b (replies.Already, w.medium)
+      (switch_ring w.medium c (own_words deck n) (first_number (unseen c w.medium.message.entries)))))
+      (sym g.roles.mode) (desk-finished next)
 
-  by_order : (o : Option Order) → next_order deck n ≡ o → Comes deck w g c n (carry_out deck w.medium c n choices.Switch (switch_call deck n o))
+  by_order : (o : Option Order) → next_order deck n ≡ o
+      → Comes deck w g c n (carry_out deck w.medium c n choices.Switch (switch_call deck n o))
   by_order None e = nothing-done choices.Switch
-  by_order (Some orders.Star) e = comes-called deck w g c n at alive choices.Switch (acts.Switch (own_words deck n)) (comes-already e)
+  by_order (Some orders.Star) e =
+      comes-called deck w g c n at alive choices.Switch (acts.Switch (own_words deck n)) (comes-already e)
   by_order (Some (orders.Vary t)) e = nothing-done choices.Switch
 
   pub outcome-switch : Comes deck w g c n (chosen deck w.medium c n choices.Switch)
@@ -94,20 +123,33 @@ module _ (deck : Deck) (w : World) (g : IsWhole deck w) (c : SysId) (n : NodeSta
   outcome-switch = by_order (next_order deck n) refl
 
   -- ---- the removal of a system, which there is none of in star mode
-  vary-finished : (target : SysId) → next_order deck n ≡ Some (orders.Vary target) → ComesOf deck w g c n at alive (choices.Purge target) (replies.InStar, w.medium)
+  vary-finished : (target : SysId) → next_order deck n ≡ Some (orders.Vary target)
+      → ComesOf deck w g c n at alive (choices.Purge target) (replies.InStar, w.medium)
   unfolding finish finish_call
-  vary-finished target next = outcome-desk saids.VaryInStar (tells_in_star target next (desk-told n saids.VaryInStar) (done-more saids.VaryInStar) g.roles.mode g.roles.mode)
+  vary-finished target next =
+      outcome-desk saids.VaryInStar
+      (tells_in_star target next (desk-told n saids.VaryInStar) (done-more saids.VaryInStar) g.roles.mode g.roles.mode)
 
-  comes-in_star : (target : SysId) → next_order deck n ≡ Some (orders.Vary target) → ComesOf deck w g c n at alive (choices.Purge target) (row w.medium c (acts.Purge target))
+  comes-in_star : (target : SysId) → next_order deck n ≡ Some (orders.Vary target)
+      → ComesOf deck w g c n at alive (choices.Purge target) (row w.medium c (acts.Purge target))
   unfolding row purge_row
   comes-in_star target next =
-      subst (λ b. ComesOf deck w g c n at alive (choices.Purge target) (cond b (replies.InStar, w.medium) (cond (is_live w.medium target) (replies.Purged, without_system w.medium c target) (replies.NoSuch, w.medium)))) (sym g.roles.mode) (vary-finished target next)
+      subst (λ b.
+      ComesOf deck w g c n at alive (choices.Purge target) (cond b (replies.InStar, w.medium)
+      (cond (is_live w.medium target) (replies.Purged, without_system w.medium c target) (replies.NoSuch, w.medium))))
+      (sym g.roles.mode) (vary-finished target next)
 
-  by_target : (target : SysId) (o : Option Order) → next_order deck n ≡ o → Comes deck w g c n (carry_out deck w.medium c n (choices.Purge target) (purge_call n target o))
+  by_target : (target : SysId) (o : Option Order) → next_order deck n ≡ o
+      → Comes deck w g c n (carry_out deck w.medium c n (choices.Purge target) (purge_call n target o))
   by_target target None e = nothing-done (choices.Purge target)
   by_target target (Some orders.Star) e = nothing-done (choices.Purge target)
-  by_target target (Some (orders.Vary named)) e = by_test (λ p. Comes deck w g c n (carry_out deck w.medium c n (choices.Purge target) p)) (named.0 == target.0) (Call (record { known = n.known; act = acts.Purge target })) Nothing
-      (λ same. comes-called deck w g c n at alive (choices.Purge target) (acts.Purge target) (comes-in_star target (e ∙ ap (λ (k : ℕ). let z : SysId = record { 0 = k } in Some (orders.Vary z)) (eqb-true named.0 target.0 same))))
+  by_target target (Some (orders.Vary named)) e =
+      by_test (λ p. Comes deck w g c n (carry_out deck w.medium c n (choices.Purge target) p)) (named.0 == target.0)
+      (Call (record { known = n.known; act = acts.Purge target })) Nothing
+      (λ same.
+      comes-called deck w g c n at alive (choices.Purge target) (acts.Purge target)
+      (comes-in_star target
+      (e ∙ ap (λ (k : ℕ). let z : SysId = record { 0 = k } in Some (orders.Vary z)) (eqb-true named.0 target.0 same))))
       (λ away. nothing-done (choices.Purge target))
 
   pub outcome-purge : (target : SysId) → Comes deck w g c n (chosen deck w.medium c n (choices.Purge target))

@@ -1,6 +1,7 @@
--- A system gives up its interest in an entry, in which it has nothing on record, asks nothing and has no request of another
--- system to settle.
-use Rattle.std.proofs.Common.{◌≡◌, ◌≢◌, ◌<◌, ℕ, Bool, true, false, cond, not, ◌&&◌, ◌||◌, List, length, Option, Some, None, refl, ap, sym, ◌∙◌, subst}
+-- A system gives up its interest in an entry, in which it has nothing on record, asks nothing and has no request of
+-- another system to settle.
+use Rattle.std.proofs.Common.{◌≡◌, ◌≢◌, ◌<◌, ℕ, Bool, true, false, cond, not, ◌&&◌, ◌||◌, List, length, Option, Some}
+use Rattle.std.proofs.Common.{None, refl, ap, sym, ◌∙◌, subst}
 use Rattle.std.specs.Prelude.{get_or, is_some, slice_get, ◌==◌}
 use Rattle.std.specs.List.{list_any}
 use Rattle.std.proofs.lemmas.Bool.{and_parts, eqb-true, eqb-false, ne_eqb, and_right, and_from, not-true}
@@ -40,13 +41,16 @@ use Rattle.grs_world.proofs.star.Leaving.{no-element, system-left}
 use Rattle.grs_world.proofs.star.Members.{IsMember, IsStep, all_lists, has_manager, managed-is}
 use Rattle.grs_world.proofs.star.Settling.{asker-away}
 use Rattle.grs_world.proofs.star.Systems.{IsSystem, near_at, system-words}
-use Rattle.grs_world.proofs.star.Worlds.{Hands, IsHand, IsWhole, are_live, in_hands, live-below, items-none, whole-placed, none_fixed}
+use Rattle.grs_world.proofs.star.Worlds.{Hands, IsHand, IsWhole, are_live, in_hands, live-below, items-none}
+use Rattle.grs_world.proofs.star.Worlds.{whole-placed, none_fixed}
 use Rattle.grs_world.proofs.star.hearing.Quiet.{heard-left}
-use Rattle.grs_world.proofs.star.steps.Outcome.{Comes, ComesBy, ComesOf, IsOutcome, comes-called, comes-finished, comes-needs, comes-none, comes-quiet}
+use Rattle.grs_world.proofs.star.steps.Outcome.{Comes, ComesBy, ComesOf, IsOutcome, comes-called, comes-finished}
+use Rattle.grs_world.proofs.star.steps.Outcome.{comes-needs, comes-none, comes-quiet}
 use Rattle.grs_world.proofs.star.steps.Words.{hands-words, others-keep}
 use Rattle.grs_world.proofs.run.Desks.{tells_tasks}
 
-module _ (deck : Deck) (some : 0 < deck.entries) (w : World) (g : IsWhole deck w) (c : SysId) (inside : c.0 < 8) (n : NodeState) (at : slice_get w.nodes c.0 ≡ Some n) (alive : has w.medium.removed c.0 ≡ false) where
+module _ (deck : Deck) (some : 0 < deck.entries) (w : World) (g : IsWhole deck w) (c : SysId) (inside : c.0 < 8)
+    (n : NodeState) (at : slice_get w.nodes c.0 ≡ Some n) (alive : has w.medium.removed c.0 ≡ false) where
   abbrev me : IsMember deck w.medium.words (all_lists w) c.0 n
   me = g.roles.node c.0 n at alive
 
@@ -71,10 +75,13 @@ module _ (deck : Deck) (some : 0 < deck.entries) (w : World) (g : IsWhole deck w
     idle : list_any (is_busy_in p x) n.tasks.tasks ≡ false
     idle =
         let busy : Bool = list_any (is_busy_in p x) n.tasks.tasks in
-        not-true busy (and_parts (not busy) (is_done_with p x) (and_parts (has_interest p x) (not busy && is_done_with p x) free).1).0
+        not-true busy
+        (and_parts (not busy) (is_done_with p x) (and_parts (has_interest p x) (not busy && is_done_with p x) free).1).0
 
     done : is_done_with p x ≡ true
-    done = (and_parts (not (list_any (is_busy_in p x) n.tasks.tasks)) (is_done_with p x) (and_parts (has_interest p x) (not (list_any (is_busy_in p x) n.tasks.tasks) && is_done_with p x) free).1).1
+    done =
+        (and_parts (not (list_any (is_busy_in p x) n.tasks.tasks)) (is_done_with p x)
+        (and_parts (has_interest p x) (not (list_any (is_busy_in p x) n.tasks.tasks) && is_done_with p x) free).1).1
 
     there : x < length words
     there = there_leave deck some w c inside n at alive g.roles me x free
@@ -85,91 +92,167 @@ module _ (deck : Deck) (some : 0 < deck.entries) (w : World) (g : IsWhole deck w
       same-role : (e : ℕ) → e ≢ x → has_manager words' e c.0 ≡ has_manager words e c.0
       same-role e ne =
           ap (λ o. is_manager o (record { 0 = c.0 })) (leave_manages words x c there g.roles.managed is e)
-          ∙ ap (λ b. is_manager (cond (b && is_manager (manager_at words e) c) None (manager_at words e)) (record { 0 = c.0 })) (ne_eqb e x ne)
+          ∙ ap (λ b.
+          is_manager (cond (b && is_manager (manager_at words e) c) None (manager_at words e)) (record { 0 = c.0 }))
+          (ne_eqb e x ne)
 
       same-interest : (e : ℕ) → e ≢ x → is_interested words' e c.0 ≡ is_interested words e c.0
       same-interest e ne =
           leave_parts words x c there is e c.0
-          ∙ (ap (λ b. is_interested words e c.0 && not (b && (c.0 == c.0))) (ne_eqb e x ne) ∙ and-true (is_interested words e c.0))
+          ∙ (ap (λ b. is_interested words e c.0 && not (b && (c.0 == c.0))) (ne_eqb e x ne)
+          ∙ and-true (is_interested words e c.0))
 
       -- where it managed the entry, no other system had interest there
       alone : (q : Req) (h : IsHand deck words (are_live w) g.later g.out c.0 q) → h.entry ≢ x
       alone q h same =
           let k : NodeState = get_or w.nodes q.task.system.0 n in
-          let it_is : (q.task.system.0 < length w.nodes) × (has w.medium.removed q.task.system.0 ≡ false) = live-below w q.task.system.0 h.below in
+          let it_is : (q.task.system.0 < length w.nodes) × (has w.medium.removed q.task.system.0 ≡ false) =
+          live-below w q.task.system.0 h.below in
           let found : slice_get w.nodes q.task.system.0 ≡ Some k = slice_get-get_or w.nodes q.task.system.0 n it_is.0 in
-          let near : is_interested words h.entry q.task.system.0 ≡ true = (asker-away deck words T g.right q.task.system.0 k (inbox w.medium q.task.system.0) (g.later q.task.system.0) (g.out q.task.system.0) (g.system q.task.system.0 k found it_is.1) q h.among h.idle c h.entry h.at h.managed h.apart).1 in
-          let named : manager_at words h.entry ≡ Some c = managed-is words h.entry c.0 (manager_at words h.entry) refl h.managed in
-          let kept = manager_is_kept (word_at words x) c q.task.system.0 (g.roles.managed x 0 there) (ap (manager_at words) (sym same) ∙ named) h.apart (ap (λ e. is_interested words e q.task.system.0) (sym same) ∙ near) in
+          let near : is_interested words h.entry q.task.system.0 ≡ true =
+          (asker-away deck words T g.right q.task.system.0 k (inbox w.medium q.task.system.0) (g.later q.task.system.0)
+          (g.out q.task.system.0) (g.system q.task.system.0 k found it_is.1) q h.among h.idle c h.entry h.at h.managed
+          h.apart).1 in
+          let named : manager_at words h.entry ≡ Some c =
+          managed-is words h.entry c.0 (manager_at words h.entry) refl h.managed in
+          let kept =
+          manager_is_kept (word_at words x) c q.task.system.0 (g.roles.managed x 0 there)
+          (ap (manager_at words) (sym same) ∙ named) h.apart
+          (ap (λ e. is_interested words e q.task.system.0) (sym same) ∙ near) in
           absurd (let both : replies.Kept (interest (word_at words x)) ≡ replies.Left = sym kept ∙ is in cc)
 
       -- what becomes of the system, and of the others
-      module _ (flags : ℕ) (step : IsStep deck w c n (record { medium = left flags; step = with_star n (fixing_none n.tasks (left_at p x)) })) where
-        own : IsSystem deck words' T c.0 (record n { star = Some (left_at p x) }) (inbox w.medium c.0) (g.later c.0) (g.out c.0)
-        own = system-left deck words words' T g.right c.0 n (inbox w.medium c.0) (g.later c.0) (g.out c.0) (g.system c.0 n at alive) p me.fits.entries x idle (λ e ne. (same-role e ne, same-interest e ne)) (Some (left_at p x))
+      module _ (flags : ℕ) (step :
+          IsStep deck w c n
+          (record { medium = left flags; step = with_star n (fixing_none n.tasks (left_at p x)) })) where
+        own :
+            IsSystem deck words' T c.0 (record n { star = Some (left_at p x) }) (inbox w.medium c.0) (g.later c.0)
+            (g.out c.0)
+        own =
+            system-left deck words words' T g.right c.0 n (inbox w.medium c.0) (g.later c.0) (g.out c.0)
+            (g.system c.0 n at alive) p me.fits.entries x idle (λ e ne. (same-role e ne, same-interest e ne))
+            (Some (left_at p x))
 
-        others : (s : ℕ) (k : NodeState) → s ≢ c.0 → slice_get w.nodes s ≡ Some k → has w.medium.removed s ≡ false → IsSystem deck words' T s k (inbox w.medium s) (g.later s) (g.out s)
-        others s k ne found lives = system-words deck words words' T s k (inbox w.medium s) (g.later s) (g.out s) (others-keep deck c.0 words words' (all_lists w) (all_lists w) step.moves s ne) (g.system s k found lives)
+        others : (s : ℕ) (k : NodeState) → s ≢ c.0 → slice_get w.nodes s ≡ Some k → has w.medium.removed s ≡ false
+            → IsSystem deck words' T s k (inbox w.medium s) (g.later s) (g.out s)
+        others s k ne found lives =
+            system-words deck words words' T s k (inbox w.medium s) (g.later s) (g.out s)
+            (others-keep deck c.0 words words' (all_lists w) (all_lists w) step.moves s ne) (g.system s k found lives)
 
-        near-then : (r : Res) (t : TaskId) → has_task (list_of (all_lists w) r) t ≡ true → is_near_res deck words' r t ≡ true
-        near-then r t has = by_entry (entry_of_res deck.entries r) refl (near-has deck words (all_lists w) r t g.near has)
+        near-then : (r : Res) (t : TaskId) → has_task (list_of (all_lists w) r) t ≡ true
+            → is_near_res deck words' r t ≡ true
+        near-then r t has =
+            by_entry (entry_of_res deck.entries r) refl (near-has deck words (all_lists w) r t g.near has)
           where
             known : is_some (lines_of deck t) ≡ true
-            known = (and_parts (is_some (lines_of deck t)) (is_systems r || is_res_of t.system.0 r) (has-may deck T r t g.right.asks has)).0
+            known =
+                (and_parts (is_some (lines_of deck t)) (is_systems r || is_res_of t.system.0 r)
+                (has-may deck T r t g.right.asks has)).0
 
-            by_entry : (o : Option ℕ) → entry_of_res deck.entries r ≡ o → near_at words t.system.0 o ≡ true → near_at words' t.system.0 o ≡ true
+            by_entry : (o : Option ℕ) → entry_of_res deck.entries r ≡ o → near_at words t.system.0 o ≡ true
+                → near_at words' t.system.0 o ≡ true
             by_entry None e near = refl
             by_entry (Some a) e near = by_system (t.system.0 == c.0) refl
               where
                 by_system : (b : Bool) → (t.system.0 == c.0) ≡ b → is_interested words' a t.system.0 ≡ true
                 by_system true f =
                     let same : t.system.0 ≡ c.0 = eqb-true t.system.0 c.0 f in
-                    let apart : a ≢ x = no-element deck words words' T g.right c.0 n (inbox w.medium c.0) (g.later c.0) (g.out c.0) (g.system c.0 n at alive) p me.fits.entries x idle (λ i ne. (same-role i ne, same-interest i ne)) t (and_from (t.system.0 == c.0) (is_some (lines_of deck t)) f known) r has a e in
-                    ap (is_interested words' a) same ∙ (same-interest a apart ∙ (ap (is_interested words a) (sym same) ∙ near))
+                    let apart : a ≢ x =
+                    no-element deck words words' T g.right c.0 n (inbox w.medium c.0) (g.later c.0) (g.out c.0)
+                    (g.system c.0 n at alive) p me.fits.entries x idle (λ i ne. (same-role i ne, same-interest i ne)) t
+                    (and_from (t.system.0 == c.0) (is_some (lines_of deck t)) f known) r has a e in
+                    ap (is_interested words' a) same
+                    ∙ (same-interest a apart ∙ (ap (is_interested words a) (sym same) ∙ near))
                 by_system false f = step.moves.interest a t.system.0 (eqb-false t.system.0 c.0 f) ∙ near
 
-        whole-left : IsOutcome deck w g c n (record { medium = left flags; step = with_star n (fixing_none n.tasks (left_at p x)) })
+        whole-left :
+            IsOutcome deck w g c n
+            (record { medium = left flags; step = with_star n (fixing_none n.tasks (left_at p x)) })
         whole-left = record {
-          stays = whole-placed deck w g c n at alive (record { medium = left flags; step = with_star n (fixing_none n.tasks (left_at p x)) }) step T (items-none w.fixed c) g.later g.out (λ u ne. refl) none_fixed
+          stays =
+              whole-placed deck w g c n at alive
+              (record { medium = left flags; step = with_star n (fixing_none n.tasks (left_at p x)) }) step T
+              (items-none w.fixed c) g.later g.out (λ u ne. refl) none_fixed
               g.right
               (near-words deck words' (all_lists w) near-then)
               own
               others
               (λ k found.
-              subst (λ (y : StarPart). Hands deck words' (are_live w) g.later g.out c.0 (in_hands y (inbox w.medium c.0))) (same_Some (left_at p x) k found)
-              (hands-words deck words words' (are_live w) g.later g.out c.0 (λ q h. same-role h.entry (alone q h) ∙ h.managed) (in_hands p (inbox w.medium c.0)) (g.hands c.0 n p at alive me.star)))
-              (λ m k v ne found lives star. hands-words deck words words' (are_live w) g.later g.out m (λ q h. step.moves.managers h.entry m ne ∙ h.managed) (in_hands v (inbox w.medium m)) (g.hands m k v found lives star));
+              subst (λ (y : StarPart).
+              Hands deck words' (are_live w) g.later g.out c.0 (in_hands y (inbox w.medium c.0)))
+              (same_Some (left_at p x) k found)
+              (hands-words deck words words' (are_live w) g.later g.out c.0
+              (λ q h. same-role h.entry (alone q h) ∙ h.managed) (in_hands p (inbox w.medium c.0))
+              (g.hands c.0 n p at alive me.star)))
+              (λ m k v ne found lives star.
+              hands-words deck words words' (are_live w) g.later g.out m
+              (λ q h. step.moves.managers h.entry m ne ∙ h.managed) (in_hands v (inbox w.medium m))
+              (g.hands m k v found lives star));
           news = tells_tasks (still-told refl) refl refl;
           heard = heard-left deck w g c n at alive x done (left flags) refl refl;
           dated = λ h. record { date = h.date; own = h.own };
         }
 
-      comes-left : ComesOf deck w g c n at alive (choices.Leave x) (replies.Left, cond (leave_changes (word_at words x) c) (record w.medium { words = words'; rest = awake w.medium c }) w.medium)
+      comes-left :
+          ComesOf deck w g c n at alive (choices.Leave x) (
+            replies.Left,
+            cond (leave_changes (word_at words x) c) (record w.medium { words = words'; rest = awake w.medium c })
+                w.medium,
+          )
       unfolding finish finish_call finish_star
       comes-left =
-          subst (λ (m : MediumState). Comes deck w g c n (record { medium = m; step = finish deck n (choices.Leave x) (Some replies.Left) })) (sym (left-is deck some w c inside n at alive g.roles me x free))
-          (comes-finished deck w g c n at alive (left (cond (leave_changes (word_at words x) c) (awake w.medium c) w.medium.rest)) (choices.Leave x) replies.Left (λ step. whole-left _ step))
+          subst (λ (m : MediumState).
+          Comes deck w g c n (record { medium = m; step = finish deck n (choices.Leave x) (Some replies.Left) }))
+          (sym (left-is deck some w c inside n at alive g.roles me x free))
+          (comes-finished deck w g c n at alive
+          (left (cond (leave_changes (word_at words x) c) (awake w.medium c) w.medium.rest)) (choices.Leave x)
+          replies.Left (λ step. whole-left _ step))
 
     -- a manager that would leave others behind is answered Kept, and nothing changes
-    comes-kept : is_kept (word_at words x) c ≡ true → ComesOf deck w g c n at alive (choices.Leave x) (replies.Kept (interest (word_at words x)), cond (leave_changes (word_at words x) c) (record w.medium { words = words'; rest = awake w.medium c }) w.medium)
+    comes-kept : is_kept (word_at words x) c ≡ true
+        → ComesOf deck w g c n at alive (choices.Leave x) (
+          replies.Kept (interest (word_at words x)),
+          cond (leave_changes (word_at words x) c) (record w.medium { words = words'; rest = awake w.medium c })
+              w.medium,
+        )
     unfolding finish finish_call finish_star leave_changes
     comes-kept is =
-        subst (λ (m : MediumState). Comes deck w g c n (record { medium = m; step = finish deck n (choices.Leave x) (Some (replies.Kept (interest (word_at words x)))) })) (sym same)
-        (comes-finished deck w g c n at alive w.medium (choices.Leave x) (replies.Kept (interest (word_at words x))) (comes-quiet deck w g c n at alive w.medium refl refl))
+        subst (λ (m : MediumState).
+        Comes deck w g c n (record {
+          medium = m;
+          step = finish deck n (choices.Leave x) (Some (replies.Kept (interest (word_at words x))));
+        }))
+        (sym same)
+        (comes-finished deck w g c n at alive w.medium (choices.Leave x) (replies.Kept (interest (word_at words x)))
+        (comes-quiet deck w g c n at alive w.medium refl refl))
       where
         stays : leave_changes (word_at words x) c ≡ false
-        stays = ap (λ b. has (interest (word_at words x)) c.0 && not b) is ∙ and_right (has (interest (word_at words x)) c.0) false refl
+        stays =
+            ap (λ b. has (interest (word_at words x)) c.0 && not b) is
+            ∙ and_right (has (interest (word_at words x)) c.0) false refl
 
-        same : cond (leave_changes (word_at words x) c) (record w.medium { words = words'; rest = awake w.medium c }) w.medium ≡ w.medium
+        same :
+            cond (leave_changes (word_at words x) c) (record w.medium { words = words'; rest = awake w.medium c })
+            w.medium
+            ≡ w.medium
         same = ap (λ b. cond b (record w.medium { words = words'; rest = awake w.medium c }) w.medium) stays
 
     comes-replied : ComesOf deck w g c n at alive (choices.Leave x) (row w.medium c (acts.Leave x))
     unfolding row leave_row leave_reply
-    comes-replied = by_test (λ reply. ComesOf deck w g c n at alive (choices.Leave x) (reply, cond (leave_changes (word_at words x) c) (record w.medium { words = words'; rest = awake w.medium c }) w.medium)) (is_kept (word_at words x) c) (replies.Kept (interest (word_at words x))) replies.Left
+    comes-replied =
+        by_test (λ reply.
+        ComesOf deck w g c n at alive (choices.Leave x) (
+          reply,
+          cond (leave_changes (word_at words x) c) (record w.medium { words = words'; rest = awake w.medium c })
+              w.medium,
+        ))
+        (is_kept (word_at words x) c) (replies.Kept (interest (word_at words x))) replies.Left
         (λ h. comes-kept h)
         (λ h. comes-left (ap (λ b. cond b (replies.Kept (interest (word_at words x))) replies.Left) h))
 
   pub outcome-leave : (x : ℕ) → Comes deck w g c n (chosen deck w.medium c n (choices.Leave x))
   unfolding chosen prepare
   outcome-leave x = comes-needs deck w g c n at alive (choices.Leave x)
-      (by_test (ComesBy deck w g c n at alive (choices.Leave x)) (may_leave p n.tasks x) (Asks (acts.Leave x)) Idle (λ h. comes-called deck w g c n at alive (choices.Leave x) (acts.Leave x) (comes-replied x h)) (λ h. comes-none deck w g c n at alive (choices.Leave x)))
+      (by_test (ComesBy deck w g c n at alive (choices.Leave x)) (may_leave p n.tasks x) (Asks (acts.Leave x)) Idle
+      (λ h. comes-called deck w g c n at alive (choices.Leave x) (acts.Leave x) (comes-replied x h))
+      (λ h. comes-none deck w g c n at alive (choices.Leave x)))

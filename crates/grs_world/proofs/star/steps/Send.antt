@@ -1,6 +1,7 @@
--- A request of one of its tasks is sent: it is decided by the system itself, where it manages the entry or nobody does, or
--- goes to the manager of its entry.
-use Rattle.std.proofs.Common.{suc, ◌≤◌, ◌≡◌, ◌<◌, ◌||◌, ◌&&◌, ℕ, Bool, true, false, not, cond, List, [], ◌∷◌, ◌++◌, length, Option, Some, None, refl, ap, sym, ◌∙◌, subst, arith}
+-- A request of one of its tasks is sent: it is decided by the system itself, where it manages the entry or nobody does,
+-- or goes to the manager of its entry.
+use Rattle.std.proofs.Common.{suc, ◌≤◌, ◌≡◌, ◌<◌, ◌||◌, ◌&&◌, ℕ, Bool, true, false, not, cond, List, [], ◌∷◌, ◌++◌}
+use Rattle.std.proofs.Common.{length, Option, Some, None, refl, ap, sym, ◌∙◌, subst, arith}
 use Rattle.std.specs.Prelude.{◌==◌, is_some, slice_get}
 use Rattle.std.proofs.lemmas.Bool.{and_parts, eqb-false, eq-eqb, and_from}
 use Rattle.contention_mgr.specs.Manager.{Managed, managed_at, plain, items_of, kept_for, entry_wanted, after_request}
@@ -15,8 +16,11 @@ use Rattle.grs_legal.specs.declared.meaning.Meaning.{Meaning}
 use Rattle.grs_medium.specs.Apply.{row, submit_row, submit_on, joined, manages as manages_word}
 use Rattle.grs_medium.specs.Inboxes.{with_mail}
 use Rattle.grs_medium.specs.Medium.{MediumState, awake, inbox}
-use Rattle.grs_node.specs.Node.{NodeState, prepare, may_send, is_of_deck, is_to_send, finish, finish_quiet, finish_call, finish_star, with_star, send_own}
-use Rattle.grs_node.specs.Star.{StarPart, request_of, entry_for, entry_asked, manages, with_interest, send_to, send_of, decide_own, own_step, begun, begin_at, sent_to, lists_for, answer_for, owners_by, rank_of}
+use Rattle.grs_node.specs.Node.{NodeState, prepare, may_send, is_of_deck, is_to_send, finish, finish_quiet, finish_call}
+use Rattle.grs_node.specs.Node.{finish_star, with_star, send_own}
+use Rattle.grs_node.specs.Star.{StarPart, request_of, entry_for, entry_asked, manages, with_interest, send_to, send_of}
+use Rattle.grs_node.specs.Star.{decide_own, own_step, begun, begin_at, sent_to, lists_for, answer_for, owners_by}
+use Rattle.grs_node.specs.Star.{rank_of}
 use Rattle.lock_structure.specs.Entries.{is_entry}
 use Rattle.grs_node.specs.declared.star.Need.TheVariants.{Alone, Asks, Idle}
 use Rattle.grs_wire.specs.Masks.{has}
@@ -57,17 +61,20 @@ use Rattle.grs_world.proofs.star.Events.{begun_part}
 use Rattle.grs_world.proofs.star.Ghosts.{ghosted}
 use Rattle.grs_world.proofs.star.Members.{IsPart, IsMember, manager-here, all_lists}
 use Rattle.grs_world.proofs.star.Roles.{want-within}
-use Rattle.grs_world.proofs.star.Sending.{WordsGrow, outcome-sent, outcome-decided, words-stay, submit-first, submit-grows, submit-near}
+use Rattle.grs_world.proofs.star.Sending.{WordsGrow, outcome-sent, outcome-decided, words-stay, submit-first}
+use Rattle.grs_world.proofs.star.Sending.{submit-grows, submit-near}
 use Rattle.grs_world.proofs.star.Systems.{IsSystem, here}
 use Rattle.grs_world.proofs.star.Under.{under, entry-same, answer-under, owners-under}
 use Rattle.grs_world.proofs.star.Worlds.{IsWhole}
 use Rattle.grs_world.proofs.star.hearing.Decided.{heard-decided}
 use Rattle.grs_world.proofs.star.hearing.Gains.{beginning-next, beginning-untold, untold_of}
-use Rattle.grs_world.proofs.star.steps.Outcome.{Comes, ComesBy, ComesOf, comes-needs, comes-none, comes-called, comes-finished}
+use Rattle.grs_world.proofs.star.steps.Outcome.{Comes, ComesBy, ComesOf, comes-needs, comes-none, comes-called}
+use Rattle.grs_world.proofs.star.steps.Outcome.{comes-finished}
 use Rattle.grs_known.proofs.lists.Alike.{Alike, answer-alike, owners-alike}
 
 -- a task whose request waits to be sent has sent none
-waits-free : (t : TaskId) (p : Phase) (qs : List Req) → is_to_send p ≡ true → are_sent t p qs ≡ true → is_among t (askers qs) ≡ false
+waits-free : (t : TaskId) (p : Phase) (qs : List Req) → is_to_send p ≡ true → are_sent t p qs ≡ true
+    → is_among t (askers qs) ≡ false
 waits-free t p [] waits h = refl
 waits-free t p (q ∷ qs) waits h = go (same_task t q.task) h (waits-free t p qs waits)
   where
@@ -80,35 +87,58 @@ waits-free t p (q ∷ qs) waits h = go (same_task t q.task) h (waits-free t p qs
     not_both (phases.Ending code) e f = absurd (cc)
     not_both phases.Ended e f = absurd (cc)
 
-    go : (b : Bool) → ((not b || is_sent p) && are_sent t p qs) ≡ true → (are_sent t p qs ≡ true → is_among t (askers qs) ≡ false) → (b || is_among t (askers qs)) ≡ false
+    go : (b : Bool) → ((not b || is_sent p) && are_sent t p qs) ≡ true
+        → (are_sent t p qs ≡ true → is_among t (askers qs) ≡ false) → (b || is_among t (askers qs)) ≡ false
     go true f more = absurd (not_both p waits (and_parts (is_sent p) (are_sent t p qs) f).0)
     go false f more = more f
 
 -- what is asked is of a resource
-pub asks-res : (limit : ℕ) (ls : List Meaning) (line : ℕ) (xs : List Rec) (w : Want) (unit : Option ℕ) → IsAskedFor limit ls line xs w unit → (r : Res) × (res_wanted w ≡ Some r)
+pub asks-res : (limit : ℕ) (ls : List Meaning) (line : ℕ) (xs : List Rec) (w : Want) (unit : Option ℕ)
+    → IsAskedFor limit ls line xs w unit → (r : Res) × (res_wanted w ≡ Some r)
 asks-res limit ls line xs (Enq r c ret full) unit h = (r, refl)
 asks-res limit ls line xs (Deq r have) unit h = (r, refl)
 asks-res limit ls line xs (Release r) unit h = (r, refl)
 asks-res limit ls line xs (Look first count f) unit h = absurd h
 
 -- A manager decides by its lists as all lists would.
-module _ (deck : Deck) (words : List ℕ) (L : State) (s : ℕ) (p : StarPart) (k : IsPart deck words L s p) (x : ℕ) (mine : manages p x ≡ true) (v : TasksView) (t : TaskId) (a : Asked) (r : Res) (wanted : res_wanted a.req.want ≡ Some r) (at : entry_wanted deck.entries a.req.want ≡ Some x) where
+module _ (deck : Deck) (words : List ℕ) (L : State) (s : ℕ) (p : StarPart) (k : IsPart deck words L s p) (x : ℕ)
+    (mine : manages p x ≡ true) (v : TasksView) (t : TaskId) (a : Asked) (r : Res)
+    (wanted : res_wanted a.req.want ≡ Some r) (at : entry_wanted deck.entries a.req.want ≡ Some x) where
   lists-are : Alike (lists_for p a.req.want) (under deck.entries x L)
-  lists-are = subst (λ o. Alike (plain (items_of (kept_for p.manager.entries o))) (under deck.entries x L)) (sym (ap (λ i. entry_wanted i a.req.want) k.entries ∙ at)) (k.lists x mine)
+  lists-are =
+      subst (λ o. Alike (plain (items_of (kept_for p.manager.entries o))) (under deck.entries x L))
+      (sym (ap (λ i. entry_wanted i a.req.want) k.entries ∙ at)) (k.lists x mine)
 
   here_at : is_entry x (entry_wanted deck.entries a.req.want) ≡ true
   here_at = entry-same x (entry_wanted deck.entries a.req.want) at
 
-  decides-as : tell_new (tell_answer_ranked v t a (answer_to L t a.req.want) (rank_of p (request_of t a))) (res_wanted a.req.want) (new_owners L t a.req.want) ≡
-      tell_new (tell_answer_ranked v t a (answer_for p (request_of t a)) (rank_of p (request_of t a))) (res_wanted a.req.want) (owners_by p (request_of t a))
+  decides-as :
+      tell_new (tell_answer_ranked v t a (answer_to L t a.req.want) (rank_of p (request_of t a)))
+      (res_wanted a.req.want) (new_owners L t a.req.want)
+      ≡
+      tell_new (tell_answer_ranked v t a (answer_for p (request_of t a)) (rank_of p (request_of t a)))
+      (res_wanted a.req.want) (owners_by p (request_of t a))
   decides-as = sym (
-      ap (λ z. tell_new (tell_answer_ranked v t a z (rank_of p (request_of t a))) (res_wanted a.req.want) (owners_by p (request_of t a))) (answer-alike (lists_for p a.req.want) (under deck.entries x L) t a.req.want r wanted lists-are)
-      ∙ ap (λ z. tell_new (tell_answer_ranked v t a (answer_to (under deck.entries x L) t a.req.want) (rank_of p (request_of t a))) (res_wanted a.req.want) z) (owners-alike (lists_for p a.req.want) (under deck.entries x L) t a.req.want lists-are)
-      ∙ ap (λ z. tell_new (tell_answer_ranked v t a z (rank_of p (request_of t a))) (res_wanted a.req.want) (new_owners (under deck.entries x L) t a.req.want)) (answer-under deck.entries x L t a.req.want r wanted here_at)
-      ∙ ap (λ z. tell_new (tell_answer_ranked v t a (answer_to L t a.req.want) (rank_of p (request_of t a))) (res_wanted a.req.want) z) (owners-under deck.entries x L t a.req.want r wanted here_at)
+      ap (λ z.
+      tell_new (tell_answer_ranked v t a z (rank_of p (request_of t a))) (res_wanted a.req.want)
+      (owners_by p (request_of t a)))
+      (answer-alike (lists_for p a.req.want) (under deck.entries x L) t a.req.want r wanted lists-are)
+      ∙ ap (λ z.
+      tell_new (tell_answer_ranked v t a (answer_to (under deck.entries x L) t a.req.want) (rank_of p (request_of t a)))
+      (res_wanted a.req.want) z)
+      (owners-alike (lists_for p a.req.want) (under deck.entries x L) t a.req.want lists-are)
+      ∙ ap (λ z.
+      tell_new (tell_answer_ranked v t a z (rank_of p (request_of t a))) (res_wanted a.req.want)
+      (new_owners (under deck.entries x L) t a.req.want))
+      (answer-under deck.entries x L t a.req.want r wanted here_at)
+      ∙ ap (λ z.
+      tell_new (tell_answer_ranked v t a (answer_to L t a.req.want) (rank_of p (request_of t a)))
+      (res_wanted a.req.want) z)
+      (owners-under deck.entries x L t a.req.want r wanted here_at)
       )
 
-module _ (deck : Deck) (some : 0 < deck.entries) (w : World) (g : IsWhole deck w) (c : SysId) (inside : c.0 < 8) (n : NodeState) (at : slice_get w.nodes c.0 ≡ Some n) (alive : has w.medium.removed c.0 ≡ false) where
+module _ (deck : Deck) (some : 0 < deck.entries) (w : World) (g : IsWhole deck w) (c : SysId) (inside : c.0 < 8)
+    (n : NodeState) (at : slice_get w.nodes c.0 ≡ Some n) (alive : has w.medium.removed c.0 ≡ false) where
   abbrev words : List ℕ
   words = w.medium.words
 
@@ -134,7 +164,8 @@ module _ (deck : Deck) (some : 0 < deck.entries) (w : World) (g : IsWhole deck w
     home =
         let both = and_parts (is_task n.tasks t) (is_of_deck deck t && is_to_send (state_of n.tasks t).phase) may in
         let more = and_parts (is_of_deck deck t) (is_to_send (state_of n.tasks t).phase) both.1 in
-        and_from (t.system.0 == c.0) (is_some (lines_of deck t)) (eq-eqb t.system.0 c.0 (sym (is_task-system n.tasks t both.0) ∙ h.at.good.system)) more.0
+        and_from (t.system.0 == c.0) (is_some (lines_of deck t))
+        (eq-eqb t.system.0 c.0 (sym (is_task-system n.tasks t both.0) ∙ h.at.good.system)) more.0
 
     waits : is_to_send (state_of n.tasks t).phase ≡ true
     unfolding may_send
@@ -146,16 +177,26 @@ module _ (deck : Deck) (some : 0 < deck.entries) (w : World) (g : IsWhole deck w
     lines = home-task deck c.0 (opens_of (g.later c.0) (g.out c.0) (ghosted n)) T n.tasks t h.at.good home
 
     free : is_among t (askers (g.out c.0)) ≡ false
-    free = waits-free t (state_of n.tasks t).phase (g.out c.0) waits (here deck c.0 (items w.fixed) (g.later c.0) (g.out c.0) n h.at t home).sent
+    free =
+        waits-free t (state_of n.tasks t).phase (g.out c.0) waits
+        (here deck c.0 (items w.fixed) (g.later c.0) (g.out c.0) n h.at t home).sent
 
     -- what it asks
     module _ (a : Asked) (is : (state_of n.tasks t).outstanding ≡ Some a) where
       resource : (r : Res) × (res_wanted a.req.want ≡ Some r)
       resource = asks-res deck.limit lines.0 (state_of n.tasks t).line (state_of n.tasks t).records a.req.want a.unit
-          (subst (λ o. IsOpenBy deck.limit lines.0 t (state_of n.tasks t) o) is (here deck c.0 (items w.fixed) (g.later c.0) (g.out c.0) n h.at t home).opened).2
+          (subst (λ o. IsOpenBy deck.limit lines.0 t (state_of n.tasks t) o) is
+          (here deck c.0 (items w.fixed) (g.later c.0) (g.out c.0) n h.at t home).opened).2
 
-      owned : (u : TaskId) → is_among u (new_owners (all_lists w) t a.req.want) ≡ true → owns (list_of (lists (items w.fixed ++ made_item c (items w.fixed) (fixing.Asked (request_of t a)) ∷ [])) resource.0) u ≡ true
-      owned u among = subst (λ s. owns (list_of s resource.0) u ≡ true) (sym (lists-push T (made_item c T (fixing.Asked (request_of t a))))) (new-owns L t a.req.want resource.0 u resource.1 among)
+      owned : (u : TaskId) → is_among u (new_owners (all_lists w) t a.req.want) ≡ true
+          → owns (list_of (lists (items w.fixed ++ made_item c (items w.fixed) (fixing.Asked (request_of t a)) ∷ []))
+          resource.0)
+          u
+          ≡ true
+      owned u among =
+          subst (λ s. owns (list_of s resource.0) u ≡ true)
+          (sym (lists-push T (made_item c T (fixing.Asked (request_of t a)))))
+          (new-owns L t a.req.want resource.0 u resource.1 among)
 
       -- of which entry
       module _ (x : ℕ) (asks : entry_for p a.req.want ≡ Some x) where
@@ -166,21 +207,42 @@ module _ (deck : Deck) (some : 0 < deck.entries) (w : World) (g : IsWhole deck w
         inside_words = let k = want-within deck.entries a.req.want x some of_entry in omega (arith, k, g.roles.words)
 
         -- it is decided by these words and this part, which manages the entry
-        decided : (ws : List ℕ) (flags : ℕ) (grow : WordsGrow w.medium.words ws) (q : StarPart) → IsPart deck ws (all_lists w) c.0 q → manages q x ≡ true → q.held ≡ p.held → ((v : Res) (u : TaskId) → untold_of p.manager v u ≡ true → untold_of q.manager v u ≡ true) → ((k : ℕ) → ((i : ℕ) (z : Managed) → managed_at p.manager i ≡ Some z → z.next ≤ suc k) → (i : ℕ) (z : Managed) → managed_at q.manager i ≡ Some z → z.next ≤ suc k) →
-            Comes deck w g c n (record { medium = record w.medium { words = ws; rest = flags }; step = with_star n (decide_own n.tasks q t a) })
+        decided : (ws : List ℕ) (flags : ℕ) (grow : WordsGrow w.medium.words ws) (q : StarPart)
+            → IsPart deck ws (all_lists w) c.0 q → manages q x ≡ true → q.held ≡ p.held
+            → ((v : Res) (u : TaskId) → untold_of p.manager v u ≡ true → untold_of q.manager v u ≡ true)
+            → ((k : ℕ) → ((i : ℕ) (z : Managed) → managed_at p.manager i ≡ Some z → z.next ≤ suc k)
+            → (i : ℕ) (z : Managed) → managed_at q.manager i ≡ Some z → z.next ≤ suc k)
+            →
+            Comes deck w g c n (record {
+              medium = record w.medium { words = ws; rest = flags };
+              step = with_star n (decide_own n.tasks q t a);
+            })
         unfolding decide_own
         decided ws flags grow q fits mine held begins low =
-            subst (λ (v : TasksView). Comes deck w g c n (record { medium = record w.medium { words = ws; rest = flags }; step = with_star n (record { tasks = v; part = record q { manager = after_request q.manager t a.req.want }; fixed = fixing.Asked (request_of t a) ∷ [] }) }))
+            subst (λ (v : TasksView).
+            Comes deck w g c n (record {
+              medium = record w.medium { words = ws; rest = flags };
+              step =
+                  with_star n (record {
+                    tasks = v;
+                    part = record q { manager = after_request q.manager t a.req.want };
+                    fixed = fixing.Asked (request_of t a) ∷ [];
+                  });
+            }))
             (decides-as deck ws L c.0 q fits x mine n.tasks t a resource.0 resource.1 of_entry)
-            (outcome-decided deck w g c n at alive ws grow flags t lines.0 lines.1 home a is free x of_entry (sym (fits.roles x) ∙ mine) resource.0 resource.1 (new_owners L t a.req.want) (rank_of q (request_of t a)) p (record q { manager = after_request q.manager t a.req.want }) me.star held owned
-            (heard-decided deck w g c n at alive ws flags t home a free x of_entry (sym (fits.roles x) ∙ mine) resource.0 resource.1 (rank_of q (request_of t a)) p q me.star fits held begins low))
+            (outcome-decided deck w g c n at alive ws grow flags t lines.0 lines.1 home a is free x of_entry
+            (sym (fits.roles x) ∙ mine) resource.0 resource.1 (new_owners L t a.req.want) (rank_of q (request_of t a)) p
+            (record q { manager = after_request q.manager t a.req.want }) me.star held owned
+            (heard-decided deck w g c n at alive ws flags t home a free x of_entry (sym (fits.roles x) ∙ mine)
+            resource.0 resource.1 (rank_of q (request_of t a)) p q me.star fits held begins low))
 
         -- the system manages the entry itself
         alone : manages p x ≡ true → ComesBy deck w g c n at alive (choices.Send t) Alone
         unfolding carry_out finish finish_quiet
         alone mine =
             subst (λ o. Comes deck w g c n (record { medium = w.medium; step = send_own n t o })) (sym me.star)
-            (subst (λ o. Comes deck w g c n (record { medium = w.medium; step = with_star n (own_step n.tasks p t o) })) (sym is)
+            (subst (λ o. Comes deck w g c n (record { medium = w.medium; step = with_star n (own_step n.tasks p t o) }))
+            (sym is)
             (decided words w.medium.rest (words-stay words) p me.fits mine refl (λ v u h. h) (λ k h. h)))
 
         -- another system manages it, or nobody does
@@ -191,65 +253,127 @@ module _ (deck : Deck) (some : 0 < deck.entries) (w : World) (g : IsWhole deck w
           grow : WordsGrow w.medium.words (submitted_words w.medium.words x c)
           grow = submit-grows words x c inside_words inside g.roles.managed
 
-          joined-is : manages_word w.medium c x ≡ false → joined w.medium c x ≡ record w.medium { words = submitted_words w.medium.words x c; rest = awake w.medium c }
+          joined-is : manages_word w.medium c x ≡ false
+              → joined w.medium c x
+              ≡ record w.medium { words = submitted_words w.medium.words x c; rest = awake w.medium c }
           joined-is e = ap (λ b. cond b w.medium (record w.medium { words = now; rest = awake w.medium c })) e
 
           -- nothing is kept of an entry that the system doesn't manage
           none_kept : managed_at p.manager x ≡ None
           none_kept = by_kept (managed_at p.manager x) refl not_mine
             where
-              by_kept : (o : Option Managed) → managed_at p.manager x ≡ o → is_some (managed_at p.manager x) ≡ false → managed_at p.manager x ≡ None
+              by_kept : (o : Option Managed) → managed_at p.manager x ≡ o → is_some (managed_at p.manager x) ≡ false
+                  → managed_at p.manager x ≡ None
               by_kept None e f = e
               by_kept (Some m) e f = absurd (let bad : true ≡ false = sym (ap is_some e) ∙ f in cc)
 
           there : x < length p.manager.entries
           there = let k = want-within deck.entries a.req.want x some of_entry in omega (arith, k, me.fits.entries)
 
-          sole : manager_at w.medium.words x ≡ None → Comes deck w g c n (record { medium = record w.medium { words = submitted_words w.medium.words x c; rest = awake w.medium c }; step = finish_star deck n (Some p) (choices.Send t) replies.Sole })
+          sole : manager_at w.medium.words x ≡ None
+              → Comes deck w g c n (record {
+                medium = record w.medium { words = submitted_words w.medium.words x c; rest = awake w.medium c };
+                step = finish_star deck n (Some p) (choices.Send t) replies.Sole;
+              })
           unfolding finish_star
           sole nobody =
-              let fits = begun_part deck some w c inside n at alive g.roles me x (want-within deck.entries a.req.want x some of_entry) nobody in
-              subst (λ o. Comes deck w g c n (record { medium = record w.medium { words = now; rest = awake w.medium c }; step = with_star n (begin_at n.tasks p t o (entry_asked p o)) })) (sym is)
-              (subst (λ o. Comes deck w g c n (record { medium = record w.medium { words = now; rest = awake w.medium c }; step = with_star n (begin_at n.tasks p t (Some a) o) })) (sym asks)
-              (decided now (awake w.medium c) grow (begun p x) fits (fits.roles x ∙ submit-first words x c inside_words inside g.roles.managed nobody) refl
-              (λ v u h. beginning-untold p.manager x there none_kept v u h) (λ k h. beginning-next p.manager x there k h)))
+              let fits =
+              begun_part deck some w c inside n at alive g.roles me x
+              (want-within deck.entries a.req.want x some of_entry) nobody in
+              subst (λ o.
+              Comes deck w g c n (record {
+                medium = record w.medium { words = now; rest = awake w.medium c };
+                step = with_star n (begin_at n.tasks p t o (entry_asked p o));
+              }))
+              (sym is)
+              (subst (λ o.
+              Comes deck w g c n (record {
+                medium = record w.medium { words = now; rest = awake w.medium c };
+                step = with_star n (begin_at n.tasks p t (Some a) o);
+              }))
+              (sym asks)
+              (decided now (awake w.medium c) grow (begun p x) fits
+              (fits.roles x ∙ submit-first words x c inside_words inside g.roles.managed nobody) refl
+              (λ v u h. beginning-untold p.manager x there none_kept v u h)
+              (λ k h. beginning-next p.manager x there k h)))
 
           sends : (s : SysId) → manager_at w.medium.words x ≡ Some s → (s.0 == c.0) ≡ false →
-              Comes deck w g c n (record { medium = record w.medium { words = submitted_words w.medium.words x c; inboxes = with_mail w.medium.inboxes s.0 (mails.Request x c (request_of t a)); rest = awake w.medium c }; step = finish_star deck n (Some p) (choices.Send t) replies.Sent })
+              Comes deck w g c n (record {
+                medium =
+                    record w.medium {
+                      words = submitted_words w.medium.words x c;
+                      inboxes = with_mail w.medium.inboxes s.0 (mails.Request x c (request_of t a));
+                      rest = awake w.medium c;
+                    };
+                step = finish_star deck n (Some p) (choices.Send t) replies.Sent;
+              })
           unfolding finish_star
           sends s manager apart =
-              subst (λ o. Comes deck w g c n (record { medium = record w.medium { words = now; inboxes = with_mail w.medium.inboxes s.0 (mails.Request x c (request_of t a)); rest = awake w.medium c }; step = with_star n (sent_to n.tasks p t o) })) (sym (ap (entry_asked p) is ∙ asks))
-              (outcome-sent deck w g c n at alive now grow (awake w.medium c) t lines.0 lines.1 home a is free x of_entry (submit-near words x c inside_words inside g.roles.managed) s (manager-here words x s manager) (eqb-false s.0 c.0 apart) p (with_interest p x true) me.star refl refl)
+              subst (λ o.
+              Comes deck w g c n (record {
+                medium =
+                    record w.medium {
+                      words = now;
+                      inboxes = with_mail w.medium.inboxes s.0 (mails.Request x c (request_of t a));
+                      rest = awake w.medium c;
+                    };
+                step = with_star n (sent_to n.tasks p t o);
+              }))
+              (sym (ap (entry_asked p) is ∙ asks))
+              (outcome-sent deck w g c n at alive now grow (awake w.medium c) t lines.0 lines.1 home a is free x
+              of_entry (submit-near words x c inside_words inside g.roles.managed) s (manager-here words x s manager)
+              (eqb-false s.0 c.0 apart) p (with_interest p x true) me.star refl refl)
 
-          by_route : (o : Option SysId) → manager_at w.medium.words x ≡ o → ComesOf deck w g c n at alive (choices.Send t) (submit_on w.medium c x (request_of t a) (route_by o c))
+          by_route : (o : Option SysId) → manager_at w.medium.words x ≡ o
+              → ComesOf deck w g c n at alive (choices.Send t) (submit_on w.medium c x (request_of t a) (route_by o c))
           unfolding finish finish_call
           by_route None nobody =
-              subst (λ (m : MediumState). Comes deck w g c n (record { medium = m; step = finish deck n (choices.Send t) (Some replies.Sole) })) (sym (joined-is (ap (λ o. is_manager o c) nobody)))
-              (comes-finished deck w g c n at alive (record w.medium { words = now; rest = awake w.medium c }) (choices.Send t) replies.Sole (sole nobody))
+              subst (λ (m : MediumState).
+              Comes deck w g c n (record { medium = m; step = finish deck n (choices.Send t) (Some replies.Sole) }))
+              (sym (joined-is (ap (λ o. is_manager o c) nobody)))
+              (comes-finished deck w g c n at alive (record w.medium { words = now; rest = awake w.medium c })
+              (choices.Send t) replies.Sole (sole nobody))
           by_route (Some s) manager =
-              let apart : (s.0 == c.0) ≡ false = sym (ap (λ o. is_manager o (record { 0 = c.0 })) manager) ∙ (sym (me.fits.roles x) ∙ not_mine) in
+              let apart : (s.0 == c.0) ≡ false =
+              sym (ap (λ o. is_manager o (record { 0 = c.0 })) manager) ∙ (sym (me.fits.roles x) ∙ not_mine) in
               let boxes = with_mail w.medium.inboxes s.0 (mails.Request x c (request_of t a)) in
-              subst (λ (b : Bool). ComesOf deck w g c n at alive (choices.Send t) (submit_on w.medium c x (request_of t a) (cond b routes.Sole (routes.To s)))) (sym apart)
-              (subst (λ (m : MediumState). Comes deck w g c n (record { medium = record m { inboxes = boxes }; step = finish deck n (choices.Send t) (Some replies.Sent) })) (sym (joined-is (ap (λ o. is_manager o c) manager ∙ apart)))
-              (comes-finished deck w g c n at alive (record w.medium { words = now; inboxes = boxes; rest = awake w.medium c }) (choices.Send t) replies.Sent (sends s manager apart)))
+              subst (λ (b : Bool).
+              ComesOf deck w g c n at alive (choices.Send t)
+              (submit_on w.medium c x (request_of t a) (cond b routes.Sole (routes.To s))))
+              (sym apart)
+              (subst (λ (m : MediumState).
+              Comes deck w g c n (record {
+                medium = record m { inboxes = boxes };
+                step = finish deck n (choices.Send t) (Some replies.Sent);
+              }))
+              (sym (joined-is (ap (λ o. is_manager o c) manager ∙ apart)))
+              (comes-finished deck w g c n at alive
+              (record w.medium { words = now; inboxes = boxes; rest = awake w.medium c }) (choices.Send t) replies.Sent
+              (sends s manager apart)))
 
           submitted : ComesOf deck w g c n at alive (choices.Send t) (row w.medium c (acts.Submit x (request_of t a)))
           unfolding row submit_row route
           submitted = by_route (manager_at words x) refl
 
-      by_entry : (o : Option ℕ) → entry_for p a.req.want ≡ o → ComesBy deck w g c n at alive (choices.Send t) (send_to p (request_of t a) o)
+      by_entry : (o : Option ℕ) → entry_for p a.req.want ≡ o
+          → ComesBy deck w g c n at alive (choices.Send t) (send_to p (request_of t a) o)
       by_entry None e = comes-none deck w g c n at alive (choices.Send t)
-      by_entry (Some x) e = by_test (ComesBy deck w g c n at alive (choices.Send t)) (manages p x) Alone (Asks (acts.Submit x (request_of t a)))
+      by_entry (Some x) e =
+          by_test (ComesBy deck w g c n at alive (choices.Send t)) (manages p x) Alone
+          (Asks (acts.Submit x (request_of t a)))
           (λ mine. alone x e mine)
-          (λ not_mine. comes-called deck w g c n at alive (choices.Send t) (acts.Submit x (request_of t a)) (submitted x e not_mine))
+          (λ not_mine.
+          comes-called deck w g c n at alive (choices.Send t) (acts.Submit x (request_of t a)) (submitted x e not_mine))
 
-    by_asked : (o : Option Asked) → (state_of n.tasks t).outstanding ≡ o → ComesBy deck w g c n at alive (choices.Send t) (send_of p t o)
+    by_asked : (o : Option Asked) → (state_of n.tasks t).outstanding ≡ o
+        → ComesBy deck w g c n at alive (choices.Send t) (send_of p t o)
     by_asked None e = comes-none deck w g c n at alive (choices.Send t)
     by_asked (Some a) e = by_entry a e (entry_for p a.req.want) refl
 
   pub outcome-send : (t : TaskId) → Comes deck w g c n (chosen deck w.medium c n (choices.Send t))
   unfolding chosen prepare
   outcome-send t = comes-needs deck w g c n at alive (choices.Send t)
-      (by_test (ComesBy deck w g c n at alive (choices.Send t)) (may_send deck n t) (send_of p t (state_of n.tasks t).outstanding) Idle
+      (by_test (ComesBy deck w g c n at alive (choices.Send t)) (may_send deck n t)
+      (send_of p t (state_of n.tasks t).outstanding) Idle
       (λ may. by_asked t may (state_of n.tasks t).outstanding refl)
       (λ e. comes-none deck w g c n at alive (choices.Send t)))

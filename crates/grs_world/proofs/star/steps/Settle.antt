@@ -1,5 +1,6 @@
 -- A manager settles the request that it holds first: it answers by its own lists of the entry, which are the history's.
-use Rattle.std.proofs.Common.{◌≡◌, ◌++◌, true, cond, List, [], ◌∷◌, Option, Some, None, refl, ap, sym, ◌∙◌, subst, false}
+use Rattle.std.proofs.Common.{◌≡◌, ◌++◌, true, cond, List, [], ◌∷◌, Option, Some, None, refl, ap, sym, ◌∙◌, subst}
+use Rattle.std.proofs.Common.{false}
 use Rattle.std.specs.Prelude.{drop, slice_get}
 use Rattle.std.proofs.lemmas.Option.{same_Some}
 use Rattle.contention_mgr.specs.Manager.{Managed, plain, items_of, kept_for, entry_wanted, after_request, rank_for}
@@ -16,7 +17,8 @@ use Rattle.grs_medium.specs.Apply.{row, mail_row}
 use Rattle.grs_medium.specs.Inboxes.{with_mail}
 use Rattle.grs_medium.specs.Medium.{MediumState, awake}
 use Rattle.grs_node.specs.Node.{NodeState, prepare, finish, finish_call, finish_star, with_star}
-use Rattle.grs_node.specs.Star.{StarPart, answer_for, first_held, lists_for, owners_by, fixing_none, rank_of, serves, settle_by, settled_by, settled_first}
+use Rattle.grs_node.specs.Star.{StarPart, answer_for, first_held, lists_for, owners_by, fixing_none, rank_of, serves}
+use Rattle.grs_node.specs.Star.{settle_by, settled_by, settled_first}
 use Rattle.grs_node.specs.declared.star.Need.TheVariants.{Asks, Idle}
 use Rattle.grs_wire.specs.Masks.{has}
 use Rattle.grs_wire.specs.Wants.{answer_to, new_owners, res_wanted}
@@ -40,7 +42,8 @@ use Rattle.grs_world.proofs.star.Systems.{gives_want}
 use Rattle.grs_world.proofs.star.Under.{under, answer-under, entry-same, owners-under, res-entry}
 use Rattle.grs_world.proofs.star.Worlds.{IsHand, IsWhole, are_live, items-one}
 use Rattle.grs_world.proofs.star.hearing.Settled.{heard-settled}
-use Rattle.grs_world.proofs.star.steps.Outcome.{Comes, ComesBy, ComesOf, comes-called, comes-finished, comes-needs, comes-none}
+use Rattle.grs_world.proofs.star.steps.Outcome.{Comes, ComesBy, ComesOf, comes-called, comes-finished, comes-needs}
+use Rattle.grs_world.proofs.star.steps.Outcome.{comes-none}
 use Rattle.grs_known.proofs.lists.Alike.{Alike, answer-alike, owners-alike}
 use Rattle.grs_world.proofs.run.Desks.{tells_tasks}
 use Rattle.grs_world.proofs.rest.StarTasks.{dated-by, keeps-new}
@@ -57,7 +60,8 @@ first-of : (qs : List Req) (q : Req) → slice_get qs 0 ≡ Some q → qs ≡ q 
 first-of [] q is = absurd (cc)
 first-of (z ∷ qs) q is = ap (λ y. y ∷ qs) (same_Some z q is)
 
-module _ (deck : Deck) (w : World) (g : IsWhole deck w) (c : SysId) (n : NodeState) (at : slice_get w.nodes c.0 ≡ Some n) (alive : has w.medium.removed c.0 ≡ false) where
+module _ (deck : Deck) (w : World) (g : IsWhole deck w) (c : SysId) (n : NodeState)
+    (at : slice_get w.nodes c.0 ≡ Some n) (alive : has w.medium.removed c.0 ≡ false) where
   abbrev me : IsMember deck w.medium.words (all_lists w) c.0 n
   me = g.roles.node c.0 n at alive
 
@@ -82,7 +86,9 @@ module _ (deck : Deck) (w : World) (g : IsWhole deck w) (c : SysId) (n : NodeSta
     follow = follows-now deck w g c n at alive p me.star q (drop 1 p.held) held
 
     wanted : res_wanted q.want ≡ Some follow.ask.res
-    wanted = ap (λ (z : Req). res_wanted z.want) (same_req deck w g c n at alive p me.star q (drop 1 p.held) held) ∙ follow.ask.wanted
+    wanted =
+        ap (λ (z : Req). res_wanted z.want) (same_req deck w g c n at alive p me.star q (drop 1 p.held) held)
+        ∙ follow.ask.wanted
 
     of_entry : entry_of_res deck.entries follow.ask.res ≡ Some its.entry
     of_entry = res-entry deck.entries q.want follow.ask.res its.entry wanted its.at
@@ -90,58 +96,104 @@ module _ (deck : Deck) (w : World) (g : IsWhole deck w) (c : SysId) (n : NodeSta
     -- its lists of the entry are what all lists have of it
     lists-here : Alike (lists_for p q.want) (under deck.entries its.entry (lists T))
     lists-here =
-        subst (λ o. Alike (plain (items_of (kept_for p.manager.entries o))) (under deck.entries its.entry (lists T))) (sym (ap (λ k. entry_wanted k q.want) me.fits.entries ∙ its.at))
+        subst (λ o. Alike (plain (items_of (kept_for p.manager.entries o))) (under deck.entries its.entry (lists T)))
+        (sym (ap (λ k. entry_wanted k q.want) me.fits.entries ∙ its.at))
         (me.fits.lists its.entry (me.fits.roles its.entry ∙ its.managed))
 
     -- so they answer the same, and give the same tasks control
     same-answer : answer_for p q ≡ answer_to (lists T) q.task q.want
-    same-answer = answer-alike (lists_for p q.want) (under deck.entries its.entry (lists T)) q.task q.want follow.ask.res wanted lists-here ∙ answer-under deck.entries its.entry (lists T) q.task q.want follow.ask.res wanted (entry-same its.entry (entry_wanted deck.entries q.want) its.at)
+    same-answer =
+        answer-alike (lists_for p q.want) (under deck.entries its.entry (lists T)) q.task q.want follow.ask.res wanted
+        lists-here
+        ∙ answer-under deck.entries its.entry (lists T) q.task q.want follow.ask.res wanted
+        (entry-same its.entry (entry_wanted deck.entries q.want) its.at)
 
     same-owners : owners_by p q ≡ new_owners (lists T) q.task q.want
-    same-owners = owners-alike (lists_for p q.want) (under deck.entries its.entry (lists T)) q.task q.want lists-here ∙ owners-under deck.entries its.entry (lists T) q.task q.want follow.ask.res wanted (entry-same its.entry (entry_wanted deck.entries q.want) its.at)
+    same-owners =
+        owners-alike (lists_for p q.want) (under deck.entries its.entry (lists T)) q.task q.want lists-here
+        ∙ owners-under deck.entries its.entry (lists T) q.task q.want follow.ask.res wanted
+        (entry-same its.entry (entry_wanted deck.entries q.want) its.at)
 
-    own : (u : TaskId) → is_among u (owners_by p q) ≡ true → owns (list_of (lists (T ++ item ∷ [])) follow.ask.res) u ≡ true
-    own u among = ap (λ z. owns (list_of z follow.ask.res) u) (lists-push T item) ∙ new-owns (lists T) q.task q.want follow.ask.res u wanted (sym (ap (is_among u) same-owners) ∙ among)
+    own : (u : TaskId) → is_among u (owners_by p q) ≡ true
+        → owns (list_of (lists (T ++ item ∷ [])) follow.ask.res) u ≡ true
+    own u among =
+        ap (λ z. owns (list_of z follow.ask.res) u) (lists-push T item)
+        ∙ new-owns (lists T) q.task q.want follow.ask.res u wanted (sym (ap (is_among u) same-owners) ∙ among)
 
     -- the system then
     abbrev after : StarPart
     after = record p { manager = after_request p.manager q.task q.want; held = drop 1 p.held }
 
-    node-is : record n { tasks = tell_new n.tasks (res_wanted q.want) (owners_by p q); star = Some after } ≡ record n { tasks = tell_all n.tasks follow.ask.res (owners_by p q); star = Some after }
+    node-is : record n { tasks = tell_new n.tasks (res_wanted q.want) (owners_by p q); star = Some after }
+        ≡ record n { tasks = tell_all n.tasks follow.ask.res (owners_by p q); star = Some after }
     unfolding tell_new
     node-is = ap (λ o. record n { tasks = tell_new n.tasks o (owners_by p q); star = Some after }) wanted
 
-    news : ToldNews deck c.0 (history (items (w.fixed ++ fixed_by c (fixes.Asked q ∷ [])))) n.tasks.told (tell_new n.tasks (res_wanted q.want) (owners_by p q)).told
+    news :
+        ToldNews deck c.0 (history (items (w.fixed ++ fixed_by c (fixes.Asked q ∷ [])))) n.tasks.told
+        (tell_new n.tasks (res_wanted q.want) (owners_by p q)).told
     news =
-        subst (λ xs. ToldNews deck c.0 (history xs) n.tasks.told (tell_new n.tasks (res_wanted q.want) (owners_by p q)).told) (sym (items-one w.fixed c (fixes.Asked q)))
+        subst (λ xs.
+        ToldNews deck c.0 (history xs) n.tasks.told (tell_new n.tasks (res_wanted q.want) (owners_by p q)).told)
+        (sym (items-one w.fixed c (fixes.Asked q)))
         (subst (λ (k : NodeState). ToldNews deck c.0 (history (T ++ item ∷ [])) n.tasks.told k.tasks.told) (sym node-is)
-        (told-news (manager-after deck w g c n at alive p me.star q (drop 1 p.held) held follow.ask.res (owners_by p q) own of_entry (Some after)).told))
+        (told-news (manager-after deck w g c n at alive p me.star q (drop 1 p.held) held follow.ask.res (owners_by p q)
+        own of_entry (Some after)).told))
 
     -- the medium, where this answer is sent
     abbrev answered : Answer → MediumState
-    answered a = record w.medium { inboxes = with_mail w.medium.inboxes q.task.system.0 (mails.Answered q.task a (rank_of p q)); rest = awake w.medium c }
+    answered a =
+        record w.medium {
+          inboxes = with_mail w.medium.inboxes q.task.system.0 (mails.Answered q.task a (rank_of p q));
+          rest = awake w.medium c;
+        }
 
-    by-history : Comes deck w g c n (record { medium = answered (answer_to (lists T) q.task q.want); step = with_star n (settled_first n.tasks p q) })
+    by-history :
+        Comes deck w g c n (record {
+          medium = answered (answer_to (lists T) q.task q.want);
+          step = with_star n (settled_first n.tasks p q);
+        })
     by-history step = record {
-      stays = whole-settled deck w g c n at alive p me.star q (drop 1 p.held) held (rank_of p q) (rank-plain _ q.task q.want) (awake w.medium c) follow.ask.res wanted (owners_by p q) own of_entry after refl _ node-is step;
+      stays =
+          whole-settled deck w g c n at alive p me.star q (drop 1 p.held) held (rank_of p q)
+          (rank-plain _ q.task q.want) (awake w.medium c) follow.ask.res wanted (owners_by p q) own of_entry after refl
+          _ node-is step;
       news = tells_tasks news refl refl;
-      heard = heard-settled deck w g c n at alive p me.star me.fits q (drop 1 p.held) held its follow.ask.res wanted same-owners (awake w.medium c);
-      dated = λ h. dated-by deck c.0 n (with_star n (settled_first n.tasks p q)).node refl h (keeps-new deck n.tasks (res_wanted q.want) (owners_by p q) h.date);
+      heard =
+          heard-settled deck w g c n at alive p me.star me.fits q (drop 1 p.held) held its follow.ask.res wanted
+          same-owners (awake w.medium c);
+      dated = λ h.
+          dated-by deck c.0 n (with_star n (settled_first n.tasks p q)).node refl h
+          (keeps-new deck n.tasks (res_wanted q.want) (owners_by p q) h.date);
     }
 
-    comes-settled : serves p q ≡ true → ComesOf deck w g c n at alive choices.Settle (row w.medium c (acts.Settle q.task.system (mails.Answered q.task (answer_for p q) (rank_of p q))))
+    comes-settled : serves p q ≡ true
+        → ComesOf deck w g c n at alive choices.Settle
+        (row w.medium c (acts.Settle q.task.system (mails.Answered q.task (answer_for p q) (rank_of p q))))
     unfolding row mail_row finish finish_call finish_star
     comes-settled serving =
         comes-finished deck w g c n at alive (answered (answer_for p q)) choices.Settle replies.Settled
-        (subst (λ o. Comes deck w g c n (record { medium = answered (answer_for p q); step = with_star n (settled_by n.tasks p o) })) (sym first)
-        (subst (λ b. Comes deck w g c n (record { medium = answered (answer_for p q); step = with_star n (cond b (settled_first n.tasks p q) (fixing_none n.tasks p)) })) (sym serving)
-        (subst (λ a. Comes deck w g c n (record { medium = answered a; step = with_star n (settled_first n.tasks p q) })) (sym same-answer) by-history)))
+        (subst (λ o.
+        Comes deck w g c n (record { medium = answered (answer_for p q); step = with_star n (settled_by n.tasks p o) }))
+        (sym first)
+        (subst (λ b.
+        Comes deck w g c n (record {
+          medium = answered (answer_for p q);
+          step = with_star n (cond b (settled_first n.tasks p q) (fixing_none n.tasks p));
+        }))
+        (sym serving)
+        (subst (λ a.
+        Comes deck w g c n (record { medium = answered a; step = with_star n (settled_first n.tasks p q) }))
+        (sym same-answer) by-history)))
 
   by_first : (o : Option Req) → first_held p ≡ o → ComesBy deck w g c n at alive choices.Settle (settle_by p o)
   by_first None e = comes-none deck w g c n at alive choices.Settle
   by_first (Some q) e =
-      by_test (ComesBy deck w g c n at alive choices.Settle) (serves p q) (Asks (acts.Settle q.task.system (mails.Answered q.task (answer_for p q) (rank_of p q)))) Idle
-      (λ h. comes-called deck w g c n at alive choices.Settle (acts.Settle q.task.system (mails.Answered q.task (answer_for p q) (rank_of p q))) (comes-settled q e h))
+      by_test (ComesBy deck w g c n at alive choices.Settle) (serves p q)
+      (Asks (acts.Settle q.task.system (mails.Answered q.task (answer_for p q) (rank_of p q)))) Idle
+      (λ h.
+      comes-called deck w g c n at alive choices.Settle
+      (acts.Settle q.task.system (mails.Answered q.task (answer_for p q) (rank_of p q))) (comes-settled q e h))
       (λ h. comes-none deck w g c n at alive choices.Settle)
 
   pub outcome-settle : Comes deck w g c n (chosen deck w.medium c n choices.Settle)

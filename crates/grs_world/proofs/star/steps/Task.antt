@@ -25,30 +25,53 @@ use Rattle.grs_world.proofs.rest.Ring.{distinct-at}
 use Rattle.grs_world.proofs.rest.StarTasks.{IsDated, dated-task}
 use Rattle.grs_world.proofs.star.Ghosts.{ghosted}
 
-module _ (deck : Deck) (w : World) (g : IsWhole deck w) (c : SysId) (n : NodeState) (at : slice_get w.nodes c.0 ≡ Some n) (alive : has w.medium.removed c.0 ≡ false) where
+module _ (deck : Deck) (w : World) (g : IsWhole deck w) (c : SysId) (n : NodeState)
+    (at : slice_get w.nodes c.0 ≡ Some n) (alive : has w.medium.removed c.0 ≡ false) where
   -- what it tells agrees
-  task-news : (st : Step) → Task deck w.medium.words (items w.fixed) g.right c.0 n (inbox w.medium c.0) (g.later c.0) (g.out c.0) (g.system c.0 n at alive) c st → ToldNews deck c.0 (history (items (w.fixed ++ fixed_by c st.fixed))) n.tasks.told st.node.tasks.told
-  task-news st (idle_task none_fixed z) = subst (λ U. ToldNews deck c.0 (history U) n.tasks.told st.node.tasks.told) (sym (ap (λ fs. items (w.fixed ++ fixed_by c fs)) none_fixed ∙ items-none w.fixed c)) (told-news z.told)
+  task-news : (st : Step)
+      → Task deck w.medium.words (items w.fixed) g.right c.0 n (inbox w.medium c.0) (g.later c.0) (g.out c.0)
+      (g.system c.0 n at alive) c st
+      → ToldNews deck c.0 (history (items (w.fixed ++ fixed_by c st.fixed))) n.tasks.told st.node.tasks.told
+  task-news st (idle_task none_fixed z) =
+      subst (λ U. ToldNews deck c.0 (history U) n.tasks.told st.node.tasks.told)
+      (sym (ap (λ fs. items (w.fixed ++ fixed_by c fs)) none_fixed ∙ items-none w.fixed c)) (told-news z.told)
   task-news st (local_task q one_fixed mine_q away m z) =
-      subst (λ U. ToldNews deck c.0 (history U) n.tasks.told st.node.tasks.told) (sym (ap (λ fs. items (w.fixed ++ fixed_by c fs)) one_fixed ∙ items-one w.fixed c (fixing.Asked q))) (told-news z.told)
+      subst (λ U. ToldNews deck c.0 (history U) n.tasks.told st.node.tasks.told)
+      (sym (ap (λ fs. items (w.fixed ++ fixed_by c fs)) one_fixed ∙ items-one w.fixed c (fixing.Asked q)))
+      (told-news z.told)
 
   -- and its tasks stay up to date
-  own-dated : (t : TaskId) → may_go deck n t ≡ true → IsDated deck c.0 n → IsDated deck c.0 (finish_quiet deck n (choices.Task t)).node
-  own-dated t goes = dated-task deck c.0 n (g.system c.0 n at alive).at.good.system (λ u ls o. distinct-at deck c.0 (items w.fixed) [] (g.later c.0) (g.out c.0) (ghosted n) (g.system c.0 n at alive).at u ls o) t goes
+  own-dated : (t : TaskId) → may_go deck n t ≡ true → IsDated deck c.0 n
+      → IsDated deck c.0 (finish_quiet deck n (choices.Task t)).node
+  own-dated t goes =
+      dated-task deck c.0 n (g.system c.0 n at alive).at.good.system
+      (λ u ls o.
+      distinct-at deck c.0 (items w.fixed) [] (g.later c.0) (g.out c.0) (ghosted n) (g.system c.0 n at alive).at u ls o)
+      t goes
 
-  goes-on : (t : TaskId) → may_go deck n t ≡ true → Comes deck w g c n (record { medium = w.medium; step = finish_quiet deck n (choices.Task t) })
+  goes-on : (t : TaskId) → may_go deck n t ≡ true
+      → Comes deck w g c n (record { medium = w.medium; step = finish_quiet deck n (choices.Task t) })
   unfolding finish_quiet
   goes-on t goes step = record {
     stays = whole-task deck w g c n at alive t goes step;
-    news = tells_tasks (task-news (finish_quiet deck n (choices.Task t)) (system-task deck w.medium.words (items w.fixed) g.right c.0 n (inbox w.medium c.0) (g.later c.0) (g.out c.0) (g.system c.0 n at alive) c t goes)) (stays-task deck.limit n t (lines_of deck t)).done refl;
-    heard = heard-task deck w g c n at alive t goes (system-task deck w.medium.words (items w.fixed) g.right c.0 n (inbox w.medium c.0) (g.later c.0) (g.out c.0) (g.system c.0 n at alive) c t goes);
+    news =
+        tells_tasks (task-news (finish_quiet deck n (choices.Task t))
+        (system-task deck w.medium.words (items w.fixed) g.right c.0 n (inbox w.medium c.0) (g.later c.0) (g.out c.0)
+        (g.system c.0 n at alive) c t goes))
+        (stays-task deck.limit n t (lines_of deck t)).done refl;
+    heard =
+        heard-task deck w g c n at alive t goes (system-task deck w.medium.words (items w.fixed) g.right c.0 n
+        (inbox w.medium c.0) (g.later c.0) (g.out c.0) (g.system c.0 n at alive) c t goes);
     dated = own-dated t goes;
   }
 
-  by_itself : (t : TaskId) → may_go deck n t ≡ true → Comes deck w g c n (carry_out deck w.medium c n (choices.Task t) Quiet)
+  by_itself : (t : TaskId) → may_go deck n t ≡ true
+      → Comes deck w g c n (carry_out deck w.medium c n (choices.Task t) Quiet)
   unfolding carry_out finish
   by_itself t goes = goes-on t goes
 
   pub outcome-task : (t : TaskId) → Comes deck w g c n (chosen deck w.medium c n (choices.Task t))
   unfolding chosen prepare
-  outcome-task t = by_test (λ p. Comes deck w g c n (carry_out deck w.medium c n (choices.Task t) p)) (may_go deck n t) Quiet Nothing (λ h. by_itself t h) (λ h. comes-none deck w g c n at alive (choices.Task t))
+  outcome-task t =
+      by_test (λ p. Comes deck w g c n (carry_out deck w.medium c n (choices.Task t) p)) (may_go deck n t) Quiet Nothing
+      (λ h. by_itself t h) (λ h. comes-none deck w g c n at alive (choices.Task t))

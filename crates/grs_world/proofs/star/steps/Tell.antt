@@ -1,5 +1,6 @@
 -- A manager tells an owner of another system that it owns.
-use Rattle.std.proofs.Common.{◌<◌, ◌≡◌, ◌≢◌, ℕ, Bool, true, false, not, List, [], ◌∷◌, ◌++◌, length, Option, Some, None, refl, ap, sym, ◌∙◌, subst, arith}
+use Rattle.std.proofs.Common.{◌<◌, ◌≡◌, ◌≢◌, ℕ, Bool, true, false, not, List, [], ◌∷◌, ◌++◌, length, Option, Some, None}
+use Rattle.std.proofs.Common.{refl, ap, sym, ◌∙◌, subst, arith}
 use Rattle.std.specs.Prelude.{◌==◌, is_some, slice_get}
 use Rattle.std.specs.Option.{option_map}
 use Rattle.std.proofs.lemmas.Bool.{and_parts, eqb-true, eqb-false, eq-eqb, and_from, not-true}
@@ -39,10 +40,12 @@ use Rattle.grs_world.proofs.star.Elements.{near-has}
 use Rattle.grs_world.proofs.star.Members.{IsPart, has_manager, one-manages}
 use Rattle.grs_world.proofs.star.Systems.{IsSystem, IsAway, near_at, requests_in, system-granted}
 use Rattle.grs_world.proofs.star.Under.{under, in_entry, entry-is, list-under, under-has}
-use Rattle.grs_world.proofs.star.Worlds.{IsWhole, Hands, are_live, in_hands, items-none, whole-placed, none_fixed, live-below}
+use Rattle.grs_world.proofs.star.Worlds.{IsWhole, Hands, are_live, in_hands, items-none, whole-placed, none_fixed}
+use Rattle.grs_world.proofs.star.Worlds.{live-below}
 use Rattle.grs_world.proofs.star.Heard.{StaysHeard}
 use Rattle.grs_world.proofs.star.hearing.Told.{heard-told}
-use Rattle.grs_world.proofs.star.steps.Outcome.{Comes, ComesBy, ComesOf, part, comes-called, comes-finished, comes-needs, comes-none}
+use Rattle.grs_world.proofs.star.steps.Outcome.{Comes, ComesBy, ComesOf, part, comes-called, comes-finished}
+use Rattle.grs_world.proofs.star.steps.Outcome.{comes-needs, comes-none}
 use Rattle.grs_known.proofs.lists.Alike.{Alike}
 use Rattle.grs_world.proofs.run.Desks.{tells_tasks}
 
@@ -56,18 +59,26 @@ record IsOwner (deck : Deck) (words : List ℕ) (L : State) (s e : ℕ) (t : Tas
 
 module _ (deck : Deck) (words : List ℕ) (L : State) (s : ℕ) (p : StarPart) (k : IsPart deck words L s p) (e : ℕ) where
   -- the owner who is found first in an entry is one
-  module _ (m : Managed) (is : managed_at p.manager e ≡ Some m) (y : Ranked) (first : first_untold p.manager.system.0 m.items ≡ Some y) where
+  module _ (m : Managed) (is : managed_at p.manager e ≡ Some m) (y : Ranked)
+      (first : first_untold p.manager.system.0 m.items ≡ Some y) where
     kept : Alike (plain m.items) (under deck.entries e L)
     kept = subst (λ o. Alike (plain (items_of o)) (under deck.entries e L)) is (k.lists e (ap is_some is))
 
     by_manager : owns (list_of (under deck.entries e L) y.res) y.elem.task ≡ true
-    by_manager = ap (λ es. owns es y.elem.task) (sym (kept.lists y.res)) ∙ first_untold_owns p.manager.system.0 p.manager.system.0 m y (k.well e m is).untold first
+    by_manager =
+        ap (λ es. owns es y.elem.task) (sym (kept.lists y.res))
+        ∙ first_untold_owns p.manager.system.0 p.manager.system.0 m y (k.well e m is).untold first
 
     here : in_entry deck.entries e y.res ≡ true
-    here = under-has deck.entries e L y.res y.elem.task (owns-has (list_of (under deck.entries e L) y.res) y.elem.task by_manager)
+    here =
+        under-has deck.entries e L y.res y.elem.task
+        (owns-has (list_of (under deck.entries e L) y.res) y.elem.task by_manager)
 
     elsewhere : (p.manager.system.0 == y.elem.task.system.0) ≡ false
-    elsewhere = not-true (p.manager.system.0 == y.elem.task.system.0) (and_parts y.untold (not (p.manager.system.0 == y.elem.task.system.0)) (first_is_untold p.manager.system.0 m.items y first).2).1
+    elsewhere =
+        not-true (p.manager.system.0 == y.elem.task.system.0)
+        (and_parts y.untold (not (p.manager.system.0 == y.elem.task.system.0))
+        (first_is_untold p.manager.system.0 m.items y first).2).1
 
     is-owner : IsOwner deck words L s e y.elem.task y.res
     is-owner = record {
@@ -80,11 +91,17 @@ module _ (deck : Deck) (words : List ℕ) (L : State) (s : ℕ) (p : StarPart) (
   first-owns : (x : TaskId × Res) → to_tell p e ≡ Some x → IsOwner deck words L s e x.0 x.1
   first-owns x = by_entry (managed_at p.manager e) refl
     where
-      by_first : (m : Managed) → managed_at p.manager e ≡ Some m → (o : Option Ranked) → first_untold p.manager.system.0 m.items ≡ o → option_map owner_of o ≡ Some x → IsOwner deck words L s e x.0 x.1
+      by_first : (m : Managed) → managed_at p.manager e ≡ Some m → (o : Option Ranked)
+          → first_untold p.manager.system.0 m.items ≡ o → option_map owner_of o ≡ Some x
+          → IsOwner deck words L s e x.0 x.1
       by_first m is None first h = absurd (cc)
-      by_first m is (Some y) first h = subst (λ (z : TaskId × Res). IsOwner deck words L s e z.0 z.1) (same_Some (owner_of y) x h) (is-owner m is y first)
+      by_first m is (Some y) first h =
+          subst (λ (z : TaskId × Res). IsOwner deck words L s e z.0 z.1) (same_Some (owner_of y) x h)
+          (is-owner m is y first)
 
-      by_entry : (o : Option Managed) → managed_at p.manager e ≡ o → option_map owner_of (first_untold p.manager.system.0 (items_of o)) ≡ Some x → IsOwner deck words L s e x.0 x.1
+      by_entry : (o : Option Managed) → managed_at p.manager e ≡ o
+          → option_map owner_of (first_untold p.manager.system.0 (items_of o)) ≡ Some x
+          → IsOwner deck words L s e x.0 x.1
       by_entry None is h = absurd (cc)
       by_entry (Some m) is h = by_first m is (first_untold p.manager.system.0 m.items) refl h
 
@@ -95,7 +112,8 @@ requests-granted (Request e from q ∷ ms) t r = ap (λ zs. q ∷ zs) (requests-
 requests-granted (Answered u a rank ∷ ms) t r = requests-granted ms t r
 requests-granted (Granted u q ∷ ms) t r = requests-granted ms t r
 
-module _ (deck : Deck) (w : World) (g : IsWhole deck w) (c : SysId) (n : NodeState) (at : slice_get w.nodes c.0 ≡ Some n) (alive : has w.medium.removed c.0 ≡ false) where
+module _ (deck : Deck) (w : World) (g : IsWhole deck w) (c : SysId) (n : NodeState)
+    (at : slice_get w.nodes c.0 ≡ Some n) (alive : has w.medium.removed c.0 ≡ false) where
   abbrev T : List RunItem
   T = items w.fixed
 
@@ -106,15 +124,21 @@ module _ (deck : Deck) (w : World) (g : IsWhole deck w) (c : SysId) (n : NodeSta
   p = part deck w g c n at alive
 
   -- ---- the world once control was sent to an owner
-  module _ (entry : ℕ) (t : TaskId) (r : Res) (owner : IsOwner deck w.medium.words (lists (items w.fixed)) c.0 entry t r) (flags : ℕ) where
+  module _ (entry : ℕ) (t : TaskId) (r : Res)
+      (owner : IsOwner deck w.medium.words (lists (items w.fixed)) c.0 entry t r) (flags : ℕ) where
     abbrev sent_on : MediumState
     sent_on = record w.medium { inboxes = with_mail w.medium.inboxes t.system.0 (Granted t r); rest = flags }
 
-    its_box : (k : NodeState) → slice_get w.nodes t.system.0 ≡ Some k → inbox sent_on t.system.0 ≡ inbox w.medium t.system.0 ++ Granted t r ∷ []
-    its_box k found = get_or-set_same w.medium.inboxes t.system.0 (inbox w.medium t.system.0 ++ Granted t r ∷ []) [] (let there = slice_get_within w.nodes t.system.0 k found in omega (arith, there, g.roles.systems, g.roles.inboxes))
+    its_box : (k : NodeState) → slice_get w.nodes t.system.0 ≡ Some k
+        → inbox sent_on t.system.0 ≡ inbox w.medium t.system.0 ++ Granted t r ∷ []
+    its_box k found =
+        get_or-set_same w.medium.inboxes t.system.0 (inbox w.medium t.system.0 ++ Granted t r ∷ []) []
+        (let there = slice_get_within w.nodes t.system.0 k found in
+        omega (arith, there, g.roles.systems, g.roles.inboxes))
 
     other_box : (u : ℕ) → u ≢ t.system.0 → inbox sent_on u ≡ inbox w.medium u
-    other_box u ne = get_or-set_other w.medium.inboxes t.system.0 u (inbox w.medium t.system.0 ++ Granted t r ∷ []) [] ne
+    other_box u ne =
+        get_or-set_other w.medium.inboxes t.system.0 u (inbox w.medium t.system.0 ++ Granted t r ∷ []) [] ne
 
     own_box : inbox sent_on c.0 ≡ inbox w.medium c.0
     own_box = other_box c.0 (λ same. owner.apart (sym same))
@@ -126,7 +150,9 @@ module _ (deck : Deck) (w : World) (g : IsWhole deck w) (c : SysId) (n : NodeSta
     home = and_from (t.system.0 == t.system.0) (is_some (lines_of deck t)) (eq-eqb t.system.0 t.system.0 refl) known
 
     interested : is_interested w.medium.words entry t.system.0 ≡ true
-    interested = sym (ap (near_at words t.system.0) owner.at) ∙ near-has deck words (lists T) r t g.near (owns-has (list_of (lists T) r) t owner.owned)
+    interested =
+        sym (ap (near_at words t.system.0) owner.at)
+        ∙ near-has deck words (lists T) r t g.near (owns-has (list_of (lists T) r) t owner.owned)
 
     -- so it is of one of the systems
     below : t.system.0 < length w.nodes
@@ -134,31 +160,54 @@ module _ (deck : Deck) (w : World) (g : IsWhole deck w) (c : SysId) (n : NodeSta
       where
         go : (b : Bool) → are_live w t.system.0 ≡ b → t.system.0 < length w.nodes
         go true e = (live-below w t.system.0 e).0
-        go false e = no_truth (is_interested w.medium.words entry t.system.0) interested (g.roles.nobody entry t.system.0 e).0
+        go false e =
+            no_truth (is_interested w.medium.words entry t.system.0) interested (g.roles.nobody entry t.system.0 e).0
 
     away : IsAway deck w.medium.words t.system.0 t r
-    away = record { home = home; entry = entry; at = owner.at; away = (false_by (has_manager words entry t.system.0) (λ mine. absurd (owner.apart (one-manages words entry t.system.0 c.0 mine owner.managed))), interested) }
+    away = record {
+      home = home;
+      entry = entry;
+      at = owner.at;
+      away = (
+        false_by (has_manager words entry t.system.0)
+            (λ mine. absurd (owner.apart (one-manages words entry t.system.0 c.0 mine owner.managed))),
+        interested,
+      );
+    }
 
-    granted : (k : NodeState) → slice_get w.nodes t.system.0 ≡ Some k → has w.medium.removed t.system.0 ≡ false → IsSystem deck w.medium.words (items w.fixed) t.system.0 k (inbox sent_on t.system.0) (g.later t.system.0) (g.out t.system.0)
-    granted k found lives = subst (λ ms. IsSystem deck words T t.system.0 k ms (g.later t.system.0) (g.out t.system.0)) (sym (its_box k found))
-        (system-granted deck words T t.system.0 k (inbox w.medium t.system.0) (g.later t.system.0) (g.out t.system.0) (g.system t.system.0 k found lives) g.right t r home owner.owned away)
+    granted : (k : NodeState) → slice_get w.nodes t.system.0 ≡ Some k → has w.medium.removed t.system.0 ≡ false
+        → IsSystem deck w.medium.words (items w.fixed) t.system.0 k (inbox sent_on t.system.0) (g.later t.system.0)
+        (g.out t.system.0)
+    granted k found lives =
+        subst (λ ms. IsSystem deck words T t.system.0 k ms (g.later t.system.0) (g.out t.system.0))
+        (sym (its_box k found))
+        (system-granted deck words T t.system.0 k (inbox w.medium t.system.0) (g.later t.system.0) (g.out t.system.0)
+        (g.system t.system.0 k found lives) g.right t r home owner.owned away)
 
-    others : (u : ℕ) (k : NodeState) → slice_get w.nodes u ≡ Some k → has w.medium.removed u ≡ false → IsSystem deck w.medium.words (items w.fixed) u k (inbox sent_on u) (g.later u) (g.out u)
+    others : (u : ℕ) (k : NodeState) → slice_get w.nodes u ≡ Some k → has w.medium.removed u ≡ false
+        → IsSystem deck w.medium.words (items w.fixed) u k (inbox sent_on u) (g.later u) (g.out u)
     others u k found lives = go (u == t.system.0) refl
       where
-        go : (b : Bool) → (u == t.system.0) ≡ b → IsSystem deck w.medium.words (items w.fixed) u k (inbox sent_on u) (g.later u) (g.out u)
+        go : (b : Bool) → (u == t.system.0) ≡ b
+            → IsSystem deck w.medium.words (items w.fixed) u k (inbox sent_on u) (g.later u) (g.out u)
         go true e =
             let same : u ≡ t.system.0 = eqb-true u t.system.0 e in
-            subst (λ z. IsSystem deck words T z k (inbox sent_on z) (g.later z) (g.out z)) (sym same) (granted k (ap (slice_get w.nodes) (sym same) ∙ found) (ap (has w.medium.removed) (sym same) ∙ lives))
-        go false e = subst (λ ms. IsSystem deck words T u k ms (g.later u) (g.out u)) (sym (other_box u (eqb-false u t.system.0 e))) (g.system u k found lives)
+            subst (λ z. IsSystem deck words T z k (inbox sent_on z) (g.later z) (g.out z)) (sym same)
+            (granted k (ap (slice_get w.nodes) (sym same) ∙ found) (ap (has w.medium.removed) (sym same) ∙ lives))
+        go false e =
+            subst (λ ms. IsSystem deck words T u k ms (g.later u) (g.out u))
+            (sym (other_box u (eqb-false u t.system.0 e))) (g.system u k found lives)
 
-    same_requests : (u : ℕ) (k : NodeState) → slice_get w.nodes u ≡ Some k → requests_in (inbox w.medium u) ≡ requests_in (inbox sent_on u)
+    same_requests : (u : ℕ) (k : NodeState) → slice_get w.nodes u ≡ Some k
+        → requests_in (inbox w.medium u) ≡ requests_in (inbox sent_on u)
     same_requests u k found = go (u == t.system.0) refl
       where
         go : (b : Bool) → (u == t.system.0) ≡ b → requests_in (inbox w.medium u) ≡ requests_in (inbox sent_on u)
         go true e =
             let same : u ≡ t.system.0 = eqb-true u t.system.0 e in
-            subst (λ z. requests_in (inbox w.medium z) ≡ requests_in (inbox sent_on z)) (sym same) (requests-granted (inbox w.medium t.system.0) t r ∙ ap requests_in (sym (its_box k (ap (slice_get w.nodes) (sym same) ∙ found))))
+            subst (λ z. requests_in (inbox w.medium z) ≡ requests_in (inbox sent_on z)) (sym same)
+            (requests-granted (inbox w.medium t.system.0) t r
+            ∙ ap requests_in (sym (its_box k (ap (slice_get w.nodes) (sym same) ∙ found))))
         go false e = ap requests_in (sym (other_box u (eqb-false u t.system.0 e)))
 
     -- the manager's part is another afterwards, and holds the same requests
@@ -166,42 +215,76 @@ module _ (deck : Deck) (w : World) (g : IsWhole deck w) (c : SysId) (n : NodeSta
       abbrev after : Turnout
       after = record { medium = sent_on; step = with_star n (fixing_none n.tasks q) }
 
-      own : IsSystem deck w.medium.words (items w.fixed) c.0 (with_star n (fixing_none n.tasks q)).node (inbox sent_on c.0) (g.later c.0) (g.out c.0)
-      own = subst (λ ms. IsSystem deck words T c.0 (record n { star = Some q }) ms (g.later c.0) (g.out c.0)) (sym own_box) (with_part (g.system c.0 n at alive))
+      own :
+          IsSystem deck w.medium.words (items w.fixed) c.0 (with_star n (fixing_none n.tasks q)).node
+          (inbox sent_on c.0) (g.later c.0) (g.out c.0)
+      own =
+          subst (λ ms. IsSystem deck words T c.0 (record n { star = Some q }) ms (g.later c.0) (g.out c.0))
+          (sym own_box) (with_part (g.system c.0 n at alive))
         where
-          with_part : IsSystem deck w.medium.words (items w.fixed) c.0 n (inbox w.medium c.0) (g.later c.0) (g.out c.0) → IsSystem deck w.medium.words (items w.fixed) c.0 (record n { star = Some q }) (inbox w.medium c.0) (g.later c.0) (g.out c.0)
-          with_part h = record { at = h.at; late = h.late; sent = h.sent; near = h.near; coming = h.coming; answered = h.answered; fits = h.fits }
+          with_part : IsSystem deck w.medium.words (items w.fixed) c.0 n (inbox w.medium c.0) (g.later c.0) (g.out c.0)
+              → IsSystem deck w.medium.words (items w.fixed) c.0 (record n { star = Some q }) (inbox w.medium c.0)
+              (g.later c.0) (g.out c.0)
+          with_part h = record {
+            at = h.at;
+            late = h.late;
+            sent = h.sent;
+            near = h.near;
+            coming = h.coming;
+            answered = h.answered;
+            fits = h.fits;
+          }
 
-      hands_own : (k : StarPart) → Some q ≡ Some k → Hands deck w.medium.words (are_live w) g.later g.out c.0 (in_hands k (inbox sent_on c.0))
+      hands_own : (k : StarPart) → Some q ≡ Some k
+          → Hands deck w.medium.words (are_live w) g.later g.out c.0 (in_hands k (inbox sent_on c.0))
       hands_own k is =
-          subst (Hands deck words (are_live w) g.later g.out c.0) (ap (λ ms. p.held ++ requests_in ms) (sym own_box) ∙ (ap (λ qs. qs ++ requests_in (inbox sent_on c.0)) (sym held) ∙ ap (λ (z : StarPart). in_hands z (inbox sent_on c.0)) (same_Some q k is)))
+          subst (Hands deck words (are_live w) g.later g.out c.0)
+          (ap (λ ms. p.held ++ requests_in ms) (sym own_box)
+          ∙ (ap (λ qs. qs ++ requests_in (inbox sent_on c.0)) (sym held)
+          ∙ ap (λ (z : StarPart). in_hands z (inbox sent_on c.0)) (same_Some q k is)))
           (g.hands c.0 n p at alive (g.roles.node c.0 n at alive).star)
 
       tells : (IsWhole deck (placed w c n after) → StaysHeard deck w c n after) → Comes deck w g c n after
       tells heard step = record {
-        stays = whole-placed deck w g c n at alive after step T (items-none w.fixed c) g.later g.out (λ u ne. refl) none_fixed g.right g.near own
+        stays =
+            whole-placed deck w g c n at alive after step T (items-none w.fixed c) g.later g.out (λ u ne. refl)
+            none_fixed g.right g.near own
             (λ u k ne found lives. others u k found lives)
             hands_own
-            (λ m k v ne found lives is. subst (Hands deck words (are_live w) g.later g.out m) (ap (λ zs. v.held ++ zs) (same_requests m k found)) (g.hands m k v found lives is));
+            (λ m k v ne found lives is.
+            subst (Hands deck words (are_live w) g.later g.out m) (ap (λ zs. v.held ++ zs) (same_requests m k found))
+            (g.hands m k v found lives is));
         news = tells_tasks (still-told refl) refl refl;
         heard = heard;
         dated = λ h. record { date = h.date; own = h.own };
       }
 
   -- ---- the event
-  sends : (entry : ℕ) (x : TaskId × Res) → to_tell (part deck w g c n at alive) entry ≡ Some x → ComesOf deck w g c n at alive (choices.Tell entry) (row w.medium c (acts.Tell x.0.system (Granted x.0 x.1)))
+  sends : (entry : ℕ) (x : TaskId × Res) → to_tell (part deck w g c n at alive) entry ≡ Some x
+      → ComesOf deck w g c n at alive (choices.Tell entry) (row w.medium c (acts.Tell x.0.system (Granted x.0 x.1)))
   unfolding row mail_row finish finish_call finish_star
   sends entry x is =
-      comes-finished deck w g c n at alive (sent_on entry x.0 x.1 owner (awake w.medium c)) (choices.Tell entry) replies.Told
-      (subst (λ o. Comes deck w g c n (record { medium = sent_on entry x.0 x.1 owner (awake w.medium c); step = with_star n (fixing_none n.tasks (told_by p o)) })) (sym is)
-      (tells entry x.0 x.1 owner (awake w.medium c) (told_by p (Some x)) refl (heard-told deck w g c n at alive p (g.roles.node c.0 n at alive).star x.0 x.1 owner.apart (below entry x.0 x.1 owner (awake w.medium c)) (awake w.medium c))))
+      comes-finished deck w g c n at alive (sent_on entry x.0 x.1 owner (awake w.medium c)) (choices.Tell entry)
+      replies.Told
+      (subst (λ o.
+      Comes deck w g c n (record {
+        medium = sent_on entry x.0 x.1 owner (awake w.medium c);
+        step = with_star n (fixing_none n.tasks (told_by p o));
+      }))
+      (sym is)
+      (tells entry x.0 x.1 owner (awake w.medium c) (told_by p (Some x)) refl
+      (heard-told deck w g c n at alive p (g.roles.node c.0 n at alive).star x.0 x.1 owner.apart
+      (below entry x.0 x.1 owner (awake w.medium c)) (awake w.medium c))))
     where
       owner : IsOwner deck w.medium.words (lists (items w.fixed)) c.0 entry x.0 x.1
       owner = first-owns deck words (lists T) c.0 p (g.roles.node c.0 n at alive).fits entry x is
 
-  by_owner : (entry : ℕ) (o : Option (TaskId × Res)) → to_tell (part deck w g c n at alive) entry ≡ o → ComesBy deck w g c n at alive (choices.Tell entry) (tell_by o)
+  by_owner : (entry : ℕ) (o : Option (TaskId × Res)) → to_tell (part deck w g c n at alive) entry ≡ o
+      → ComesBy deck w g c n at alive (choices.Tell entry) (tell_by o)
   by_owner entry None is = comes-none deck w g c n at alive (choices.Tell entry)
-  by_owner entry (Some x) is = comes-called deck w g c n at alive (choices.Tell entry) (acts.Tell x.0.system (Granted x.0 x.1)) (sends entry x is)
+  by_owner entry (Some x) is =
+      comes-called deck w g c n at alive (choices.Tell entry) (acts.Tell x.0.system (Granted x.0 x.1))
+      (sends entry x is)
 
   pub outcome-tell : (entry : ℕ) → Comes deck w g c n (chosen deck w.medium c n (choices.Tell entry))
   unfolding chosen prepare

@@ -8,7 +8,8 @@ use Rattle.job_syntax.proofs.Taken.{line_ask_taken, line_word_taken}
 use Rattle.job_syntax.proofs.Again.{line_ask_again, line_word_again}
 use Rattle.job_syntax.proofs.laws.spelled_tokens.Goals as goal
 
-behind : (v : LineWord) (ts : List Token) (s : LineAsk) → line_ask_at v ts ≡ Some s → (line_word_for s ≡ v) × IsBehind ts s
+behind : (v : LineWord) (ts : List Token) (s : LineAsk) → line_ask_at v ts ≡ Some s
+    → (line_word_for s ≡ v) × IsBehind ts s
 behind v ts s h = let b = line_ask_taken v ts s h in (b.of, b.behind)
 
 pub returns-clause-word : goal.returns-clause-word

@@ -7,5 +7,9 @@ use Rattle.mode_migrate.proofs.words.words_of.Goals as goal
 
 pub returns : goal.returns
 returns g c = IfOk-weaker c.words.result _ _
-    (λ words are. are ∙ ap (map word_of) (c.as_slice.ensures.value ∙ c.in_ok-groups.ensures ∙ ap (groups_of c.args.entries) c.in_ok-rows.ensures) ∙ words-in c.args.entries (rows_of c.args.table.now.elements))
+    (λ words are.
+    are
+    ∙ ap (map word_of)
+    (c.as_slice.ensures.value ∙ c.in_ok-groups.ensures ∙ ap (groups_of c.args.entries) c.in_ok-rows.ensures)
+    ∙ words-in c.args.entries (rows_of c.args.table.now.elements))
     c.words.ensures

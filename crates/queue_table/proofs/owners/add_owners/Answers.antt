@@ -10,7 +10,8 @@ pub returns-in-E : goal.returns-in-E
 returns-in-E g c =
     let es = list_at nat_eq (g.Q.Queues.elements c.args.queues.now) c.args.queue in
     c.in_ok-push.ensures.ok
-    ∙ ap (λ (l : List TaskId). c.args.tasks.now ++ l) (sym (owner_tasks-one es c.args.from c.elem-first.result c.elem-first.ensures (ap is_shared c.in-E.is)))
+    ∙ ap (λ (l : List TaskId). c.args.tasks.now ++ l)
+    (sym (owner_tasks-one es c.args.from c.elem-first.result c.elem-first.ensures (ap is_shared c.in-E.is)))
 
 pub returns-in-S : goal.returns-in-S
 returns-in-S g c =
@@ -18,5 +19,6 @@ returns-in-S g c =
     subst (λ (l : List TaskId). OnOk c.add_shared.result (c.add_shared.new.tasks ≡ l))
     (ap (λ (l : List TaskId). l ++ shared_tasks (drop (c.args.from + 1) es)) c.in_ok-push.ensures.ok
     ∙ append_assoc c.args.tasks.now (c.elem-first.result.task ∷ []) (shared_tasks (drop (c.args.from + 1) es))
-    ∙ ap (λ (l : List TaskId). c.args.tasks.now ++ l) (sym (owner_tasks-next es c.args.from c.elem-first.result c.elem-first.ensures (ap is_shared c.in-S.is))))
+    ∙ ap (λ (l : List TaskId). c.args.tasks.now ++ l)
+    (sym (owner_tasks-next es c.args.from c.elem-first.result c.elem-first.ensures (ap is_shared c.in-S.is))))
     c.add_shared.ensures

@@ -10,7 +10,8 @@ pub returns-in-E : goal.returns-in-E
 returns-in-E g c =
     let es = list_at nat_eq (g.Q.Queues.elements c.args.queues.now) c.args.queue in
     sym (append-nil c.loop-place.tasks)
-    ∙ ap (λ (l : List TaskId). c.loop-place.tasks ++ l) (sym (shared_tasks-stop es c.loop-place.place c.elem-elem.result c.elem-elem.ensures (ap is_shared c.in-E.is)))
+    ∙ ap (λ (l : List TaskId). c.loop-place.tasks ++ l)
+    (sym (shared_tasks-stop es c.loop-place.place c.elem-elem.result c.elem-elem.ensures (ap is_shared c.in-E.is)))
     ∙ c.loop-place.invariant
 
 pub loop-place-preserved : goal.loop-place-preserved
@@ -18,5 +19,6 @@ loop-place-preserved g c =
     let es = list_at nat_eq (g.Q.Queues.elements c.args.queues.now) c.args.queue in
     ap (λ (l : List TaskId). l ++ shared_tasks (drop (c.loop-place.place + 1) es)) c.in_ok-push-in-S.ensures.ok
     ∙ append_assoc c.loop-place.tasks (c.elem-elem.result.task ∷ []) (shared_tasks (drop (c.loop-place.place + 1) es))
-    ∙ ap (λ (l : List TaskId). c.loop-place.tasks ++ l) (sym (shared_tasks-next es c.loop-place.place c.elem-elem.result c.elem-elem.ensures (ap is_shared c.in-S.is)))
+    ∙ ap (λ (l : List TaskId). c.loop-place.tasks ++ l)
+    (sym (shared_tasks-next es c.loop-place.place c.elem-elem.result c.elem-elem.ensures (ap is_shared c.in-S.is)))
     ∙ c.loop-place.invariant

@@ -7,13 +7,25 @@ use Rattle.queue_table.proofs.RowLemmas.{with_lists-more, with_lists-named, with
 use Rattle.queue_table.proofs.rows.lists_in.Goals as goal
 
 pub add_list_shown-requires : goal.add_list_shown-requires
-add_list_shown-requires g c = number_at-live (g.Q.Queues.is_live c.args.queues.now) c.args.numbers.now.entries c.loop-i.i (c.in-Some.res.now, c.in-Some.queue.now) c.requires.table.live_numbers (sym c.in-Some.ensures.entry)
+add_list_shown-requires g c =
+    number_at-live (g.Q.Queues.is_live c.args.queues.now) c.args.numbers.now.entries c.loop-i.i
+    (c.in-Some.res.now, c.in-Some.queue.now) c.requires.table.live_numbers (sym c.in-Some.ensures.entry)
 
 pub loop-i-preserved : goal.loop-i-preserved
-loop-i-preserved g c = with_lists-more (may_show c.args.place c.args.chosen.now) c.args.numbers.now.entries c.loop-i.i (c.in-Some.res.now, c.in-Some.queue.now) (g.Q.Queues.elements c.args.queues.now) _ _ _ (sym c.in-Some.ensures.entry) c.loop-i.invariant
+loop-i-preserved g c =
+    with_lists-more (may_show c.args.place c.args.chosen.now) c.args.numbers.now.entries c.loop-i.i
+    (c.in-Some.res.now, c.in-Some.queue.now) (g.Q.Queues.elements c.args.queues.now) _ _ _ (sym c.in-Some.ensures.entry)
+    c.loop-i.invariant
     (c.in_ok-add_list_shown-in-Some.ensures
-    ∙ ap (λ (b : Bool). cond b (with_list c.in-Some.res.now (list_at nat_eq (g.Q.Queues.elements c.args.queues.now) c.in-Some.queue.now) (plain c.loop-i.lists.entries)) (plain c.loop-i.lists.entries)) c.may_be_shown-shown.ensures)
+    ∙ ap (λ (b : Bool).
+    cond b (with_list c.in-Some.res.now (list_at nat_eq (g.Q.Queues.elements c.args.queues.now) c.in-Some.queue.now)
+    (plain c.loop-i.lists.entries))
+    (plain c.loop-i.lists.entries))
+    c.may_be_shown-shown.ensures)
 
 pub returns : goal.returns
-returns g c = with_lists-end (may_show c.args.place c.args.chosen.now) c.args.numbers.now.entries c.loop-i.i (g.Q.Queues.elements c.args.queues.now) _ _ (omega arith) c.loop-i.invariant
-    ∙ with_lists-named (may_show c.args.place c.args.chosen.now) c.args.numbers.now.entries (g.Q.Queues.elements c.args.queues.now) c.requires.table.paired
+returns g c =
+    with_lists-end (may_show c.args.place c.args.chosen.now) c.args.numbers.now.entries c.loop-i.i
+    (g.Q.Queues.elements c.args.queues.now) _ _ (omega arith) c.loop-i.invariant
+    ∙ with_lists-named (may_show c.args.place c.args.chosen.now) c.args.numbers.now.entries
+    (g.Q.Queues.elements c.args.queues.now) c.requires.table.paired

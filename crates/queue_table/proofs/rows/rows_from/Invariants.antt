@@ -5,7 +5,9 @@ use Rattle.queue_table.specs.Shown.{plain, passes}
 use Rattle.queue_table.proofs.rows.rows_from.Given as goal
 
 abbrev pub invariant-lists : goal.invariant-lists
-invariant-lists l = l.rows ++ filter (passes l.chosen) (map row_of (plain l.lists.entries)) ≡ filter (passes l.chosen) (map row_of (plain l.fn.lists.entries))
+invariant-lists l =
+    l.rows ++ filter (passes l.chosen) (map row_of (plain l.lists.entries))
+    ≡ filter (passes l.chosen) (map row_of (plain l.fn.lists.entries))
 
 abbrev pub decreases-lists : goal.decreases-lists
 decreases-lists l = btree_map_len l.lists

@@ -12,5 +12,7 @@ use Rattle.queue_table.proofs.rows.shown_in.Goals as goal
 pub returns : goal.returns
 returns g c =
     subst (λ (l : List Row). IfOk c.rows_from.result (λ rows. rows ≡ l))
-    (ap (λ (ls : List (Res × List Elem)). filter (passes c.args.chosen.now) (map row_of ls)) c.in_ok-lists.ensures ∙ rows-shown c.args.place c.args.chosen.now (lists_of (named c.args.numbers.now.entries (g.Q.Queues.elements c.args.queues.now))))
+    (ap (λ (ls : List (Res × List Elem)). filter (passes c.args.chosen.now) (map row_of ls)) c.in_ok-lists.ensures
+    ∙ rows-shown c.args.place c.args.chosen.now
+    (lists_of (named c.args.numbers.now.entries (g.Q.Queues.elements c.args.queues.now))))
     c.rows_from.ensures

@@ -5,6 +5,7 @@ use Rattle.rnl_match.proofs.index.first_before.Given as goal
 
 abbrev pub invariant-loop-place : goal.invariant-loop-place
 invariant-loop-place g l = record {
-  first : first_place (λ e. matches e l.q l.r) l.entries l.end l.places ≡ first_place (λ e. matches e l.q l.r) l.entries l.end (drop l.place-index l.places);
+  first : first_place (λ e. matches e l.q l.r) l.entries l.end l.places
+      ≡ first_place (λ e. matches e l.q l.r) l.entries l.end (drop l.place-index l.places);
   steps : l.steps ≡ l.fn.steps + l.place-index;
 }

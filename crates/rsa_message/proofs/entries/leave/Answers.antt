@@ -7,7 +7,8 @@ pub loop-i-preserved : goal.loop-i-preserved
 loop-i-preserved c = record {
   items =
       rw c.without_system-entry.ensures
-      (map_over_more (left_by c.args.system) c.args.entries.now.items c.loop-i.entries.items c.loop-i.i c.index_mut-entry.result.now (omega arith) c.loop-i.invariant.items c.index_mut-entry.ensures.value);
+      (map_over_more (left_by c.args.system) c.args.entries.now.items c.loop-i.entries.items c.loop-i.i
+      c.index_mut-entry.result.now (omega arith) c.loop-i.invariant.items c.index_mut-entry.ensures.value);
   len = c.loop-i.invariant.len;
   capacity = c.loop-i.invariant.capacity;
 }

@@ -4,4 +4,6 @@ use Rattle.grs_base.specs.State.{pick}
 use Rattle.system_purge.proofs.freed.newcomers.Given as goal
 
 abbrev pub invariant-loop-elem : goal.invariant-loop-elem
-invariant-loop-elem l = l.tasks ++ pick (λ e. not (owns l.before e.task)) (λ e. e.task) (drop l.elem-index l.owning) ≡ pick (λ e. not (owns l.before e.task)) (λ e. e.task) l.owning
+invariant-loop-elem l =
+    l.tasks ++ pick (λ e. not (owns l.before e.task)) (λ e. e.task) (drop l.elem-index l.owning)
+    ≡ pick (λ e. not (owns l.before e.task)) (λ e. e.task) l.owning

@@ -6,5 +6,7 @@ use Rattle.system_purge.proofs.freed.owns.Goals as goal
 
 pub returns : goal.returns
 returns c =
-    let among = ap (λ (n : ℕ). list_any (λ e. same_task c.args.task e.task) (take n c.args.elems.now)) c.owners_among.ensures.owners in
+    let among =
+    ap (λ (n : ℕ). list_any (λ e. same_task c.args.task e.task) (take n c.args.elems.now))
+    c.owners_among.ensures.owners in
     c.has_task.ensures ∙ among ∙ owners_any c.args.elems.now c.args.task

@@ -9,9 +9,13 @@ use Rattle.task_state.proofs.records.make_exclusive_under.Goals as goal
 pub returns-in-Some : goal.returns-in-Some
 returns-in-Some c =
     let f = λ (x : Rec). record x { ctl = E } in
-    (c.get_mut.follows.holds (f c.in-Some.rec.now)).0 ∙ changed c.args.number f c.args.recs.now.entries c.in-Some.rec.now (sym c.get_mut.ensures.value ∙ ap option_copied_mut c.in-Some.is)
+    (c.get_mut.follows.holds (f c.in-Some.rec.now)).0
+    ∙ changed c.args.number f c.args.recs.now.entries c.in-Some.rec.now
+    (sym c.get_mut.ensures.value ∙ ap option_copied_mut c.in-Some.is)
 
 pub returns-in_default : goal.returns-in_default
 returns-in_default c =
     let f = λ (x : Rec). record x { ctl = E } in
-    ap (λ (m : BTreeMap ℕ Rec). m.entries) c.get_mut.follows.holds-at-none ∙ sym (unchanged c.args.number f c.args.recs.now.entries (sym c.get_mut.ensures.value ∙ ap option_copied_mut c.in_default.is))
+    ap (λ (m : BTreeMap ℕ Rec). m.entries) c.get_mut.follows.holds-at-none
+    ∙ sym (unchanged c.args.number f c.args.recs.now.entries
+    (sym c.get_mut.ensures.value ∙ ap option_copied_mut c.in_default.is))

@@ -7,5 +7,6 @@ use Rattle.contention_mgr.proofs.entry.Entry.is_empty.Goals as goal
 
 pub returns : goal.returns
 returns c =
-    empty-tells c.is_empty.result (mark_in c.self.inside.marks.names.entries c.self.inside.marks.marks.entries) c.self.inside.table.elements c.self.invariant c.is_empty.ensures.none c.is_empty.ensures.some
+    empty-tells c.is_empty.result (mark_in c.self.inside.marks.names.entries c.self.inside.marks.marks.entries)
+    c.self.inside.table.elements c.self.invariant c.is_empty.ensures.none c.is_empty.ensures.some
     ∙ ap (λ (m : Managed). length m.items == 0) c.self.view_is

@@ -4,10 +4,21 @@ use Rattle.contention_mgr.proofs.MarkLemmas.{by_number, fresh-change, told-chang
 use Rattle.contention_mgr.proofs.marks.Marks.set.Goals as goal
 
 pub returns-in-Some : goal.returns-in-Some
-returns-in-Some c = by_number c.args.self.now.names.entries c.args.res.now c.in-Some.number c.args.task (with_told c.args.untold) (mark_at c.args.self.now.marks.entries) (mark_at c.set_mark.new.marks.entries) c.args.self.now.numbered (sym c.find_number.ensures ∙ c.in-Some.is) (λ k u. c.set_mark.ensures (record { number = k; task = u }))
+returns-in-Some c =
+    by_number c.args.self.now.names.entries c.args.res.now c.in-Some.number c.args.task (with_told c.args.untold)
+    (mark_at c.args.self.now.marks.entries) (mark_at c.set_mark.new.marks.entries) c.args.self.now.numbered
+    (sym c.find_number.ensures ∙ c.in-Some.is) (λ k u. c.set_mark.ensures (record { number = k; task = u }))
 
 pub invariant_of-self-clause-all_told : goal.invariant_of-self-clause-all_told
-invariant_of-self-clause-all_told c = told-change c.args.self.now.told c.told_after-self.result c.in-Some.number c.args.task (with_told c.args.untold) (mark_at c.args.self.now.marks.entries) c.set_mark.new.marks.entries (λ k u. c.set_mark.ensures (record { number = k; task = u })) (λ now o h. told-set c.args.untold (c.told_after-self.ensures.set now) o) c.told_after-self.ensures.all c.args.self.now.all_told
+invariant_of-self-clause-all_told c =
+    told-change c.args.self.now.told c.told_after-self.result c.in-Some.number c.args.task (with_told c.args.untold)
+    (mark_at c.args.self.now.marks.entries) c.set_mark.new.marks.entries
+    (λ k u. c.set_mark.ensures (record { number = k; task = u }))
+    (λ now o h. told-set c.args.untold (c.told_after-self.ensures.set now) o) c.told_after-self.ensures.all
+    c.args.self.now.all_told
 
 pub invariant_of-self-clause-fresh : goal.invariant_of-self-clause-fresh
-invariant_of-self-clause-fresh c = fresh-change (length c.args.self.now.names.entries) c.in-Some.number c.args.task (with_told c.args.untold) (mark_at c.args.self.now.marks.entries) (mark_at c.set_mark.new.marks.entries) (λ k u. c.set_mark.ensures (record { number = k; task = u })) refl c.args.self.now.fresh
+invariant_of-self-clause-fresh c =
+    fresh-change (length c.args.self.now.names.entries) c.in-Some.number c.args.task (with_told c.args.untold)
+    (mark_at c.args.self.now.marks.entries) (mark_at c.set_mark.new.marks.entries)
+    (λ k u. c.set_mark.ensures (record { number = k; task = u })) refl c.args.self.now.fresh

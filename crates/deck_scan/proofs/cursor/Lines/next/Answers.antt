@@ -9,4 +9,5 @@ returns-clause-next c =
     let seen = c.self.view_is in
     let same : coming c.loop-at.at ≡ c.args.self.now = cc in
     let none : length c.loop-at.at.rest.now ≡ 0 = search rules in
-    next_end c.in_ok-last.last c.args.self.now c.loop-at.at.line c.loop-at.at.begun c.loop-at.at.rest.now none same (c.in_ok-last.ensures c.loop-at.at.line)
+    next_end c.in_ok-last.last c.args.self.now c.loop-at.at.line c.loop-at.at.begun c.loop-at.at.rest.now none same
+    (c.in_ok-last.ensures c.loop-at.at.line)

@@ -14,7 +14,8 @@ split_seat-place-requires c =
     let given : c.loop-number.lead.me.0.given ≡ c.loop-number.number = ap (λ (m : Me Slot View). m.0.given) inv.1 in (
       inv.0 ∙ sym (ap (λ (b : BusValue). b.table) c.self.view_is),
       search rules,
-      splits _ _ _ (ap (λ (m : Me Slot View). m.0.spent) inv.1) (ap (λ (m : Me Slot View). m.0.holding) inv.1) (ap (λ (m : Me Slot View). m.0.system.0) inv.1) (omega arith),
+      splits _ _ _ (ap (λ (m : Me Slot View). m.0.spent) inv.1) (ap (λ (m : Me Slot View). m.0.holding) inv.1)
+          (ap (λ (m : Me Slot View). m.0.system.0) inv.1) (omega arith),
     )
 
 pub loop-number-preserved : goal.loop-number-preserved
@@ -24,5 +25,6 @@ loop-number-preserved c =
       cut.2 ∙ ap (λ (m : Me Slot View). (cut_left m.0, m.1)) inv.1,
       dealt_count c.loop-number.others c.push.new.self _ c.loop-number.number c.in_ok-push.ensures.ok inv.2,
       subst (AreDealt c.args.self.now) (sym c.in_ok-push.ensures.ok)
-          (dealt_next c.args.self.now c.loop-number.others c.loop-number.number c.args.place.me.0.first _ c.loop-number.lead.me c.split_seat-place.result.me inv.3 inv.2 (cut.3 ∙ inv.0) c.requires.first inv.1 cut.4),
+          (dealt_next c.args.self.now c.loop-number.others c.loop-number.number c.args.place.me.0.first _
+          c.loop-number.lead.me c.split_seat-place.result.me inv.3 inv.2 (cut.3 ∙ inv.0) c.requires.first inv.1 cut.4),
     )

@@ -1,4 +1,5 @@
-use Rattle.std.proofs.Common.{rules, ◌≡◌, ℕ, List, [], ◌∷◌, ap, sym, subst, ◌∙◌, get_or, MatchResult, Result, Ok, Err, IfOk, OnErr, Bool}
+use Rattle.std.proofs.Common.{rules, ◌≡◌, ℕ, List, [], ◌∷◌, ap, sym, subst, ◌∙◌, get_or, MatchResult, Result, Ok, Err}
+use Rattle.std.proofs.Common.{IfOk, OnErr, Bool}
 use Rattle.atomic_table.specs.Table.{rest}
 use Rattle.grs_base.specs.declared.fault.NoMemory.{NoMemory}
 use Rattle.grs_wire.specs.declared.medium.Reply.{Reply}
@@ -8,20 +9,41 @@ use Rattle.grs_bus.specs.Slots.{Answers, IsUnchanged}
 use Rattle.grs_bus.specs.declared.slot.Slot.{Slot}
 use Rattle.grs_bus.proofs.bus.Bus.work.Goals as goal
 
-both : (P : Reply × Bool → Type 0) (Q : Type 0) (r : Result (Reply × Bool) NoMemory) → IfOk r P → OnErr r Q → MatchResult r P (λ _. Q)
+both : (P : Reply × Bool → Type 0) (Q : Type 0) (r : Result (Reply × Bool) NoMemory) → IfOk r P → OnErr r Q
+    → MatchResult r P (λ _. Q)
 both P Q (Ok x) p q = p
 both P Q (Err e) p q = q
 
 pub slot_mut-slot-requires : goal.slot_mut-slot-requires
-slot_mut-slot-requires c = let t = c.requires.holds in (c.requires.table ∙ sym (ap (λ (b : BusValue). b.table) c.self.view_is), (t.0, t.1 ∙ ap (λ l. (0, t.0) ∷ rest l) (sym t.1)))
+slot_mut-slot-requires c =
+    let t = c.requires.holds in (
+      c.requires.table ∙ sym (ap (λ (b : BusValue). b.table) c.self.view_is),
+      (t.0, t.1 ∙ ap (λ l. (0, t.0) ∷ rest l) (sym t.1)),
+    )
 
 pub answer-answer-requires : goal.answer-answer-requires
-answer-answer-requires c = let t = c.requires.holds in let same : t.0 ≡ c.slot_mut-slot.result.now = ap (λ (l : List (ℕ × Slot)). (get_or l 0 (0, t.0)).1) (sym t.1 ∙ c.slot_mut-slot.ensures.value) in
+answer-answer-requires c =
+    let t = c.requires.holds in
+    let same : t.0 ≡ c.slot_mut-slot.result.now =
+    ap (λ (l : List (ℕ × Slot)). (get_or l 0 (0, t.0)).1) (sym t.1 ∙ c.slot_mut-slot.ensures.value) in
     subst (λ (s : Slot). MayCall s.medium.state c.args.system c.args.call) same t.2
 
 pub returns-clause-answer : goal.returns-clause-answer
-returns-clause-answer c = let t = c.requires.holds in let none_left : rest c.args.place.now.me.1 ≡ [] = ap rest t.1 in let held = c.slot_mut-slot.result.now in let left = c.answer-answer.new.self in (
-  held,
-  c.slot_mut-slot.ensures.value ∙ ap (λ l. (0, held) ∷ l) none_left,
-  (left, ap (λ l. (0, left) ∷ l) none_left, (both (λ told. Answers c.args.system c.args.call held left told) (IsUnchanged held left) c.answer-answer.result c.answer-answer.ensures.ok c.answer-answer.ensures.err, search rules, search rules)),
-)
+returns-clause-answer c =
+    let t = c.requires.holds in
+    let none_left : rest c.args.place.now.me.1 ≡ [] = ap rest t.1 in
+    let held = c.slot_mut-slot.result.now in
+    let left = c.answer-answer.new.self in (
+      held,
+      c.slot_mut-slot.ensures.value ∙ ap (λ l. (0, held) ∷ l) none_left,
+      (
+        left,
+        ap (λ l. (0, left) ∷ l) none_left,
+        (
+          both (λ told. Answers c.args.system c.args.call held left told) (IsUnchanged held left) c.answer-answer.result
+              c.answer-answer.ensures.ok c.answer-answer.ensures.err,
+          search rules,
+          search rules,
+        ),
+      ),
+    )

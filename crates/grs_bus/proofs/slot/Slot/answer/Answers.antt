@@ -5,5 +5,6 @@ use Rattle.grs_bus.proofs.slot.Slot.answer.Goals as goal
 
 pub returns-then-not-is_acted_on-clause-ok : goal.returns-then-not-is_acted_on-clause-ok
 returns-then-not-is_acted_on-clause-ok c =
-    let plain : is_entered c.args.self.now.medium.state c.args.caller c.args.call ≡ false = left_out _ _ _ (search rules) (search rules) in
+    let plain : is_entered c.args.self.now.medium.state c.args.caller c.args.call ≡ false =
+    left_out _ _ _ (search rules) (search rules) in
     (search rules, sym plain, refl, sym (stays _ _ _ plain))

@@ -6,7 +6,10 @@ use Rattle.grs_history.proofs.order.Merging.begin.Given as goal
 
 abbrev pub invariant-loop-number : goal.invariant-loop-number
 invariant-loop-number l = record {
-  still : Still l.fn.self.table.elements l.fn.self.merged (quiet_fronts 0 (map (λ x. x.now) l.logs)) l.self.table.elements l.self.merged (quiet_fronts l.number (map (λ x. x.now) (drop l.number l.logs)));
-  rests : map (λ r. r.now) l.rests.items ++ map without_front (map (λ x. x.now) (drop l.number l.logs)) ≡ map without_front (map (λ x. x.now) l.logs);
+  still :
+      Still l.fn.self.table.elements l.fn.self.merged (quiet_fronts 0 (map (λ x. x.now) l.logs)) l.self.table.elements
+      l.self.merged (quiet_fronts l.number (map (λ x. x.now) (drop l.number l.logs)));
+  rests : map (λ r. r.now) l.rests.items ++ map without_front (map (λ x. x.now) (drop l.number l.logs))
+      ≡ map without_front (map (λ x. x.now) l.logs);
   few : length l.self.merged.events ≤ last_number;
 }

@@ -11,10 +11,14 @@ use Rattle.grs_medium.proofs.medium.Medium.change_to_star.Goals as goal
 pub invariant_of-self : goal.invariant_of-self
 unfolding closed_by
 invariant_of-self c =
-    let systems : systems_of c.args.self.now.state ≡ c.self-2.inside.systems = sym (c.self-2.invariant.0 ∙ (ap (λ (v : MediumValue). systems_of v.state) c.self-2.view_is ∙ ap systems_of c.wake.ensures.state)) in
-    let fits : list_all (word_fits c.self-2.inside.systems) c.args.words ≡ true = subst (λ (n : ℕ). list_all (word_fits n) c.args.words ≡ true) systems c.requires.fits.1 in (
+    let systems : systems_of c.args.self.now.state ≡ c.self-2.inside.systems =
+    sym (c.self-2.invariant.0
+    ∙ (ap (λ (v : MediumValue). systems_of v.state) c.self-2.view_is ∙ ap systems_of c.wake.ensures.state)) in
+    let fits : list_all (word_fits c.self-2.inside.systems) c.args.words ≡ true =
+    subst (λ (n : ℕ). list_all (word_fits n) c.args.words ≡ true) systems c.requires.fits.1 in (
       c.self-2.invariant.0 ∙ sym (ap (λ m. m.systems) c.close.ensures),
       c.self-2.invariant.1,
       c.self-2.invariant.2,
-      subst (λ (ws : List ℕ). All (ManagerIsBelow c.self-2.inside.systems) ws) (sym c.install.ensures) (words-below c.self-2.inside.systems c.args.words fits),
+      subst (λ (ws : List ℕ). All (ManagerIsBelow c.self-2.inside.systems) ws) (sym c.install.ensures)
+          (words-below c.self-2.inside.systems c.args.words fits),
     )

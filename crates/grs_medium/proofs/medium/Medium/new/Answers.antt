@@ -11,5 +11,6 @@ invariant_of-result c =
       first_of (search rules, grind (arith, common_steps)),
       first_of (search rules, grind (arith, common_steps)),
       first_of (search rules, grind (arith, common_steps)),
-      subst (λ (words : List ℕ). All (ManagerIsBelow c.args.systems) words) (sym empty) (below-replicate c.args.systems c.args.entries),
+      subst (λ (words : List ℕ). All (ManagerIsBelow c.args.systems) words) (sym empty)
+          (below-replicate c.args.systems c.args.entries),
     )

@@ -8,10 +8,13 @@ use Rattle.grs_node.proofs.node.Node.finish_call.Goals as goal
 
 pub invariant_of-self : goal.invariant_of-self
 invariant_of-self c =
-    let comes = subst (λ (v : NodeView). may_come (prepare v.deck v.node c.args.choice) c.args.reply ≡ true) (sym c.self.view_is) c.requires in (
+    let comes =
+    subst (λ (v : NodeView). may_come (prepare v.deck v.node c.args.choice) c.args.reply ≡ true) (sym c.self.view_is)
+    c.requires in (
       c.self.invariant.0,
       c.self.invariant.1 ∙ ap (scripts_of c.self.inside.deck.now) (sym c.finish_call.ensures.system),
-      call-fits-after c.self.inside.deck.now c.self.inside.state c.finish_call.new.self c.args.choice c.args.reply c.in-Ok.fixed c.self.invariant.2 comes c.in-Ok.ensures.system c.in-Ok.ensures.step,
+      call-fits-after c.self.inside.deck.now c.self.inside.state c.finish_call.new.self c.args.choice c.args.reply
+          c.in-Ok.fixed c.self.invariant.2 comes c.in-Ok.ensures.system c.in-Ok.ensures.step,
     )
 
 pub finish_call-requires-clause-entries : goal.finish_call-requires-clause-entries
@@ -25,5 +28,7 @@ finish_call-requires-clause-apart c = c.self.invariant.2.apart
 
 pub finish_call-requires-clause-target : goal.finish_call-requires-clause-target
 finish_call-requires-clause-target c =
-    let comes = subst (λ (v : NodeView). may_come (prepare v.deck v.node c.args.choice) c.args.reply ≡ true) (sym c.self.view_is) c.requires in
+    let comes =
+    subst (λ (v : NodeView). may_come (prepare v.deck v.node c.args.choice) c.args.reply ≡ true) (sym c.self.view_is)
+    c.requires in
     target-fits c.self.inside.deck.now c.self.inside.state c.args.choice c.args.reply c.self.invariant.2 comes

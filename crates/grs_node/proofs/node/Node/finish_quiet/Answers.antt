@@ -8,8 +8,10 @@ use Rattle.grs_node.proofs.node.Node.finish_quiet.Goals as goal
 
 pub invariant_of-self : goal.invariant_of-self
 invariant_of-self c =
-    let asked = subst (λ (v : NodeView). prepare v.deck v.node c.args.choice ≡ Quiet) (sym c.self.view_is) c.requires in (
+    let asked =
+    subst (λ (v : NodeView). prepare v.deck v.node c.args.choice ≡ Quiet) (sym c.self.view_is) c.requires in (
       c.self.invariant.0,
       c.self.invariant.1 ∙ ap (scripts_of c.self.inside.deck.now) (sym c.finish_quiet.ensures.system),
-      quiet-fits-after c.self.inside.deck.now c.self.inside.state c.finish_quiet.new.self c.args.choice c.in-Ok.fixed c.self.invariant.2 asked c.in-Ok.ensures.system c.in-Ok.ensures.step,
+      quiet-fits-after c.self.inside.deck.now c.self.inside.state c.finish_quiet.new.self c.args.choice c.in-Ok.fixed
+          c.self.invariant.2 asked c.in-Ok.ensures.system c.in-Ok.ensures.step,
     )

@@ -9,5 +9,7 @@ invariant_of-result c =
     let own = ap (λ (n : NodeState). n.tasks.system) c.in_ok-state.ensures in (
       c.in_ok-resolver.ensures,
       c.in_ok-scripts.ensures ∙ ap (scripts_of c.args.deck.now) (sym own),
-      started-fits c.args.deck.now c.in_ok-state.state c.args.system.0 c.requires.deck c.requires.system own (ap (λ (n : NodeState). n.shared) c.in_ok-state.ensures) (ap (λ (n : NodeState). n.star) c.in_ok-state.ensures),
+      started-fits c.args.deck.now c.in_ok-state.state c.args.system.0 c.requires.deck c.requires.system own
+          (ap (λ (n : NodeState). n.shared) c.in_ok-state.ensures)
+          (ap (λ (n : NodeState). n.star) c.in_ok-state.ensures),
     )

@@ -9,14 +9,17 @@ use Rattle.grs_wire.specs.declared.deck.Deck.{Deck}
 use Rattle.grs_node.proofs.node.Node.prepare.Goals as goal
 
 -- so does what is prepared
-addressed : {E : Type 0} (deck : Deck) (n : NodeState) (choice : Choice) (r : Result Prepared E) → NodeFits deck n → IfOk r (λ p. p ≡ prepare deck n choice) → IfOk r (λ p. is_addressed deck n.tasks.system p ≡ true)
+addressed : {E : Type 0} (deck : Deck) (n : NodeState) (choice : Choice) (r : Result Prepared E) → NodeFits deck n
+    → IfOk r (λ p. p ≡ prepare deck n choice) → IfOk r (λ p. is_addressed deck n.tasks.system p ≡ true)
 addressed deck n choice (Ok p) fits is = ap (is_addressed deck n.tasks.system) is ∙ prepare-addressed deck n choice fits
 addressed deck n choice (Err e) fits is = tt
 
 pub returns-clause-addressed : goal.returns-clause-addressed
 returns-clause-addressed c =
-    subst (λ (v : NodeView). IfOk c.prepare.result (λ p. is_addressed v.deck v.node.tasks.system p ≡ true)) c.self.view_is
-    (addressed c.self.inside.deck.now c.self.inside.state c.args.choice.now c.prepare.result c.self.invariant.2 c.prepare.ensures)
+    subst (λ (v : NodeView). IfOk c.prepare.result (λ p. is_addressed v.deck v.node.tasks.system p ≡ true))
+    c.self.view_is
+    (addressed c.self.inside.deck.now c.self.inside.state c.args.choice.now c.prepare.result c.self.invariant.2
+    c.prepare.ensures)
 
 pub prepare-requires-clause-entries : goal.prepare-requires-clause-entries
 prepare-requires-clause-entries c = entries-there c.self.inside.deck.now c.self.inside.state c.self.invariant.2

@@ -8,7 +8,9 @@ pub invariant_of-self : goal.invariant_of-self
 invariant_of-self c = (
   c.self.invariant.0,
   c.self.invariant.1 ∙ ap (scripts_of c.self.inside.deck.now) (sym c.turned_among.ensures.system),
-  turned-fits-after c.self.inside.deck.now c.self.inside.state c.turned_among.new.self (unseen c.args.system c.args.entries.now) c.args.taken c.args.closed c.in-Ok.fixed c.self.invariant.2 c.in-Ok.ensures.system c.in-Ok.ensures.step,
+  turned-fits-after c.self.inside.deck.now c.self.inside.state c.turned_among.new.self
+      (unseen c.args.system c.args.entries.now) c.args.taken c.args.closed c.in-Ok.fixed c.self.invariant.2
+      c.in-Ok.ensures.system c.in-Ok.ensures.step,
 )
 
 pub turned_among-requires-clause-entries : goal.turned_among-requires-clause-entries

@@ -5,7 +5,8 @@ use Rattle.grs_node.proofs.state.NodeState.read_unseen.Given as goal
 
 abbrev pub invariant-loop-entry : goal.invariant-loop-entry
 invariant-loop-entry l = record {
-  step : read_entries l.deck l.self (unseen l.system l.rest) ≡ read_entries l.deck l.fn.self (unseen l.system l.entries);
+  step : read_entries l.deck l.self (unseen l.system l.rest)
+      ≡ read_entries l.deck l.fn.self (unseen l.system l.entries);
   system : l.self.tasks.system ≡ l.fn.self.tasks.system;
 }
 

@@ -6,4 +6,6 @@ use Rattle.grs_node.proofs.state.NodeState.turned_among.Goals as goal
 
 pub change_if-requires-clause-apart : goal.change_if-requires-clause-apart
 change_if-requires-clause-apart c =
-    apart-turned c.args.deck.now c.args.self.now c.put_in.new.self (unseen c.args.system c.args.entries.now) c.args.taken c.in_ok-fixed.fixed c.requires.apart (c.in_ok-fixed.ensures.step ∙ ap (λ (n : NodeState). put_in n c.args.taken) c.in_ok-read_unseen.ensures.step)
+    apart-turned c.args.deck.now c.args.self.now c.put_in.new.self (unseen c.args.system c.args.entries.now)
+    c.args.taken c.in_ok-fixed.fixed c.requires.apart
+    (c.in_ok-fixed.ensures.step ∙ ap (λ (n : NodeState). put_in n c.args.taken) c.in_ok-read_unseen.ensures.step)

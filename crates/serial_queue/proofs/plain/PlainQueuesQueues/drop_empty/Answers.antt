@@ -9,4 +9,6 @@ invariant_of-self-clause-spare c = rw c.set_live-self.ensures.spares c.args.self
 
 pub invariant_of-self-clause-empty : goal.invariant_of-self-clause-empty
 invariant_of-self-clause-empty c =
-    rw (c.set_live-self.ensures.flags, c.set_live-self.ensures.rows) (dropped c.args.self.now.pushes c.args.queue c.args.self.now.queues.items c.args.self.now.good c.args.self.now.empty c.requires.empty)
+    rw (c.set_live-self.ensures.flags, c.set_live-self.ensures.rows)
+    (dropped c.args.self.now.pushes c.args.queue c.args.self.now.queues.items c.args.self.now.good c.args.self.now.empty
+    c.requires.empty)

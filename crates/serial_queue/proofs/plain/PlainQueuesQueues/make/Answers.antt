@@ -10,7 +10,11 @@ invariant_of-self-clause-spare c = rw c.set_live-self.ensures.spares c.args.self
 
 pub invariant_of-self-clause-empty : goal.invariant_of-self-clause-empty
 invariant_of-self-clause-empty c =
-    rw (c.set_live-self.ensures.flags, c.set_live-self.ensures.rows) (dead_empty-make (flags c.args.self.now.queues.items) (rows c.args.self.now.queues.items) c.args.self.now.free c.args.self.now.empty)
+    rw (c.set_live-self.ensures.flags, c.set_live-self.ensures.rows)
+    (dead_empty-make (flags c.args.self.now.queues.items) (rows c.args.self.now.queues.items) c.args.self.now.free
+    c.args.self.now.empty)
 
 pub returns-clause-empty : goal.returns-clause-empty
-returns-clause-empty c = rw c.set_live-self.ensures.rows (unused c.args.self.now.pushes c.args.self.now.free c.args.self.now.queues.items c.args.self.now.good c.args.self.now.empty c.requires)
+returns-clause-empty c =
+    rw c.set_live-self.ensures.rows (unused c.args.self.now.pushes c.args.self.now.free c.args.self.now.queues.items
+    c.args.self.now.good c.args.self.now.empty c.requires)
