@@ -6,8 +6,8 @@ use grs_history::{answers, queues_after};
 use grs_report::{names_of, print_row};
 use grs_wire::{Answer, Deck, Fixed, HistEntry, Req, Want};
 use local_queue::Local;
+use qel_store::LinkedQueues;
 use queue_table::{Outcome, Table};
-use serial_queue::PlainQueues;
 use std::alloc::Global;
 use std::test::Fail;
 use task_state::Tasks;
@@ -100,19 +100,19 @@ fn rows_of(outcome: &Outcome) -> usize {
     }
 }
 
-fn rows_for(alloc: Global, table: &mut Table<PlainQueues>, req: &Req) -> Result<usize, NameFault> {
+fn rows_for(alloc: Global, table: &mut Table<LinkedQueues>, req: &Req) -> Result<usize, NameFault> {
     let outcome = table.carry_out(alloc, req)?;
     Ok(rows_of(&outcome))
 }
 
-fn asks(alloc: Global, table: &mut Table<PlainQueues>) -> Result<usize, NameFault> {
+fn asks(alloc: Global, table: &mut Table<LinkedQueues>) -> Result<usize, NameFault> {
     let req = enq(shared(alloc)?);
     rows_for(alloc, table, &req)
 }
 
 fn looks_from(
     alloc: Global,
-    table: &mut Table<PlainQueues>,
+    table: &mut Table<LinkedQueues>,
     first: u32,
 ) -> Result<usize, NameFault> {
     let req = look(first);
@@ -120,7 +120,7 @@ fn looks_from(
 }
 
 /// How many rows an ENQ shows, a look that misses its slice, and one that meets it.
-fn counts(alloc: Global, table: &mut Table<PlainQueues>) -> Result<[usize; 3], NameFault> {
+fn counts(alloc: Global, table: &mut Table<LinkedQueues>) -> Result<[usize; 3], NameFault> {
     Ok([
         asks(alloc, table)?,
         looks_from(alloc, table, 50)?,
@@ -129,7 +129,7 @@ fn counts(alloc: Global, table: &mut Table<PlainQueues>) -> Result<[usize; 3], N
 }
 
 fn looks_at_slices(alloc: Global) -> Result<[usize; 3], NameFault> {
-    let mut table = Table::new(alloc, PlainQueues::new(alloc));
+    let mut table = Table::new(alloc, LinkedQueues::new(alloc));
     counts(alloc, &mut table)
 }
 

@@ -14,8 +14,8 @@ use crate::marks::{Mark, Marks};
 use crate::untold::first_in;
 use grs_base::{Code, Effect, LAST_NUMBER, List, NoMemory, Res, Row, SysId, TaskId};
 use grs_wire::{Answer, Req, Want};
+use qel_store::LinkedQueues;
 use queue_table::{Outcome, Table};
-use serial_queue::PlainQueues;
 use std::alloc::Global;
 use std::marker::Model;
 
@@ -24,7 +24,7 @@ use std::marker::Model;
 #[derive(Drop)]
 pub(crate) struct Entry {
     next: u64,
-    table: Table<PlainQueues>,
+    table: Table<LinkedQueues>,
     marks: Marks,
 }
 
@@ -41,7 +41,7 @@ impl Model for Entry {
 }
 
 /// Whether a request puts an element into a list.
-fn queues(table: &Table<PlainQueues>, req: &Req) -> bool
+fn queues(table: &Table<LinkedQueues>, req: &Req) -> bool
     ensures { result ≡ queues_by table.now.elements req.now.task req.now.want }
 {
     match &req.want {
@@ -107,7 +107,7 @@ fn give_up(marks: &mut Marks, system: SysId, res: &Res, task: TaskId, owners: &[
 fn settle_queued(
     alloc: Global,
     next: &mut u64,
-    table: &mut Table<PlainQueues>,
+    table: &mut Table<LinkedQueues>,
     marks: &mut Marks,
     req: &Req,
 ) -> Result<Outcome, NoMemory>
@@ -174,7 +174,7 @@ fn settle_unqueued(
     alloc: Global,
     system: SysId,
     next: u64,
-    table: &mut Table<PlainQueues>,
+    table: &mut Table<LinkedQueues>,
     marks: &mut Marks,
     req: &Req,
 ) -> Result<Outcome, NoMemory>
@@ -199,7 +199,7 @@ impl Entry {
     {
         Entry {
             next: 1,
-            table: Table::new(alloc, PlainQueues::new(alloc)),
+            table: Table::new(alloc, LinkedQueues::new(alloc)),
             marks: Marks::new(alloc),
         }
     }
@@ -211,7 +211,7 @@ impl Entry {
         requires small { list_all (λ n. nat_le n last_number) (ranks_of rows.now) ≡ true }
         ensures { IfOk result (λ entry. entry ≡ loaded rows.now) }
     {
-        let mut table = Table::new(alloc, PlainQueues::new(alloc));
+        let mut table = Table::new(alloc, LinkedQueues::new(alloc));
         let mut marks = Marks::new(alloc);
         add_rows(alloc, &mut table, &mut marks, rows)?;
         Ok(Entry {

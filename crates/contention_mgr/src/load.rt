@@ -8,14 +8,14 @@ ghost use Rattle.lock_structure.specs.RankedRows.{all_apart, ranks_of};
 
 use crate::marks::{Mark, Marks};
 use grs_base::{Elem, List, NoMemory, Res, Ret, Row};
+use qel_store::LinkedQueues;
 use queue_table::Table;
-use serial_queue::PlainQueues;
 use std::alloc::Global;
 
 /// Puts an element with a rank last in the list of a resource in which its task has none. Its task counts as told.
 fn add_elem(
     alloc: Global,
-    table: &mut Table<PlainQueues>,
+    table: &mut Table<LinkedQueues>,
     marks: &mut Marks,
     res: &Res,
     elem: Elem,
@@ -40,7 +40,7 @@ fn add_elem(
 /// Puts elements with their ranks into the list of a resource, one after the other.
 fn add_list(
     alloc: Global,
-    table: &mut Table<PlainQueues>,
+    table: &mut Table<LinkedQueues>,
     marks: &mut Marks,
     res: &Res,
     elems: &[Elem],
@@ -68,7 +68,7 @@ fn add_list(
 /// a row.
 pub(crate) fn add_rows(
     alloc: Global,
-    table: &mut Table<PlainQueues>,
+    table: &mut Table<LinkedQueues>,
     marks: &mut Marks,
     rows: &[(Row, List<u64>)],
 ) -> Result<(), NoMemory>

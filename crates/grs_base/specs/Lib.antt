@@ -5,6 +5,7 @@ pub mod ShortNames
 pub mod Lines
 pub mod Printed
 pub mod Lists
+pub mod Behind
 pub mod State
 pub mod ResOrder
 pub mod Rows

@@ -101,6 +101,22 @@ rests-set now rests s r new inside is e =
     ∙ ap (set (map now rests) s.0)
     (e ∙ ap (λ (x : List StepDone). drop (run_count x) x) (sym (rest_at now rests s r inside is)))
 
+-- the quiet steps that come first were gone through, and what is left of each log is kept
+pub still-first :
+    (elements : State) (m : Merged) (fronts : List Step) (elements₁ : State) (m₁ : Merged)
+    (left rests : List (List StepDone)) (journal : List JEntry) → elements ≡ [] → m.events ≡ [] → m.hist ≡ []
+    → m.told ≡ [] → Leads elements m fronts elements₁ m₁ → rests ≡ left
+    → Still [] (record { events = []; hist = []; told = [] }) (fronts ++ by_journal left journal) elements₁ m₁
+    (by_journal rests journal)
+still-first elements m fronts elements₁ m₁ left rests journal none events hist told leads kept ys =
+    ap (λ (r : List (List StepDone)). shown_with elements₁ m₁ (by_journal r journal ++ ys)) kept
+    ∙ leads (by_journal left journal ++ ys)
+    ∙ (λ i.
+    shown_with (none i) (record { events = events i; hist = hist i; told = told i })
+    (fronts ++ (by_journal left journal ++ ys)))
+    ∙ ap (shown_with [] (record { events = []; hist = []; told = [] }))
+    (sym (append_assoc fronts (by_journal left journal) ys))
+
 -- an entry of the journal more
 pub still-entry :
     (elements : State) (m : Merged) (all : List Step) (elements₁ : State) (m₁ : Merged) (rests : List (List StepDone))

@@ -8,8 +8,8 @@ ghost use Rattle.grs_history.specs.Merging.{after_all_fixed, Leads};
 use super::replies::fix;
 use grs_base::{LAST_NUMBER, List, NoMemory, SysId};
 use grs_wire::{Event, Fixed, HistEntry, JEntry, NodeLog, StepDone, Told, ToldLine};
+use qel_store::LinkedQueues;
 use queue_table::Table;
-use serial_queue::PlainQueues;
 use std::alloc::Global;
 
 /// What the events of several systems show in one order: the events, the history, and what was told.
@@ -23,7 +23,7 @@ pub struct Merged {
 /// Events that are gone through one by one: what they show so far, and the lists after them.
 #[derive(Drop)]
 struct Merging {
-    table: Table<PlainQueues>,
+    table: Table<LinkedQueues>,
     merged: Merged,
 }
 
@@ -54,7 +54,7 @@ fn run_count(steps: &[StepDone]) -> usize
 /// Puts what a step fixed behind a history, with the replies of the lists.
 fn add_fixed(
     alloc: Global,
-    table: &mut Table<PlainQueues>,
+    table: &mut Table<LinkedQueues>,
     system: SysId,
     fixed: &[Fixed],
     hist: &mut List<HistEntry>,
@@ -181,7 +181,7 @@ pub fn merge_steps(
     ensures few { IfOk result (λ m. length m.events ≤ last_number) }
 {
     let mut merging = Merging {
-        table: Table::new(alloc, PlainQueues::new(alloc)),
+        table: Table::new(alloc, LinkedQueues::new(alloc)),
         merged: Merged {
             events: List::new(alloc),
             hist: List::new(alloc),

@@ -5,15 +5,15 @@ ghost use Rattle.grs_wire.specs.History.{step, replay};
 
 use grs_base::{List, NoMemory, Row};
 use grs_wire::HistEntry;
+use qel_store::LinkedQueues;
 use queue_table::Table;
-use serial_queue::CountedQueues;
 use std::alloc::Global;
 
 /// Does what one entry of a history asks for.
 fn carry_out(
     alloc: Global,
     limit: u32,
-    table: &mut Table<CountedQueues>,
+    table: &mut Table<LinkedQueues>,
     entry: &HistEntry,
 ) -> Result<(), NoMemory>
     ensures { OnOk result (table.new.elements ≡ step limit table.old.elements entry.now) }
@@ -53,7 +53,7 @@ fn carry_out(
 pub fn queues_after(alloc: Global, hist: &[HistEntry], limit: u32) -> Result<List<Row>, NoMemory>
     ensures { IfOk result (λ rows. rows ≡ rows_of (replay limit hist.now)) }
 {
-    let mut table = Table::new(alloc, CountedQueues::new(alloc));
+    let mut table = Table::new(alloc, LinkedQueues::new(alloc));
     for entry in hist {
         carry_out(alloc, limit, &mut table, entry)?;
     }

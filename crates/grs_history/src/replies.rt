@@ -6,14 +6,14 @@ ghost use Rattle.grs_wire.specs.Wants.{after_want};
 
 use grs_base::{Filter, List, NoMemory, Place, SysId, TaskId};
 use grs_wire::{Fixed, HistEntry, Req, Want};
+use qel_store::LinkedQueues;
 use queue_table::Table;
-use serial_queue::PlainQueues;
 use std::alloc::Global;
 
 /// A look at a place, with what it shows.
 fn look(
     alloc: Global,
-    table: &Table<PlainQueues>,
+    table: &Table<LinkedQueues>,
     task: TaskId,
     place: Place,
     filter: &Filter,
@@ -34,7 +34,7 @@ fn look(
 /// whose numbers go past 4,294,967,295.
 fn look_slices(
     alloc: Global,
-    table: &Table<PlainQueues>,
+    table: &Table<LinkedQueues>,
     task: TaskId,
     first: u32,
     count: u32,
@@ -55,7 +55,7 @@ fn look_slices(
 /// Carries out a request, and puts its entries behind a history.
 fn carry_out(
     alloc: Global,
-    table: &mut Table<PlainQueues>,
+    table: &mut Table<LinkedQueues>,
     req: &Req,
     hist: &mut List<HistEntry>,
 ) -> Result<(), NoMemory>
@@ -107,7 +107,7 @@ fn carry_out(
 /// Carries out what an event of a system fixed, and puts its entries behind a history.
 pub(crate) fn fix(
     alloc: Global,
-    table: &mut Table<PlainQueues>,
+    table: &mut Table<LinkedQueues>,
     system: SysId,
     fixed: &Fixed,
     hist: &mut List<HistEntry>,
@@ -136,7 +136,7 @@ pub(crate) fn fix(
 pub fn answers(alloc: Global, fixed: &[(SysId, Fixed)]) -> Result<List<HistEntry>, NoMemory>
     ensures { IfOk result (λ hist. hist ≡ answered fixed.now) }
 {
-    let mut table = Table::new(alloc, PlainQueues::new(alloc));
+    let mut table = Table::new(alloc, LinkedQueues::new(alloc));
     let mut hist = List::with_room(alloc, fixed.len())?;
     for one in fixed {
         fix(alloc, &mut table, one.0, &one.1, &mut hist)?;

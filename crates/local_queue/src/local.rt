@@ -6,8 +6,8 @@ ghost use Rattle.grs_wire.specs.Wants.{answer_to, after_want, new_owners};
 
 use grs_base::{Filter, List, NoMemory, Place, Row, SysId};
 use grs_wire::Req;
+use qel_store::LinkedQueues;
 use queue_table::{Outcome, Table};
-use serial_queue::PlainQueues;
 use std::alloc::Global;
 use std::marker::Model;
 
@@ -16,7 +16,7 @@ use std::marker::Model;
 #[derive(Drop)]
 pub struct Local {
     system: SysId,
-    table: Table<PlainQueues>,
+    table: Table<LinkedQueues>,
     alloc: Global,
 }
 
@@ -35,7 +35,7 @@ impl Local {
     {
         Local {
             system,
-            table: Table::new(alloc, PlainQueues::new(alloc)),
+            table: Table::new(alloc, LinkedQueues::new(alloc)),
             alloc,
         }
     }

@@ -1,10 +1,11 @@
 -- Who gets control behind an element that leaves, by its place.
-use Rattle.std.proofs.Common.{◌≡◌, ◌≤◌, ◌+◌, ℕ, zero, suc, Bool, true, false, cond, List, [], ◌∷◌, take, drop, length}
-use Rattle.std.proofs.Common.{map, refl, ap, sym, ◌∙◌, arith, eqb, leb, Some}
-use Rattle.std.specs.Prelude.{slice_get}
+use Rattle.std.proofs.Common.{◌≡◌, ◌+◌, ℕ, zero, suc, Bool, true, false, cond, List, [], ◌∷◌, take, drop, length, map}
+use Rattle.std.proofs.Common.{refl, ap, sym, ◌∙◌, arith, eqb, leb}
+use Rattle.std.specs.Prelude.{Result, Ok, Err, IfOk}
 use Rattle.std.proofs.Math.ListN.{drop_of_length-le}
 use Rattle.std.proofs.lemmas.Bool.Decides.{nat_tests}
 use Rattle.std.proofs.lemmas.List.{length-take-le}
+use Rattle.grs_base.specs.Behind.{shared_tasks, owner_tasks, tasks_behind}
 use Rattle.grs_base.specs.Same.{same_task}
 use Rattle.grs_base.specs.Lists.{is_apart, has_task, is_shared, shared_front, owners, place_of, list_without}
 use Rattle.grs_base.specs.State.{State, list_of, release_state}
@@ -14,8 +15,6 @@ use Rattle.grs_base.specs.declared.resource.Res.{Res}
 use Rattle.grs_base.proofs.SameLaws.{same_task-exact}
 use Rattle.grs_base.proofs.ListLaws.{shared_front-le, is_owner-standing}
 use Rattle.grs_wire.specs.Wants.{became_owners}
-use Rattle.queue_table.specs.Behind.{shared_tasks, owner_tasks, tasks_behind}
-use Rattle.queue_table.proofs.NameLemmas.{release-none}
 use Rattle.queue_table.proofs.OwnerLemmas.{became_owners-without, became_owners-same, list_of-release}
 
 by_cases : {P : Type 0} (b : Bool) → (b ≡ true → P) → (b ≡ false → P) → P
@@ -150,53 +149,25 @@ pub became_owners-behind : (es : List Elem) (t : TaskId) → is_apart es ≡ tru
     → became_owners es (list_without es t) t ≡ tasks_behind es (place_of es t)
 became_owners-behind es t a = became_owners-without es t a ∙ left-behind es t a
 
--- the elements behind a place, one by one
-pub shared_tasks-stop : (es : List Elem) (p : ℕ) (e : Elem) → slice_get es p ≡ Some e → is_shared e.ctl ≡ false
-    → shared_tasks (drop p es) ≡ []
-shared_tasks-stop [] p e h s = cc
-shared_tasks-stop (x ∷ es) zero e h s = grind (arith, h, s)
-shared_tasks-stop (x ∷ es) (suc p) e h s = shared_tasks-stop es p e h s
-
-pub shared_tasks-next : (es : List Elem) (p : ℕ) (e : Elem) → slice_get es p ≡ Some e → is_shared e.ctl ≡ true
-    → shared_tasks (drop p es) ≡ e.task ∷ shared_tasks (drop (p + 1) es)
-shared_tasks-next [] p e h s = cc
-shared_tasks-next (x ∷ es) zero e h s = grind (arith, h, s)
-shared_tasks-next (x ∷ es) (suc p) e h s =
-    shared_tasks-next es p e h s ∙ ap (λ (l : List Elem). e.task ∷ shared_tasks l) (drop_more x es p)
-  where
-    drop_more : (x : Elem) (es : List Elem) (p : ℕ) → drop (p + 1) es ≡ drop (suc p + 1) (x ∷ es)
-    drop_more x es p = let one : suc (p + 1) ≡ suc p + 1 = omega arith in ap (λ (n : ℕ). drop n (x ∷ es)) one
-
-pub owner_tasks-one : (es : List Elem) (p : ℕ) (e : Elem) → slice_get es p ≡ Some e → is_shared e.ctl ≡ false
-    → owner_tasks (drop p es) ≡ e.task ∷ []
-owner_tasks-one [] p e h s = cc
-owner_tasks-one (x ∷ es) zero e h s = grind (arith, h, s)
-owner_tasks-one (x ∷ es) (suc p) e h s = owner_tasks-one es p e h s
-
--- the owners are the shared ones in front, where the first is shared
-owner_tasks-shared : (es : List Elem) (p : ℕ) (e : Elem) → slice_get es p ≡ Some e → is_shared e.ctl ≡ true
-    → owner_tasks (drop p es) ≡ shared_tasks (drop p es)
-owner_tasks-shared [] p e h s = cc
-owner_tasks-shared (x ∷ es) zero e h s = grind (arith, h, s)
-owner_tasks-shared (x ∷ es) (suc p) e h s = owner_tasks-shared es p e h s
-
-pub owner_tasks-next : (es : List Elem) (p : ℕ) (e : Elem) → slice_get es p ≡ Some e → is_shared e.ctl ≡ true
-    → owner_tasks (drop p es) ≡ e.task ∷ shared_tasks (drop (p + 1) es)
-owner_tasks-next es p e h s = owner_tasks-shared es p e h s ∙ shared_tasks-next es p e h s
-
-pub told_by : (s : State) (r : Res) (t : TaskId) (es : List Elem) (p : ℕ) (told : List TaskId) → es ≡ list_of s r
-    → is_apart es ≡ true → p ≡ place_of es t → told ≡ tasks_behind es p
+-- so of the list of a resource
+pub told_by : (s : State) (r : Res) (t : TaskId) (es : List Elem) (told : List TaskId) → es ≡ list_of s r
+    → is_apart es ≡ true → told ≡ tasks_behind es (place_of es t)
     → told ≡ became_owners (list_of s r) (list_of (release_state s r t) r) t
-told_by s r t es p told is apart at behind =
-    behind ∙ ap (tasks_behind es) at ∙ sym (became_owners-behind es t apart)
+told_by s r t es told is apart behind =
+    behind ∙ sym (became_owners-behind es t apart)
     ∙ ap (λ (l : List Elem). became_owners l (list_without l t) t) is
     ∙ ap (λ (l : List Elem). became_owners (list_of s r) l t) (sym (list_of-release s r t))
 
--- nobody gets control where the task has no element
-pub told_none : (s : State) (r : Res) (es : List Elem) (t : TaskId) → es ≡ list_of s r → length es ≤ place_of es t
+-- unless memory is wanting
+pub told_by_ok : {B : Type 0} (s : State) (r : Res) (t : TaskId) (es : List Elem) (o : Result (List TaskId) B)
+    → es ≡ list_of s r → is_apart es ≡ true → IfOk o (λ told. told ≡ tasks_behind es (place_of es t))
+    → IfOk o (λ told. told ≡ became_owners (list_of s r) (list_of (release_state s r t) r) t)
+told_by_ok s r t es (Ok told) is apart behind = told_by s r t es told is apart behind
+told_by_ok s r t es (Err x) is apart behind = tt
+
+-- nobody gets control where there is no list
+pub told_none : (s : State) (r : Res) (t : TaskId) → [] ≡ list_of s r
     → [] ≡ became_owners (list_of s r) (list_of (release_state s r t) r) t
-told_none s r es t is past =
-    sym (became_owners-same (list_of s r) t)
-    ∙ ap (λ (u : State). became_owners (list_of s r) (list_of u r) t) (release-none s r es t is past).1
+told_none s r t is = told_by s r t [] [] is refl (grind (arith, nat_tests))
 
 pub ruleset told = (nat_tests, became_owners-same, is_owner-standing)

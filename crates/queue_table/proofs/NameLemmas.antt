@@ -2,19 +2,20 @@
 use Rattle.std.proofs.Common.{◌≡◌, ℕ, Bool, true, false, cond, not, ◌&&◌, ◌||◌, List, [], ◌∷◌, ◌++◌, map, length}
 use Rattle.std.proofs.Common.{Option, Some, None, is_some, refl, ap, sym, ◌∙◌, subst, arith, eqb, nat_eq}
 use Rattle.std.specs.Prelude.{filter, slice_get, IfSome}
-use Rattle.std.proofs.Common.{◌<◌, ◌≤◌, suc}
-use Rattle.grs_base.specs.Lists.{place_of, decide_enq, has_task, is_owner, standing_of}
+use Rattle.std.proofs.Common.{◌<◌}
+use Rattle.grs_base.specs.Lists.{place_of, decide_enq, standing_of}
+use Rattle.grs_base.specs.declared.decision.Standing.TheVariants.{OnlyShared}
 use Rattle.grs_base.specs.declared.resource.Ctl.{Ctl}
 use Rattle.grs_base.specs.declared.resource.Ret.{Ret}
-use Rattle.grs_base.specs.declared.decision.Effect.TheVariants.{Append, MakeExclusive}
-use Rattle.grs_base.proofs.ListLaws.{place-le, owners-le, has_task-place, is_owner-standing, owns-place}
+use Rattle.grs_base.specs.declared.decision.Effect.TheVariants.{Append}
+use Rattle.grs_base.proofs.ListLaws.{place-le, owners-le}
 use Rattle.grs_base.proofs.StateLaws.{appends_absent, only_owner}
 use Rattle.grs_base.proofs.SameLaws.{same_task-exact}
 use Rattle.std.specs.Option.{option_map_or}
-use Rattle.std.specs.Prelude.{Result, Ok, Err, IsOk, OnOk}
+use Rattle.std.specs.Prelude.{Result, Ok, Err, IsOk, OnOk, OnErr}
 use Rattle.std.proofs.lemmas.Bool.{eqb-true, eq-eqb, ne_eqb}
 use Rattle.std.proofs.lemmas.Bool.Decides.{nat_tests}
-use Rattle.grs_base.specs.Same.{same_res, same_task}
+use Rattle.grs_base.specs.Same.{same_res}
 use Rattle.grs_base.specs.State.{Held, State, list_at, list_at_some, list_of, queued_by, is_at, without, with_exclusive}
 use Rattle.grs_base.specs.declared.resource.Res.{Res}
 use Rattle.grs_base.specs.declared.resource.Elem.{Elem}
@@ -279,6 +280,26 @@ IsTable-take es hs new live more r q t table n is same = (
   ap (named es) is ∙ named-without es hs r q t table.paired n,
 )
 
+-- the same where it is taken out unless memory is wanting
+pub IsTable-told :
+    {A B : Type 0} (es : Numbers) (hs new : Held ℕ) (live more : ℕ → Bool) (r : Res) (q : ℕ) (t : TaskId)
+    (o : Result A B)
+    → IsTable es hs live → queue_number es r ≡ Some q → OnOk o (new ≡ without nat_eq hs q t) → OnErr o (new ≡ hs)
+    → ((n : ℕ) → more n ≡ live n) →
+    IsTable es new more × OnOk o (named es new ≡ without same_res (named es hs) r t)
+    × OnErr o (named es new ≡ named es hs)
+IsTable-told es hs new live more r q t (Ok x) table n is same_hs same =
+    let taken = IsTable-take es hs new live more r q t table n is same in (taken.0, taken.1, tt)
+IsTable-told es hs new live more r q t (Err x) table n is same_hs same = (
+  record {
+    paired = table.paired;
+    live_numbers = all_numbers-more live more (λ k p. same k ∙ p) es table.live_numbers;
+    named_all = ap (all_named es) same_hs ∙ table.named_all;
+  },
+  tt,
+  ap (named es) same_hs,
+)
+
 -- where an element is made exclusive
 pub IsTable-exclusive : (es : Numbers) (hs new : Held ℕ) (live more : ℕ → Bool) (r : Res) (q : ℕ) (t : TaskId)
     → IsTable es hs live → queue_number es r ≡ Some q → new ≡ with_exclusive nat_eq hs q t → ((n : ℕ) → more n ≡ live n)
@@ -292,70 +313,30 @@ IsTable-exclusive es hs new live more r q t table n is same = (
   ap (named es) is ∙ named-exclusive es hs r q t table.paired n,
 )
 
--- the element at a task's place is the task's
-pub slice_get-place_of : (es : List Elem) (t : TaskId) → place_of es t < length es
-    → (e : Elem) × ((slice_get es (place_of es t) ≡ Some e) × (e.task ≡ t))
-slice_get-place_of [] t h = absurd (omega arith)
-slice_get-place_of (x ∷ es) t h = step (slice_get-place_of es t) (same_task t x.task) refl
-  where
-    step : (place_of es t < length es → (e : Elem) × ((slice_get es (place_of es t) ≡ Some e) × (e.task ≡ t)))
-        → (b : Bool) → same_task t x.task ≡ b
-        → (e : Elem) × ((slice_get (x ∷ es) (cond b 0 (suc (place_of es t))) ≡ Some e) × (e.task ≡ t))
-    step rest true e = (x, (refl, sym (same_task-exact t x.task e)))
-    step rest false e = rest (grind (arith, h, e))
+-- the only owner stands first
+pub owner_there : (es : List Elem) (t : TaskId) → standing_of es t ≡ OnlyShared → 0 < length es
+owner_there [] t h = absurd (cc)
+owner_there (e ∷ es) t h = omega arith
 
-pub task_at_place : (es : List Elem) (t : TaskId) (e : Elem) → place_of es t < length es
-    → slice_get es (place_of es t) ≡ Some e → e.task ≡ t
-task_at_place es t e h is = let found = slice_get-place_of es t h in grind (arith, found.1.0, found.1.1, is)
+owner_same : (e : Elem) (es : List Elem) (t : TaskId) → standing_of (e ∷ es) t ≡ OnlyShared → e.task ≡ t
+owner_same e es t h = sym (same_task-exact t e.task (grind (arith, nat_tests, h)))
 
-pub exclusive_at_place : (es : List Elem) (t : TaskId) (P : TaskId → Type 0) → place_of es t < length es
-    → IfSome (slice_get es (place_of es t)) (λ e. P e.task) → P t
-exclusive_at_place es t P h p =
-    let found = slice_get-place_of es t h in
-    subst P found.1.1 (subst (λ (o : Option Elem). IfSome o (λ e. P e.task)) found.1.0 p)
+pub owner_first : (es : List Elem) (t : TaskId) (P : TaskId → Type 0) → standing_of es t ≡ OnlyShared
+    → IfSome (slice_get es 0) (λ e. P e.task) → P t
+owner_first [] t P h p = absurd (cc)
+owner_first (e ∷ es) t P h p = subst P (owner_same e es t h) p
 
 pub appends-place : (es : List Elem) (t : TaskId) (c : Ctl) (ret : Ret) (full : Bool)
     → (decide_enq es t c ret full).effect ≡ Append → place_of es t ≡ length es
 appends-place es t c ret full h =
     grind (arith, nat_tests, appends_absent es t c ret full h, place-le es t, owners-le es)
 
-pub makes-place : (es : List Elem) (t : TaskId) (c : Ctl) (ret : Ret) (full : Bool)
-    → (decide_enq es t c ret full).effect ≡ MakeExclusive → place_of es t < length es
-makes-place es t c ret full h = grind (arith, nat_tests, only_owner es t c ret full h, owners-le es)
-
-pub task_at : (es : List Elem) (t : TaskId) (p : ℕ) (e : Elem) → place_of es t < length es → p ≡ place_of es t
-    → slice_get es p ≡ Some e → e.task ≡ t
-task_at es t p e h is at = task_at_place es t e h (subst (λ (n : ℕ). slice_get es n ≡ Some e) is at)
-
-pub exclusive_at : (es : List Elem) (t : TaskId) (p : ℕ) (P : TaskId → Type 0) → place_of es t < length es
-    → p ≡ place_of es t → IfSome (slice_get es p) (λ e. P e.task) → P t
-exclusive_at es t p P h is at =
-    exclusive_at_place es t P h (subst (λ (n : ℕ). IfSome (slice_get es n) (λ e. P e.task)) is at)
-
-pub owner-place : (es : List Elem) (t : TaskId) → is_owner (standing_of es t) ≡ true → place_of es t < length es
-owner-place es t h = grind (arith, nat_tests, h, is_owner-standing es t, owns-place es t, owners-le es)
-
-pub has_task_at : (es : List Elem) (t : TaskId) → place_of es t < length es → true ≡ has_task es t
-has_task_at es t h = grind (arith, nat_tests, h, has_task-place es t)
-
-pub has_no_task : (es : List Elem) (t : TaskId) → length es ≤ place_of es t → false ≡ has_task es t
-has_no_task es t h = grind (arith, nat_tests, h, has_task-place es t)
-
-pub without_absent : (s : State) (r : Res) (t : TaskId) → has_task (list_of s r) t ≡ false → s ≡ without same_res s r t
+-- nothing leaves where there is no list
+pub without_absent : (s : State) (r : Res) (t : TaskId) → [] ≡ list_of s r → s ≡ without same_res s r t
 without_absent [] r t h = refl
 without_absent (x ∷ s) r t h = grind (arith, h, without_absent s r t)
 
--- what a release finds, and leaves where it finds nothing
-pub release-there : (list es : List Elem) (t : TaskId) → es ≡ list → place_of es t < length es → true ≡ has_task list t
-release-there list es t is h = has_task_at es t h ∙ ap (λ (l : List Elem). has_task l t) is
-
-pub release-none : (s : State) (r : Res) (es : List Elem) (t : TaskId) → es ≡ list_of s r → length es ≤ place_of es t
-    → (false ≡ has_task (list_of s r) t) × (s ≡ without same_res s r t)
-release-none s r es t is h =
-    let none : false ≡ has_task (list_of s r) t = has_no_task es t h ∙ ap (λ (l : List Elem). has_task l t) is in
-    (none, without_absent s r t (sym none))
-
-pub ruleset decided = (appends-place, makes-place, owner-place)
+pub ruleset decided = (appends-place, only_owner)
 
 -- a task has as many elements under names as under numbers
 pub length-queued_by-named : (es : Numbers) (hs : Held ℕ) (t : TaskId) → all_named es hs ≡ true

@@ -1,7 +1,19 @@
 use Rattle.std.proofs.Common.{[], map}
-use Rattle.grs_history.specs.Merge.{in_order}
-use Rattle.grs_history.proofs.MergeLaws.{still-entry, still-last}
+use Rattle.grs_history.specs.Merge.{quiet_fronts, without_front, in_order}
+use Rattle.grs_history.proofs.MergeLaws.{still-first, still-entry, still-last}
 use Rattle.grs_history.proofs.order.merge_steps.Goals as goal
+
+pub loop-entry-init : goal.loop-entry-init
+loop-entry-init c = record {
+  still =
+      still-first c.new-2.result.elements
+      (record { events = c.new-3.result; hist = c.new-4.result; told = c.new-5.result })
+      (quiet_fronts 0 (map (λ l. l.now) c.args.logs.now)) c.begin.new.self.table.elements c.begin.new.self.merged
+      (map without_front (map (λ l. l.now) c.args.logs.now)) (map (λ r. r.now) c.in_ok-rests.rests.items)
+      c.args.journal.now c.new-2.ensures c.new-3.ensures c.new-4.ensures c.new-5.ensures
+      c.in_ok-rests.ensures.leads c.in_ok-rests.ensures.rests;
+  few = c.begin.ensures.few;
+}
 
 pub loop-entry-preserved : goal.loop-entry-preserved
 loop-entry-preserved c = record {

@@ -1,11 +1,36 @@
 use Rattle.std.proofs.Common.{nat_eq}
 use Rattle.grs_base.specs.State.{list_at}
 use Rattle.queue_table.specs.Names.{named}
-use Rattle.queue_table.proofs.BehindLemmas.{told_by}
+use Rattle.queue_table.proofs.NameLemmas.{IsTable-told}
+use Rattle.queue_table.proofs.BehindLemmas.{told_by_ok}
 use Rattle.queue_table.proofs.parts.give_up.Goals as goal
 
 pub returns-clause-owners : goal.returns-clause-owners
 returns-clause-owners g c =
-    told_by (named c.args.numbers.now.entries (g.Q.Queues.elements c.args.queues.now)) c.args.res.now c.args.task
-    (list_at nat_eq (g.Q.Queues.elements c.args.queues.now) c.args.queue) c.args.place c.in_ok-tasks.tasks
-    c.requires.list c.requires.apart c.requires.place c.in_ok-tasks.ensures
+    told_by_ok (named c.args.numbers.now.entries (g.Q.Queues.elements c.args.queues.now)) c.args.res.now c.args.task
+    (list_at nat_eq (g.Q.Queues.elements c.args.queues.now) c.args.queue) c.take_told.result
+    c.requires.list c.take_told.ensures.apart c.take_told.ensures.tasks
+
+pub returns-clause-table : goal.returns-clause-table
+returns-clause-table g c =
+    (IsTable-told c.args.numbers.now.entries (g.Q.Queues.elements c.args.queues.now)
+    (g.Q.Queues.elements c.take_told.new.self) (g.Q.Queues.is_live c.args.queues.now)
+    (g.Q.Queues.is_live c.take_told.new.self) c.args.res.now c.args.queue c.args.task c.take_told.result
+    c.requires.table c.requires.number c.take_told.ensures.elements c.take_told.ensures.unchanged
+    c.take_told.ensures.live).0
+
+pub returns-clause-elements : goal.returns-clause-elements
+returns-clause-elements g c =
+    (IsTable-told c.args.numbers.now.entries (g.Q.Queues.elements c.args.queues.now)
+    (g.Q.Queues.elements c.take_told.new.self) (g.Q.Queues.is_live c.args.queues.now)
+    (g.Q.Queues.is_live c.take_told.new.self) c.args.res.now c.args.queue c.args.task c.take_told.result
+    c.requires.table c.requires.number c.take_told.ensures.elements c.take_told.ensures.unchanged
+    c.take_told.ensures.live).1
+
+pub returns-clause-unchanged : goal.returns-clause-unchanged
+returns-clause-unchanged g c =
+    (IsTable-told c.args.numbers.now.entries (g.Q.Queues.elements c.args.queues.now)
+    (g.Q.Queues.elements c.take_told.new.self) (g.Q.Queues.is_live c.args.queues.now)
+    (g.Q.Queues.is_live c.take_told.new.self) c.args.res.now c.args.queue c.args.task c.take_told.result
+    c.requires.table c.requires.number c.take_told.ensures.elements c.take_told.ensures.unchanged
+    c.take_told.ensures.live).2

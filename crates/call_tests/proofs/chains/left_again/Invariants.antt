@@ -1,0 +1,4 @@
+use Rattle.call_tests.proofs.chains.left_again.Given as goal
+
+abbrev pub ghosts-end : goal.ghosts-end
+ghosts-end a = record { name = a.blank.name; parts = a.blank.parts }

@@ -1,0 +1,11 @@
+pub mod ItemLemmas
+pub mod NumberedLemmas
+pub mod RingLemmas
+pub mod WalkLemmas
+pub mod HeadLemmas
+pub mod TaskLemmas
+pub mod LinkedLemmas
+pub mod StandingLemmas
+pub mod EndLemmas
+pub mod TakeLemmas
+pub mod StoreLemmas

@@ -1,0 +1,15 @@
+use Rattle.std.proofs.Common.{◌<◌, ◌∙◌, List, ap, length, subst}
+use Rattle.std.specs.Prelude.{slice_get}
+use Rattle.grs_base.specs.declared.resource.Elem.{Elem}
+use Rattle.qel_store.proofs.LinkedLemmas.{list_at-held}
+use Rattle.qel_store.proofs.linked.LinkedQueuesQueues.elem.Goals as goal
+
+pub elem_in-requires-clause-place : goal.elem_in-requires-clause-place
+elem_in-requires-clause-place c =
+    subst (λ (l : List Elem). c.args.place < length l) (list_at-held c.args.self.now.elements.items c.args.queue)
+    c.requires.place
+
+pub returns : goal.returns
+returns c =
+    ap (λ (l : List Elem). slice_get l c.args.place) (list_at-held c.args.self.now.elements.items c.args.queue)
+    ∙ c.elem_in.ensures

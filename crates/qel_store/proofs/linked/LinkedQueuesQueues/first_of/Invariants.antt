@@ -1,0 +1,4 @@
+use Rattle.qel_store.proofs.linked.LinkedQueuesQueues.first_of.Given as goal
+
+abbrev pub ghosts-first_uncounted : goal.ghosts-first_uncounted
+ghosts-first_uncounted a = record { name = a.blank.name; parts = a.blank.parts }
