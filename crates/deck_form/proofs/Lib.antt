@@ -1,4 +1,5 @@
 pub mod Numbers
+pub mod Points
 pub mod Taken
 pub mod Again
 pub mod Unknown

@@ -1,9 +1,11 @@
 //! Names of systems, jobs and tasks, and numbers, as the bytes of a word.
-ghost use Rattle.std.specs.Prelude.{◌≡◌, ◌<◌, ◌==◌, length, position, IfSome};
+ghost use Rattle.std.specs.Prelude.{◌≡◌, ◌==◌, [], ◌∷◌, position};
+ghost use Rattle.bstr.specs.Text.{SplitsOnce};
 ghost use Rattle.grs_base.specs.ShortNames.{is_digit, is_name_byte, is_name, all_name};
 ghost use Rattle.deck_scan.specs.Next.{Reads};
 ghost use Rattle.deck_form.specs.Words.{short_at, named_at, dotted_at, parted, digits, written_number};
 
+use bstr::ByteSlice;
 use deck_scan::{GivenName, Miss, Token, any_word_at, end_at};
 
 /// How many digits a number may have, so that it has less than 32 bits.
@@ -69,23 +71,20 @@ pub fn named_at<'a, 't>(ts: &'a [Token<'t>]) -> Result<GivenName<'a>, Miss>
     Ok(name)
 }
 
-/// Where the first point stands.
-fn point_of(w: &[u8]) -> Option<usize>
-    ensures at { result ≡ position (λ b. b == 46) w.now }
-    ensures within { IfSome result (λ i. i < length w.now) }
+/// What stands before the first point, and what stands behind it.
+fn around_point<'a>(w: &'a [u8]) -> Option<(&'a [u8], &'a [u8])>
+    ensures { SplitsOnce w.now (46 ∷ []) (position (λ b. b == 46) w.now) result }
 {
-    w.iter().position(|b| *b == b'.')
+    w.split_once_str(b".")
 }
 
 /// A name, a point, a name.
 fn parted<'a>(w: &'a [u8]) -> Result<(GivenName<'a>, GivenName<'a>), Miss>
     ensures { Reads (λ x. x) result (parted (position (λ b. b == 46) w.now) w.now) }
 {
-    match point_of(w) {
+    match around_point(w) {
         None => Err(Miss),
-        Some(i) => {
-            let job = &w[..i];
-            let task = &w[i + 1..];
+        Some((job, task)) => {
             if !is_name(job) {
                 return Err(Miss);
             }

@@ -12,6 +12,7 @@ use Rattle.deck_scan.specs.Scan.{Scan, Mode, InBlank, AfterSlash, InWord, InQuot
 use Rattle.deck_scan.specs.Scan.{InBadHex, InComment, AfterStar, put, put_word, put_open, end_line, break_off}
 use Rattle.deck_scan.specs.Scan.{begin_word, begin, step_in, step, scan_from, finish_in, start, lines_of}
 use Rattle.deck_scan.specs.Closes.{closes, all_closes, weight}
+use Rattle.deck_scan.proofs.Said.{mark_is_no_word}
 
 -- ---- how many closing parentheses tokens and lines have
 
@@ -170,13 +171,12 @@ pub begin_close : (s : Scan) → count (begin s 41) ≡ suc (count s)
 unfolding begin
 begin_close s = let h = count-put Close s in omega (arith, h)
 
-pub word_not : is_word 41 ≡ false
-unfolding is_word
-word_not = refl
+pub close_is_no_word : is_word 41 ≡ false
+close_is_no_word = mark_is_no_word 41 refl
 
-pub hex_not : is_hex 41 ≡ false
+pub close_is_no_hex : is_hex 41 ≡ false
 unfolding is_hex
-hex_not = refl
+close_is_no_hex = refl
 
 begin_mode : (s : Scan) → (begin s 41).mode ≡ InBlank
 unfolding begin put
@@ -202,11 +202,11 @@ in_closed : (m : Mode) (s : Scan) → s.mode ≡ m → Closed s (step_in m s 41)
 unfolding step_in
 in_closed InBlank s e = begun_close s s refl
 in_closed AfterSlash s e = begun_close s (put Stray s) (put_none Stray s refl)
-in_closed InWord s e = rw word_not (begun_close s (put_word s) (count-put_word s))
+in_closed InWord s e = rw close_is_no_word (begun_close s (put_word s) (count-put_word s))
 in_closed InQuote s e = rw e refl
 in_closed AfterQuote s e = begun_close s (put (Name s.part) s) (put_none (Name s.part) s refl)
-in_closed InHex s e = rw hex_not refl
-in_closed InHexLow s e = rw hex_not refl
+in_closed InHex s e = rw close_is_no_hex refl
+in_closed InHexLow s e = rw close_is_no_hex refl
 in_closed InBadHex s e = rw e refl
 in_closed InComment s e = rw e refl
 in_closed AfterStar s e = refl

@@ -1,10 +1,10 @@
 -- The same lines are to come behind a gap, and a word behind it is the first of the next line.
-use Rattle.std.proofs.Common.{◌≡◌, ℕ, ◌+◌, ◌<◌, Bool, true, false, cond, not, eqb, List, [], ◌∷◌, ◌++◌, length, drop}
-use Rattle.std.proofs.Common.{Option, Some, None, is_some, refl, sym, ap, subst, ◌∙◌, arith}
+use Rattle.std.proofs.Common.{◌≡◌, ℕ, ◌+◌, ◌<◌, ◌≤◌, Bool, true, false, cond, not, eqb, List, [], ◌∷◌, ◌++◌, length}
+use Rattle.std.proofs.Common.{get_or, drop, Option, Some, None, is_some, refl, sym, ap, subst, ◌∙◌, arith}
 use Rattle.std.specs.Prelude.{◌&&◌, ◌||◌, ◌==◌}
 use Rattle.std.specs.Str.{bytes_eq}
 use Rattle.std.specs.List.{list_all}
-use Rattle.std.proofs.lemmas.Bool.{eqb-true, ne_eqb, and_parts}
+use Rattle.std.proofs.lemmas.Bool.{eqb-true, ne_eqb, and_parts, false_from_ne_true}
 use Rattle.std.proofs.lemmas.List.Elements.{filter-append}
 use Rattle.grs_base.specs.Printed.{is_printable}
 use Rattle.deck_scan.specs.declared.token.Token.{Token}
@@ -26,7 +26,7 @@ use Rattle.deck_scan.proofs.Found.{by_test, found_pieces}
 use Rattle.deck_scan.proofs.Names.{printable-no_cr, plain_printable, all_kept}
 use Rattle.deck_scan.proofs.Pieces.{nil_of}
 use Rattle.deck_scan.proofs.Ahead.{fresh_place, read_said}
-use Rattle.deck_scan.proofs.Rows.{readable_row, readable_ok, pair_front, row_inside, comment_done}
+use Rattle.deck_scan.proofs.Rows.{readable_row, readable_ok, two_front, row_inside, comment_done}
 
 -- ---- a byte or two of a gap
 
@@ -135,61 +135,83 @@ some_of : (o : Option ℕ) → is_some o ≡ true → (n : ℕ) × (o ≡ Some n
 some_of (Some n) h = (n, refl)
 some_of None h = absurd cc
 
-module _ (from to : Cursor) (b : ℕ) (tail : List ℕ) (front : from.rest.now ≡ b ∷ tail) where
+-- a text that begins with this byte
+one_front : (n : ℕ) (text : List ℕ) → 1 ≤ length text → get_or text 0 0 ≡ n → text ≡ n ∷ drop 1 text
+one_front n [] long first = absurd (omega (arith, long))
+one_front n (x ∷ xs) long first = rw first refl
+
+-- no star and slash stand there
+no_pair : (text : List ℕ) → (2 ≤ length text → get_or text 0 0 ≡ 42 → get_or text 1 0 ≡ 47 → ⊥)
+    → (get_or text 0 0 == 42 && begins 47 (drop 1 text)) ≡ false
+no_pair [] h = refl
+no_pair (x ∷ []) h = go (eqb x 42)
+  where
+    go : (is : Bool) → (is && false) ≡ false
+    go true = refl
+    go false = refl
+no_pair (x ∷ y ∷ ys) h =
+    false_from_ne_true (eqb x 42 && eqb y 47)
+    (λ is. let k = and_parts (eqb x 42) (eqb y 47) is in h (omega arith) (eqb-true x 42 k.0) (eqb-true y 47 k.1))
+
+module _ (from to : Cursor) where
+  abbrev text : List ℕ
+  text = from.rest.now
+
   module _ (apart : is_some from.begun ≡ false) where
-    pub over_begin : (b == 47 && begins 42 tail) ≡ true → to.line ≡ from.line → to.begun ≡ Some from.line
-        → to.rest.now ≡ drop 1 tail → GoesOver from to
-    over_begin pair line begun rest =
-        goes from to None (47 ∷ 42 ∷ drop 1 tail) from.line (Some from.line) (drop 1 tail) (none_of from.begun apart)
-        (pair_front 47 42 from.rest.now b tail front pair) line begun rest (comment_apart from.line (drop 1 tail))
-        (omega arith)
+    none : from.begun ≡ None
+    none = none_of from.begun apart
 
-    pub over_end : b ≡ 10 → to.line ≡ from.line + 1 → to.begun ≡ None → to.rest.now ≡ tail → GoesOver from to
-    over_end is line begun rest =
-        goes from to None (10 ∷ tail) (from.line + 1) None tail (none_of from.begun apart)
-        (front ∙ ap (λ (c : ℕ). c ∷ tail) is) line begun rest (lf_apart from.line tail) (omega arith)
+    pub over_begin : 2 ≤ length text → get_or text 0 0 ≡ 47 → get_or text 1 0 ≡ 42 → to.line ≡ from.line
+        → to.begun ≡ Some from.line → to.rest.now ≡ drop 2 text → GoesOver from to
+    over_begin long first second line begun rest =
+        goes from to None (47 ∷ 42 ∷ drop 2 text) from.line (Some from.line) (drop 2 text) none
+        (two_front 47 42 text long first second) line begun rest (comment_apart from.line (drop 2 text)) (omega arith)
 
-    pub over_blank : (b == 32 || (b == 13 && begins 10 tail)) ≡ true → to.line ≡ from.line → to.begun ≡ None
-        → to.rest.now ≡ tail → GoesOver from to
-    over_blank is line begun rest =
-        by_test (eqb b 32)
-        (λ blank.
-        goes from to None (32 ∷ tail) from.line None tail none (front ∙ ap (λ (c : ℕ). c ∷ tail) (eqb-true b 32 blank))
-        line begun rest (blank_apart from.line tail) (omega arith))
-        (λ unlike.
-        let text =
-        pair_front 13 10 from.rest.now b tail front
-        (sym (ap (λ (x : Bool). x || (b == 13 && begins 10 tail)) unlike) ∙ is) in
-        let own : tail ≡ 10 ∷ drop 1 tail = ap (drop 1) (sym front ∙ text) in
-        goes from to None (13 ∷ 10 ∷ drop 1 tail) from.line None (10 ∷ drop 1 tail) none text line begun (rest ∙ own)
-        (cr_apart from.line (drop 1 tail)) (omega arith))
-      where
-        none : from.begun ≡ None
-        none = none_of from.begun apart
+    pub over_end : 1 ≤ length text → get_or text 0 0 ≡ 10 → to.line ≡ from.line + 1 → to.begun ≡ None
+        → to.rest.now ≡ drop 1 text → GoesOver from to
+    over_end long first line begun rest =
+        goes from to None (10 ∷ drop 1 text) (from.line + 1) None (drop 1 text) none (one_front 10 text long first) line
+        begun rest (lf_apart from.line (drop 1 text)) (omega arith)
+
+    pub over_cr : 2 ≤ length text → get_or text 0 0 ≡ 13 → get_or text 1 0 ≡ 10 → to.line ≡ from.line + 1
+        → to.begun ≡ None → to.rest.now ≡ drop 2 text → GoesOver from to
+    over_cr long first second line begun rest =
+        goes from to None (13 ∷ 10 ∷ drop 2 text) (from.line + 1) None (drop 2 text) none
+        (two_front 13 10 text long first second) line begun rest
+        (cr_apart from.line (drop 2 text) ∙ lf_apart from.line (drop 2 text)) (omega arith)
+
+    pub over_blank : 1 ≤ length text → get_or text 0 0 ≡ 32 → to.line ≡ from.line → to.begun ≡ None
+        → to.rest.now ≡ drop 1 text → GoesOver from to
+    over_blank long first line begun rest =
+        goes from to None (32 ∷ drop 1 text) from.line None (drop 1 text) none (one_front 32 text long first) line begun
+        rest (blank_apart from.line (drop 1 text)) (omega arith)
 
   module _ (inside : is_some from.begun ≡ true) where
     begun_on : (n : ℕ) × (from.begun ≡ Some n)
     begun_on = some_of from.begun inside
 
-    pub over_close : (b == 42 && begins 47 tail) ≡ true → to.line ≡ from.line → to.begun ≡ None
-        → to.rest.now ≡ drop 1 tail → GoesOver from to
-    over_close pair line begun rest =
-        goes from to (Some begun_on.0) (42 ∷ 47 ∷ drop 1 tail) from.line None (drop 1 tail) begun_on.1
-        (pair_front 42 47 from.rest.now b tail front pair) line begun rest
-        (comment_done from.line begun_on.0 [] (drop 1 tail) refl refl) (omega arith)
+    pub over_close : 2 ≤ length text → get_or text 0 0 ≡ 42 → get_or text 1 0 ≡ 47 → to.line ≡ from.line
+        → to.begun ≡ None → to.rest.now ≡ drop 2 text → GoesOver from to
+    over_close long first second line begun rest =
+        goes from to (Some begun_on.0) (42 ∷ 47 ∷ drop 2 text) from.line None (drop 2 text) begun_on.1
+        (two_front 42 47 text long first second) line begun rest
+        (comment_done from.line begun_on.0 [] (drop 2 text) refl refl) (omega arith)
 
-    pub over_line : b ≡ 10 → to.line ≡ from.line + 1 → to.begun ≡ from.begun → to.rest.now ≡ tail → GoesOver from to
-    over_line is line begun rest =
-        goes from to (Some begun_on.0) (10 ∷ tail) (from.line + 1) (Some begun_on.0) tail begun_on.1
-        (front ∙ ap (λ (c : ℕ). c ∷ tail) is) line (begun ∙ begun_on.1) rest
-        ((row_inside from.line begun_on.0 [] refl refl).goes tail)
-        (omega arith)
+    pub over_line : 1 ≤ length text → get_or text 0 0 ≡ 10 → to.line ≡ from.line + 1 → to.begun ≡ from.begun
+        → to.rest.now ≡ drop 1 text → GoesOver from to
+    over_line long first line begun rest =
+        goes from to (Some begun_on.0) (10 ∷ drop 1 text) (from.line + 1) (Some begun_on.0) (drop 1 text) begun_on.1
+        (one_front 10 text long first) line (begun ∙ begun_on.1) rest
+        ((row_inside from.line begun_on.0 [] refl refl).goes (drop 1 text)) (omega arith)
 
-    pub over_byte : (b == 42 && begins 47 tail) ≡ false → (b ≡ 10 → ⊥) → is_allowed b tail ≡ true → to.line ≡ from.line
-        → to.begun ≡ from.begun → to.rest.now ≡ tail → GoesOver from to
-    over_byte pair lf ok line begun rest =
-        goes from to (Some begun_on.0) (b ∷ tail) from.line (Some begun_on.0) tail begun_on.1 front line
-        (begun ∙ begun_on.1) rest (byte_inside from.line begun_on.0 b tail ok (ne_eqb b 10 lf) pair) (omega arith)
+    pub over_byte : 1 ≤ length text → (2 ≤ length text → get_or text 0 0 ≡ 42 → get_or text 1 0 ≡ 47 → ⊥)
+        → (get_or text 0 0 ≡ 10 → ⊥) → is_allowed (get_or text 0 0) (drop 1 text) ≡ true
+        → to.line ≡ from.line → to.begun ≡ from.begun → to.rest.now ≡ drop 1 text → GoesOver from to
+    over_byte long pair lf ok line begun rest =
+        let b = get_or text 0 0 in
+        goes from to (Some begun_on.0) (b ∷ drop 1 text) from.line (Some begun_on.0) (drop 1 text) begun_on.1
+        (one_front b text long refl) line (begun ∙ begun_on.1) rest
+        (byte_inside from.line begun_on.0 b (drop 1 text) ok (ne_eqb b 10 lf) (no_pair text pair)) (omega arith)
 
 -- ---- the front of what is read
 

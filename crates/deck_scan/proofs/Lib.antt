@@ -16,3 +16,4 @@ pub mod Ahead
 pub mod Rows
 pub mod Pieces
 pub mod FirstWord
+pub mod Searches

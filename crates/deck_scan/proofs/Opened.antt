@@ -17,6 +17,7 @@ use Rattle.deck_scan.specs.Scan.{InBadHex, InComment, AfterStar, put, put_word, 
 use Rattle.deck_scan.specs.Scan.{begin_word, begin, step_in, step, scan_from, start, is_x, lines_of}
 use Rattle.deck_scan.specs.Closes.{all_closes, begun, in_word, in_name, opened_in, opened, is_nothing, is_closing}
 use Rattle.deck_scan.specs.Closes.{HaveCloses}
+use Rattle.deck_scan.proofs.Said.{mark_is_no_word}
 use Rattle.deck_scan.proofs.Found.{by_test}
 use Rattle.deck_scan.proofs.Counted.{count, is_quiet, another, closing, text_closes, scan-append, few_closes}
 
@@ -134,10 +135,6 @@ nonempty_snoc : (w : List ℕ) (b : ℕ) → is_nonempty (w ++ b ∷ []) ≡ tru
 nonempty_snoc [] b = refl
 nonempty_snoc (c ∷ cs) b = refl
 
-word_39 : is_word 39 ≡ false
-unfolding is_word
-word_39 = refl
-
 module _ (s : Scan) (b : ℕ) where
   put_mode : (t : Token) → (put t s).mode ≡ InBlank
   unfolding put
@@ -204,7 +201,8 @@ module _ (s : Scan) (b : ℕ) where
   x_quote : s.part ≡ 88 ∷ [] → eqb b 39 ≡ true → IsOpen Hexed (step_in InWord s b)
   unfolding step_in
   x_quote part e =
-      let unlike : is_word b ≡ false = ap is_word (eqb-true b 39 e) ∙ word_39 in rw (unlike, e, part) (inl refl)
+      let unlike : is_word b ≡ false = ap is_word (eqb-true b 39 e) ∙ mark_is_no_word 39 refl in
+      rw (unlike, e, part) (inl refl)
 
   x_in : s.mode ≡ InWord → s.part ≡ 88 ∷ [] → IsOpen (opened_in X b) (step_in InWord s b)
   x_in mode part =

@@ -14,10 +14,11 @@ use Rattle.deck_scan.specs.declared.row.Row.{Row}
 use Rattle.deck_scan.specs.Bytes.{begins, is_word}
 use Rattle.deck_scan.specs.Pieces.{Piece, Plain, Quoted, Hexed, Sign, Blank, Comment, LoneSlash, StrayByte, OpenQuote}
 use Rattle.deck_scan.specs.Pieces.{OpenHexed, spelling, has_no_end, is_in_comment, is_between_quotes, is_mark}
-use Rattle.deck_scan.specs.Pieces.{is_nonempty, is_piece, may_follow, followed_by, hex_token, Place, over, apart, past}
-use Rattle.deck_scan.specs.Rows.{row_with, after_mark, is_single, starts, is_no_quote, is_doubled, closes_name, IsSplit}
-use Rattle.deck_scan.specs.Rows.{Unquotes, Takes, ClosesComment, place}
-use Rattle.deck_scan.proofs.Said.{not_true, test_not, word_10}
+use Rattle.deck_scan.specs.Pieces.{is_single, is_nonempty, is_piece, may_follow, followed_by, hex_token, Place, over}
+use Rattle.deck_scan.specs.Pieces.{apart, past}
+use Rattle.deck_scan.specs.Rows.{row_with, after_mark, starts, is_no_quote, is_doubled, closes_name, IsSplit, Unquotes}
+use Rattle.deck_scan.specs.Rows.{Takes, ClosesComment, place}
+use Rattle.deck_scan.proofs.Said.{not_true, test_not, lf_is_no_word}
 use Rattle.deck_scan.proofs.Found.{by_test}
 
 -- ---- a text cut before the first byte of another kind
@@ -282,7 +283,7 @@ takes_word text old word rest new s some x is = record {
   is = and_from (is_nonempty word) (list_all is_word word) (nonempty word some) s.every;
   parts = s.parts;
   follows = follows rest s.ends x;
-  ends = rw word_10 refl;
+  ends = rw lf_is_no_word refl;
   says = λ line. ap (place line) is;
   begun = ap (λ (r : Row). r.begun) is;
 }
@@ -355,9 +356,13 @@ takes_mark text old b tail new front is no_comment made =
     (follows tail (sym (ap (λ (x : Bool). x && begins 42 tail) slash) ∙ no_comment)) refl (λ line. refl) refl
     (made ∙ rw (not_32, not_40, not_41, not_44, not_61) refl))))))
   where
+    or_none : (x : Bool) → (x || false) ≡ x
+    or_none true = refl
+    or_none false = refl
+
     slash_left : eqb b 32 ≡ false → eqb b 40 ≡ false → eqb b 41 ≡ false → eqb b 44 ≡ false → eqb b 61 ≡ false
         → eqb b 47 ≡ true
-    slash_left h1 h2 h3 h4 h5 = sym (rw (h1, h2, h3, h4, h5) refl) ∙ is
+    slash_left h1 h2 h3 h4 h5 = sym (rw (h1, h2, h3, h4, h5) (or_none (eqb b 47))) ∙ is
 
     follows : (t : List ℕ) → begins 42 t ≡ false → followed_by LoneSlash t ≡ true
     follows [] h = refl
@@ -380,10 +385,6 @@ closes_later text b tail rest front other k = record {
         go true = refl
         go false = refl
     before (c ∷ cs) h = h
-
-pub open_later : (text : List ℕ) (b : ℕ) (tail : List ℕ) → text ≡ b ∷ tail → (b == 42 && begins 47 tail) ≡ false
-    → has_no_end tail ≡ true → has_no_end text ≡ true
-open_later text b tail front other h = rw (front, other) h
 
 pub over-printable : (c : List ℕ) (p : Place) → list_all is_printable c ≡ true → over c p ≡ p
 over-printable [] p h = refl

@@ -1,10 +1,9 @@
 -- A line that is read piece by piece, and then what comes behind it.
-use Rattle.std.proofs.Common.{◌≡◌, inl, inr, ℕ, ◌+◌, ◌-◌, ◌<◌, Bool, true, false, eqb, List, [], ◌∷◌, ◌++◌, length}
-use Rattle.std.proofs.Common.{take, drop, Option, Some, None, is_some, Result, Ok, Err, IfOk, Bor, refl, sym, ap, subst}
-use Rattle.std.proofs.Common.{◌∙◌, append_assoc, append-nil, length-append, arith}
-use Rattle.std.specs.Prelude.{◌&&◌, ◌==◌}
+use Rattle.std.proofs.Common.{◌≡◌, inl, inr, ℕ, ◌+◌, ◌-◌, ◌<◌, ◌≤◌, Bool, true, false, eqb, List, [], ◌∷◌, ◌++◌, length}
+use Rattle.std.proofs.Common.{get_or, take, drop, Option, Some, None, is_some, Result, Ok, Err, IfOk, Bor, refl, sym}
+use Rattle.std.proofs.Common.{ap, subst, ◌∙◌, append_assoc, append-nil, length-append, arith}
 use Rattle.std.specs.List.{list_all}
-use Rattle.std.proofs.lemmas.Bool.{eqb-true, and_parts}
+use Rattle.std.proofs.lemmas.Bool.{and_parts}
 use Rattle.std.proofs.lemmas.List.Folds.{list_all-append}
 use Rattle.grs_base.specs.Printed.{is_printable}
 use Rattle.deck_scan.specs.declared.token.Token.TheVariants.{Unclosed}
@@ -131,11 +130,12 @@ pub printable_rest : (text : List ℕ) (row : Row) (rest : List ℕ) (new : Row)
     → list_all is_printable text ≡ true → list_all is_printable rest ≡ true
 printable_rest text row rest new t ok = (all_parts is_printable text (spelling t.piece) rest t.parts ok).1
 
-pub pair_front : (n m : ℕ) (rest : List ℕ) (b : ℕ) (tail : List ℕ) → rest ≡ b ∷ tail → (b == n && begins m tail) ≡ true
-    → rest ≡ n ∷ m ∷ drop 1 tail
-pair_front n m rest b [] is h = let k = and_parts (eqb b n) false h in absurd (let z : false ≡ true = k.1 in cc)
-pair_front n m rest b (c ∷ cs) is h =
-    let k = and_parts (eqb b n) (eqb c m) h in is ∙ rw (eqb-true b n k.0, eqb-true c m k.1) refl
+-- a text that begins with these two bytes
+pub two_front : (n m : ℕ) (text : List ℕ) → 2 ≤ length text → get_or text 0 0 ≡ n → get_or text 1 0 ≡ m
+    → text ≡ n ∷ m ∷ drop 2 text
+two_front n m [] long first second = absurd (omega (arith, long))
+two_front n m (x ∷ []) long first second = absurd (omega (arith, long))
+two_front n m (x ∷ y ∷ ys) long first second = rw (first, second) refl
 
 -- ---- the end of a line on which nothing stands open
 
@@ -270,27 +270,28 @@ row_open line text row new c ok ok_c no_end is h = rw is (record { goes = goes; 
         ∙ open_ends c (commented (settle k.piece k.before)) line ok_c no_end
         ∙ ap (λ (p : Place). lines_with p.line p.tokens p.joined p.lines ++ to_come line (Some p.line) []) k.stands
 
-pub open_here : (line : ℕ) (text : List ℕ) (row : Row) (rest : List ℕ) (b : ℕ) (tail : List ℕ)
-    → list_all is_printable text ≡ true → list_all is_printable rest ≡ true → rest ≡ b ∷ tail
-    → (b == 47 && begins 42 tail) ≡ true
-    → has_no_end (take (length tail - 1) (drop 1 tail)) ≡ true → ((more : List ℕ) → Along line text row rest more)
-    → IsRow line None text (record row { near = false; begun = Some line })
-open_here line text row rest b tail ok ok_rest is pair no_end h =
-    let front = pair_front 47 42 rest b tail is pair in
-    row_open line text row (record row { near = false; begun = Some line }) (drop 1 tail) ok
-    (subst (λ (t : List ℕ). list_all is_printable t ≡ true) front ok_rest)
-    (subst (λ (t : List ℕ). has_no_end t ≡ true) (rest_is 1 tail) no_end) refl
-    (λ more. subst (λ (t : List ℕ). Along line text row t more) front (h more))
+module _ (row : Row) (rest : List ℕ) (printable : list_all is_printable rest ≡ true) (long : 2 ≤ length rest)
+    (slash : get_or rest 0 0 ≡ 47) (star : get_or rest 1 0 ≡ 42) where
+  front : rest ≡ 47 ∷ 42 ∷ drop 2 rest
+  front = two_front 47 42 rest long slash star
 
--- a comment that is closed on its line is one piece
-pub comment_here : (row : Row) (rest : List ℕ) (b : ℕ) (tail behind : List ℕ) → list_all is_printable rest ≡ true
-    → rest ≡ b ∷ tail → (b == 47 && begins 42 tail) ≡ true → ClosesComment (take (length tail - 1) (drop 1 tail)) behind
-    → Takes rest row behind (record row { near = false })
-comment_here row rest b tail behind ok is pair k =
-    let front = pair_front 47 42 rest b tail is pair in
-    takes_comment rest row behind (record row { near = false }) (drop 1 tail)
-    (subst (λ (t : List ℕ). list_all is_printable t ≡ true) front ok) front
-    (subst (λ (t : List ℕ). ClosesComment t behind) (rest_is 1 tail) k) refl
+  inner : list_all is_printable (drop 2 rest) ≡ true
+  inner = subst (λ (t : List ℕ). list_all is_printable t ≡ true) front printable
+
+  pub open_here : (line : ℕ) (text : List ℕ) → list_all is_printable text ≡ true
+      → has_no_end (take (length rest - 2) (drop 2 rest)) ≡ true → ((more : List ℕ) → Along line text row rest more)
+      → IsRow line None text (record row { near = false; begun = Some line })
+  open_here line text ok no_end h =
+      row_open line text row (record row { near = false; begun = Some line }) (drop 2 rest) ok inner
+      (subst (λ (t : List ℕ). has_no_end t ≡ true) (rest_is 2 rest) no_end) refl
+      (λ more. subst (λ (t : List ℕ). Along line text row t more) front (h more))
+
+  -- a comment that is closed on its line is one piece
+  pub comment_here : (behind : List ℕ) → ClosesComment (take (length rest - 2) (drop 2 rest)) behind
+      → Takes rest row behind (record row { near = false })
+  comment_here behind k =
+      takes_comment rest row behind (record row { near = false }) (drop 2 rest) inner front
+      (subst (λ (t : List ℕ). ClosesComment t behind) (rest_is 2 rest) k) refl
 
 -- ---- a line that begins in a comment
 

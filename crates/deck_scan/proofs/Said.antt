@@ -15,9 +15,9 @@ use Rattle.deck_scan.specs.Scan.{InBadHex, InComment, AfterStar, put, put_word, 
 use Rattle.deck_scan.specs.Scan.{begin_word, begin, step_in, step, scan_from, finish_in, is_x}
 use Rattle.deck_scan.specs.Pieces.{Piece, Plain, Quoted, Hexed, Sign, Blank, Comment, LineEnd, LoneSlash, StrayByte}
 use Rattle.deck_scan.specs.Pieces.{OpenQuote, OpenHexed, OpenComment, spelling, spelled, has_no_end, is_in_comment}
-use Rattle.deck_scan.specs.Pieces.{is_between_quotes, is_sign, is_mark, is_piece, may_follow, followed_by, are_pieces}
-use Rattle.deck_scan.specs.Pieces.{is_hexed, unhex, hex_token, Place, next_line, apart, with_token, over, past}
-use Rattle.deck_scan.specs.Pieces.{past_all}
+use Rattle.deck_scan.specs.Pieces.{is_between_quotes, is_sign, quote, singles, is_one_of, is_mark, is_piece, may_follow}
+use Rattle.deck_scan.specs.Pieces.{followed_by, are_pieces, is_hexed, unhex, hex_token, Place, next_line, apart}
+use Rattle.deck_scan.specs.Pieces.{with_token, over, past, past_all}
 
 -- ---- tests
 
@@ -33,41 +33,30 @@ test_not p b n h not_n =
     let z : false ≡ true = sym not_n ∙ k in
     cc)
 
-word_13 : is_word 13 ≡ false
-unfolding is_word
-word_13 = refl
+-- what is one of some bytes passes no test that none of them passes
+none_passes : (p : ℕ → Bool) (bytes : List ℕ) → list_all (λ n. not (p n)) bytes ≡ true → (b : ℕ)
+    → is_one_of bytes b ≡ true → p b ≡ false
+none_passes p [] none b is = absurd cc
+none_passes p (n ∷ ns) none b is =
+    let k = and_parts (not (p n)) (list_all (λ m. not (p m)) ns) none in
+    go (eqb b n) refl is (not_true (p n) k.0) (none_passes p ns k.1 b)
+  where
+    go : (x : Bool) → eqb b n ≡ x → (x || is_one_of ns b) ≡ true → p n ≡ false → (is_one_of ns b ≡ true → p b ≡ false)
+        → p b ≡ false
+    go true e here fails next = ap p (eqb-true b n e) ∙ fails
+    go false e later fails next = next later
 
-word_32 : is_word 32 ≡ false
+pub mark_is_no_word : (b : ℕ) → is_mark b ≡ true → is_word b ≡ false
 unfolding is_word
-word_32 = refl
+mark_is_no_word b is = none_passes is_word (quote ∷ singles) refl b is
 
-pub word_10 : is_word 10 ≡ false
+cr_is_no_word : is_word 13 ≡ false
 unfolding is_word
-word_10 = refl
+cr_is_no_word = refl
 
-word_39 : is_word 39 ≡ false
+pub lf_is_no_word : is_word 10 ≡ false
 unfolding is_word
-word_39 = refl
-
-word_47 : is_word 47 ≡ false
-unfolding is_word
-word_47 = refl
-
-word_40 : is_word 40 ≡ false
-unfolding is_word
-word_40 = refl
-
-word_41 : is_word 41 ≡ false
-unfolding is_word
-word_41 = refl
-
-word_44 : is_word 44 ≡ false
-unfolding is_word
-word_44 = refl
-
-word_61 : is_word 61 ≡ false
-unfolding is_word
-word_61 = refl
+lf_is_no_word = refl
 
 -- ---- scans and places
 
@@ -95,7 +84,7 @@ place-end_line s = refl
 step_word : (w : List ℕ) (b : ℕ) (r : Scan) → is_word b ≡ true
     → step (state InWord w r) b ≡ state InWord (w ++ b ∷ []) r
 unfolding step step_in
-step_word w b r h = rw (test_not is_word b 13 h word_13, h) refl
+step_word w b r h = rw (test_not is_word b 13 h cr_is_no_word, h) refl
 
 word_run : (w bs rest : List ℕ) (r : Scan) → list_all is_word bs ≡ true
     → scan_from (state InWord w r) (bs ++ rest) ≡ scan_from (state InWord (w ++ bs) r) rest
@@ -429,17 +418,20 @@ begins_word : (b : ℕ) (r : Scan) → is_word b ≡ true → begin (state InBla
 unfolding begin begin_word
 begins_word b r h =
     rw (
-      test_not is_word b 32 h word_32,
-      test_not is_word b 10 h word_10,
-      test_not is_word b 39 h word_39,
-      test_not is_word b 47 h word_47,
-      test_not is_word b 40 h word_40,
-      test_not is_word b 41 h word_41,
-      test_not is_word b 44 h word_44,
-      test_not is_word b 61 h word_61,
+      mark 32 refl,
+      test_not is_word b 10 h lf_is_no_word,
+      mark 39 refl,
+      mark 47 refl,
+      mark 40 refl,
+      mark 41 refl,
+      mark 44 refl,
+      mark 61 refl,
       h,
     )
     refl
+  where
+    mark : (n : ℕ) → is_mark n ≡ true → eqb b n ≡ false
+    mark n is = test_not is_word b n h (mark_is_no_word n is)
 
 begins_stray : (b : ℕ) (r : Scan) → is_printable b ≡ true → is_word b ≡ false → is_mark b ≡ false
     → begin (state InBlank [] r) b ≡ state InBlank [] (with Stray r)
@@ -501,7 +493,7 @@ word_next p (b ∷ bs) rest r h f =
     record {
       after = settle p r;
       same =
-          first p b (bs ++ rest) r (state InWord (b ∷ []) (settle p r)) (test_not is_word b 13 k.0 word_13) f
+          first p b (bs ++ rest) r (state InWord (b ∷ []) (settle p r)) (test_not is_word b 13 k.0 cr_is_no_word) f
           (begins_word b (settle p r) k.0)
           ∙ word_run (b ∷ []) bs rest (settle p r) k.1;
       place = refl;

@@ -1,7 +1,7 @@
 -- A text as pieces, each spelled in its own way, and the lines of tokens that the pieces say.
 use Rattle.std.specs.Prelude.{◌≡◌, ℕ, Bool, true, false, not, ◌||◌, ◌&&◌, ◌==◌, ◌+◌, ◌*◌, List, [], ◌∷◌, ◌++◌, length}
 use Rattle.std.specs.Prelude.{filter, None, if◌then◌else◌}
-use Rattle.std.specs.List.{list_all}
+use Rattle.std.specs.List.{list_all, list_any}
 use Rattle.std.specs.Str.{bytes_eq}
 use Rattle.grs_base.specs.Printed.{is_printable, quotes_doubled}
 use Rattle.deck_scan.specs.declared.token.Token.{Token}
@@ -71,9 +71,28 @@ is_sign Comma = true
 is_sign Equals = true
 is_sign _ = false
 
--- A blank, a quote, a sign or a slash.
+abbrev pub blank : ℕ
+blank = 32
+
+abbrev pub quote : ℕ
+quote = 39
+
+abbrev pub slash : ℕ
+slash = 47
+
+-- The bytes that stand by themselves: the blank, the signs and the slash.
+abbrev pub singles : List ℕ
+singles = blank ∷ sign Open ∷ sign Close ∷ sign Comma ∷ sign Equals ∷ slash ∷ []
+
+abbrev pub is_one_of : List ℕ → ℕ → Bool
+is_one_of bytes b = list_any (λ n. b == n) bytes
+
+abbrev pub is_single : ℕ → Bool
+is_single b = is_one_of singles b
+
+-- A quote, or a byte that stands by itself.
 abbrev pub is_mark : ℕ → Bool
-is_mark b = b == 32 || (b == 39 || (b == 40 || (b == 41 || (b == 44 || (b == 47 || b == 61)))))
+is_mark b = is_one_of (quote ∷ singles) b
 
 abbrev pub is_nonempty : List ℕ → Bool
 is_nonempty [] = false

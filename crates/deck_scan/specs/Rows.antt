@@ -82,10 +82,6 @@ place line r = record { line = line; tokens = r.tokens; near = r.near; joined = 
 abbrev pub row_with : Token → Row → Row
 row_with t r = record r { tokens = r.tokens ++ t ∷ []; joined = r.joined || r.near; near = false }
 
--- A blank, a sign or a slash.
-abbrev pub is_single : ℕ → Bool
-is_single b = b == 32 || (b == 40 || (b == 41 || (b == 44 || (b == 61 || b == 47))))
-
 -- A line behind a blank, a sign or a slash.
 unfoldable pub after_mark : ℕ → Row → Row
 after_mark b r =

@@ -1,12 +1,13 @@
 //! Kinds of bytes: of plain names, of hexadecimal digits, and those that a deck may have.
-ghost use Rattle.std.specs.Prelude.{◌≡◌, ℕ, Bool, ◌<◌, ◌≤◌, ◌+◌, ◌^◌, ◌==◌, ◌&&◌, not, length, position, IfSome, if◌then◌else◌};
+ghost use Rattle.std.specs.Prelude.{◌≡◌, ℕ, Bool, ◌<◌, ◌≤◌, ◌+◌, ◌^◌, ◌==◌, not, length, position, IfSome, if◌then◌else◌};
 ghost use Rattle.std.specs.List.{list_all};
 ghost use Rattle.grs_base.specs.Printed.{is_printable};
-ghost use Rattle.deck_scan.specs.Bytes.{begins, is_word, is_hex, digit, is_allowed, bad_line};
+ghost use Rattle.deck_scan.specs.Bytes.{is_word, is_hex, digit, is_allowed, bad_line};
 ghost use Rattle.deck_scan.specs.Pieces.{is_in_comment};
 ghost use Rattle.deck_scan.specs.Reading.{most_text_bytes};
 ghost use Rattle.deck_scan.specs.Rows.{is_no_quote, IsSplit};
 
+use bstr::ByteSlice;
 use grs_base::{is_plain_byte, is_printable};
 
 /// Whether a byte is one of a plain name.
@@ -48,23 +49,6 @@ pub fn is_allowed_byte(b: u8, rest: &[u8]) -> bool
     is_printable(b) || b == b'\n' || (b == b'\r' && before_lf)
 }
 
-/// Whether a text begins with this byte.
-pub fn begins(b: u8, text: &[u8]) -> bool
-    ensures { result ≡ begins b text.now }
-{
-    match text.split_first() {
-        Some((first, _)) => *first == b,
-        None => false,
-    }
-}
-
-/// Whether a text, of which this is the first byte and this what stands behind it, begins with these two.
-pub fn begins_pair(first: u8, second: u8, b: u8, behind: &[u8]) -> bool
-    ensures { result ≡ (b == first && begins second behind.now) }
-{
-    b == first && begins(second, behind)
-}
-
 /// A text cut at a place, or behind all of it.
 fn cut<'t>(text: &'t [u8], at: Option<usize>) -> (&'t [u8], &'t [u8])
     requires { IfSome at (λ i. i ≤ length text.now) }
@@ -94,7 +78,7 @@ fn quote_of(text: &[u8]) -> Option<usize>
     ensures at { result ≡ position (λ b. not (is_no_quote b)) text.now }
     ensures within { IfSome result (λ i. i ≤ length text.now) }
 {
-    text.iter().position(|b| *b == b'\'')
+    text.find_byte(b'\'')
 }
 
 /// A text cut before its first quote.

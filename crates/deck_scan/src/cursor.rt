@@ -11,7 +11,7 @@ ghost use Rattle.deck_scan.specs.Gives.{Gives};
 ghost use Rattle.deck_scan.specs.Reading.{lines_or_fault, Answers};
 ghost use Rattle.deck_scan.specs.Rows.{EndsLine, begins_end, starts, IsRow, IsLast, Passes, Next, to_come, first_word};
 
-use crate::bytes::{bad_line, begins, split_printable};
+use crate::bytes::{bad_line, split_printable};
 use crate::gaps::{next_token, word_at_front};
 use crate::miss::refused;
 use crate::row::{Row, read_row};
@@ -42,13 +42,10 @@ fn behind_end<'t>(text: &'t [u8]) -> Option<&'t [u8]>
     ensures ends { IfSome result (λ rest. EndsLine text.now rest.now) }
     ensures none { IfNone result (begins_end text.now ≡ false) }
 {
-    let (b, tail) = text.split_first()?;
-    if *b == b'\n' {
-        Some(tail)
-    } else if *b == b'\r' && begins(b'\n', tail) {
-        Some(&tail[1..])
-    } else {
-        None
+    match text {
+        [b'\n', rest @ ..] => Some(rest),
+        [b'\r', b'\n', rest @ ..] => Some(rest),
+        _ => None,
     }
 }
 

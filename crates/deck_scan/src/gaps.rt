@@ -1,81 +1,70 @@
 //! Looks ahead: goes over blanks, comments and ends of lines up to the next token, byte by byte, and says with which
 //! word that begins. It looks at nothing behind that word.
-ghost use Rattle.std.specs.Prelude.{◌≡◌, ◌==◌, ◌&&◌, ◌||◌, ◌<◌, ◌+◌, ◌^◌, ◌∷◌, true, false, is_some, IfOk, IfSome, IfNone};
-ghost use Rattle.deck_scan.specs.Bytes.{begins};
+ghost use Rattle.std.specs.Prelude.{◌≡◌, ◌<◌, ◌+◌, ◌^◌, true, false, is_some, IfOk, IfSome, IfNone};
 ghost use Rattle.deck_scan.specs.Rows.{coming, first_word, is_at_token, GoesOver};
 
-use crate::bytes::{begins_pair, is_allowed_byte, split_word};
+use crate::bytes::{is_allowed_byte, split_word};
 use crate::cursor::{Cursor, LAST_LINE};
 use crate::row::begins_hexed;
 use crate::token::Part;
 use grs_base::NoMemory;
 
 /// Goes over a byte or two of a comment that stands open.
-fn pass_inside<'t>(from: Cursor<'t>, b: u8, tail: &'t [u8]) -> Option<Cursor<'t>>
-    requires front { from.rest.now ≡ b ∷ tail.now }
+fn pass_inside<'t>(from: Cursor<'t>) -> Option<Cursor<'t>>
     requires inside { is_some from.begun ≡ true }
     requires number { from.line + 1 < 2 ^ 32 }
     ensures over { IfSome result (λ to. GoesOver from.entry to) }
     ensures stops { IfNone result (is_at_token from.entry.begun from.entry.rest.now ≡ true) }
 {
-    if begins_pair(b'*', b'/', b, tail) {
-        Some(Cursor {
-            rest: &tail[1..],
+    match from.rest {
+        [b'*', b'/', rest @ ..] => Some(Cursor {
+            rest,
             line: from.line,
             begun: None,
-        })
-    } else if b == b'\n' {
-        Some(Cursor {
-            rest: tail,
+        }),
+        [b'\n', rest @ ..] => Some(Cursor {
+            rest,
             line: from.line + 1,
             begun: from.begun,
-        })
-    } else if is_allowed_byte(b, tail) {
-        Some(Cursor {
-            rest: tail,
+        }),
+        [b, rest @ ..] if is_allowed_byte(*b, rest) => Some(Cursor {
+            rest,
             line: from.line,
             begun: from.begun,
-        })
-    } else {
-        None
+        }),
+        _ => None,
     }
 }
 
-/// Whether a byte is a blank, or a CR that an LF follows.
-fn is_blank(b: u8, tail: &[u8]) -> bool
-    ensures { result ≡ (b == 32 || (b == 13 && begins 10 tail.now)) }
-{
-    b == b' ' || begins_pair(b'\r', b'\n', b, tail)
-}
-
 /// Goes over a blank, the end of a line or the begin of a comment, where none stands open.
-fn pass_apart<'t>(from: Cursor<'t>, b: u8, tail: &'t [u8]) -> Option<Cursor<'t>>
-    requires front { from.rest.now ≡ b ∷ tail.now }
+fn pass_apart<'t>(from: Cursor<'t>) -> Option<Cursor<'t>>
     requires apart { is_some from.begun ≡ false }
     requires number { from.line + 1 < 2 ^ 32 }
     ensures over { IfSome result (λ to. GoesOver from.entry to) }
     ensures stops { IfNone result (is_at_token from.entry.begun from.entry.rest.now ≡ true) }
 {
-    if begins_pair(b'/', b'*', b, tail) {
-        Some(Cursor {
-            rest: &tail[1..],
+    match from.rest {
+        [b'/', b'*', rest @ ..] => Some(Cursor {
+            rest,
             line: from.line,
             begun: Some(from.line),
-        })
-    } else if b == b'\n' {
-        Some(Cursor {
-            rest: tail,
+        }),
+        [b'\n', rest @ ..] => Some(Cursor {
+            rest,
             line: from.line + 1,
             begun: None,
-        })
-    } else if is_blank(b, tail) {
-        Some(Cursor {
-            rest: tail,
+        }),
+        [b'\r', b'\n', rest @ ..] => Some(Cursor {
+            rest,
+            line: from.line + 1,
+            begun: None,
+        }),
+        [b' ', rest @ ..] => Some(Cursor {
+            rest,
             line: from.line,
             begun: None,
-        })
-    } else {
-        None
+        }),
+        _ => None,
     }
 }
 
@@ -85,13 +74,10 @@ fn pass<'t>(from: Cursor<'t>) -> Option<Cursor<'t>>
     ensures over { IfSome result (λ to. GoesOver from.entry to) }
     ensures stops { IfNone result (is_at_token from.entry.begun from.entry.rest.now ≡ true) }
 {
-    let Some((b, tail)) = from.rest.split_first() else {
-        return None;
-    };
     if from.begun.is_some() {
-        pass_inside(from, *b, tail)
+        pass_inside(from)
     } else {
-        pass_apart(from, *b, tail)
+        pass_apart(from)
     }
 }
 

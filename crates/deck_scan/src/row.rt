@@ -5,11 +5,12 @@ ghost use Rattle.std.specs.List.{list_all};
 ghost use Rattle.std.specs.Str.{bytes_eq};
 ghost use Rattle.grs_base.specs.Printed.{is_printable};
 ghost use Rattle.deck_scan.specs.Bytes.{begins};
-ghost use Rattle.deck_scan.specs.Pieces.{is_mark, has_no_end, hex_token};
-ghost use Rattle.deck_scan.specs.Rows.{row_with, after_mark, is_single, no_row, is_doubled, Unquotes, Takes, IsRow, ClosesComment};
+ghost use Rattle.deck_scan.specs.Pieces.{is_mark, is_single, has_no_end, hex_token};
+ghost use Rattle.deck_scan.specs.Rows.{row_with, after_mark, no_row, is_doubled, Unquotes, Takes, IsRow, ClosesComment};
 
-use crate::bytes::{begins, begins_pair, digit_of, is_hex_byte, split_at_quote, split_word};
+use crate::bytes::{digit_of, is_hex_byte, split_at_quote, split_word};
 use crate::token::{Part, Token};
+use bstr::ByteSlice;
 use grs_base::{List, NoMemory};
 use std::alloc::Global;
 
@@ -59,16 +60,13 @@ fn is_single(b: u8) -> bool
 pub(crate) fn begins_hexed(word: &[u8], behind: &[u8]) -> bool
     ensures { result ≡ (bytes_eq word.now (88 ∷ []) && begins 39 behind.now) }
 {
-    word == b"X".as_slice() && begins(b'\'', behind)
+    word == b"X".as_slice() && matches!(behind, [b'\'', ..])
 }
 
 fn is_doubled(quote: &[u8]) -> bool
     ensures { result ≡ is_doubled quote.now }
 {
-    match quote.split_first() {
-        Some((_, behind)) => begins(b'\'', behind),
-        None => false,
-    }
+    matches!(quote, [_, b'\'', ..])
 }
 
 /// A quoted name, behind its first quote, and what stands from the quote on that closes it; nothing where none does.
@@ -107,14 +105,10 @@ fn behind_comment<'t>(text: &'t [u8]) -> Option<&'t [u8]>
     ensures closed { IfSome result (λ rest. ClosesComment text.now rest.now) }
     ensures begun { IfNone result (has_no_end text.now ≡ true) }
 {
-    let mut rest = text;
-    while let Some((b, tail)) = rest.split_first() {
-        if begins_pair(b'*', b'/', *b, tail) {
-            return Some(&tail[1..]);
-        }
-        rest = tail;
+    match text.split_once_str(b"*/") {
+        Some((_, behind)) => Some(behind),
+        None => None,
     }
-    None
 }
 
 impl<'t> Row<'t> {
@@ -274,9 +268,9 @@ fn read_apart<'t>(alloc: Global, at: u32, text: &'t [u8]) -> Result<Row<'t>, NoM
     let mut row = Row::with_room(alloc)?;
     let mut rest = text;
     while let Some((b, tail)) = rest.split_first() {
-        if begins_pair(b'/', b'*', *b, tail) {
+        if let [b'/', b'*', inside @ ..] = rest {
             row.near = false;
-            match behind_comment(&tail[1..]) {
+            match behind_comment(inside) {
                 Some(behind) => rest = behind,
                 None => {
                     row.begun = Some(at);

@@ -14,7 +14,7 @@ use Rattle.deck_scan.specs.Scan.{finish_in, start, lines_of}
 use Rattle.deck_scan.specs.Closes.{weight, closes, all_closes}
 use Rattle.deck_scan.proofs.Said.{at_end}
 use Rattle.deck_scan.proofs.Counted.{closes-append, count, count-put, count-put_word, text_closes, scan-append}
-use Rattle.deck_scan.proofs.Counted.{begin_close, word_not, hex_not}
+use Rattle.deck_scan.proofs.Counted.{begin_close, close_is_no_word, close_is_no_hex}
 use Rattle.rnl_syntax.specs.declared.operands.Operands.{Operands}
 use Rattle.rnl_syntax.specs.declared.operands.Rnldef.{Rnldef}
 use Rattle.rnl_syntax.specs.Lines.{goes_on, with_line, first_from}
@@ -45,15 +45,17 @@ unfolding step_in finish_in put end_line
 in_close InBlank s e h = begin_close s
 in_close AfterSlash s e h = let k = begin_close (put Stray s) in let j = count-put Stray s in omega (arith, k, j)
 in_close InWord s e h =
-    rw word_not (let k = begin_close (put_word s) in let j = count-put_word s in omega (arith, k, j))
+    rw close_is_no_word (let k = begin_close (put_word s) in let j = count-put_word s in omega (arith, k, j))
 in_close InQuote s e h =
     absurd (let z : true ≡ false = sym h ∙ rw e (stray_last Stray (record s { part = s.part ++ 41 ∷ [] }) refl) in cc)
 in_close AfterQuote s e h =
     let k = begin_close (put (Name s.part) s) in let j = count-put (Name s.part) s in omega (arith, k, j)
 in_close InHex s e h =
-    absurd (let z : true ≡ false = sym h ∙ rw hex_not (stray_last Stray (record s { mode = InBadHex }) refl) in cc)
+    absurd (let z : true ≡ false = sym h ∙ rw close_is_no_hex (stray_last Stray (record s { mode = InBadHex }) refl) in
+    cc)
 in_close InHexLow s e h =
-    absurd (let z : true ≡ false = sym h ∙ rw hex_not (stray_last Stray (record s { mode = InBadHex }) refl) in cc)
+    absurd (let z : true ≡ false = sym h ∙ rw close_is_no_hex (stray_last Stray (record s { mode = InBadHex }) refl) in
+    cc)
 in_close InBadHex s e h = absurd (let z : true ≡ false = sym h ∙ rw e (stray_last Stray s refl) in cc)
 in_close InComment s e h =
     absurd (let z : true ≡ false = sym h ∙ rw e (stray_last Unclosed (record (end_line s) { line = s.begun }) refl) in

@@ -7,7 +7,7 @@ use Rattle.std.proofs.Math.Seq.{take-append_seam}
 use Rattle.std.proofs.lemmas.List.{append-nil}
 use Rattle.rnl_syntax.proofs.Closed.{ends_closed-snoc, line_closes}
 use Rattle.deck_scan.specs.Closes.{all_closes}
-use Rattle.deck_scan.proofs.Counted.{word_not}
+use Rattle.deck_scan.proofs.Counted.{close_is_no_word}
 use Rattle.rnl_syntax.proofs.Exact.{some, rnldef_closes}
 use Rattle.rnl_syntax.proofs.Used.{no_shorter}
 use Rattle.std.proofs.lemmas.List.Folds.{list_all-append}
@@ -211,8 +211,8 @@ close_on ps h = piece_on (Sign Close) ps refl (close_followed (spelled ps)) h
 name_on : (n : List ℕ) (ps : List Piece) → is_nonempty n ≡ true → are_bytes n ≡ true → are_pieces ps ≡ true
     → are_pieces (name_piece n ∷ Sign Close ∷ ps) ≡ true
 name_on n ps some bytes h =
-    piece_on (name_piece n) (Sign Close ∷ ps) (piece-is n some bytes) (name_followed n (spelled ps) 41 word_not refl)
-    (close_on ps h)
+    piece_on (name_piece n) (Sign Close ∷ ps) (piece-is n some bytes)
+    (name_followed n (spelled ps) 41 close_is_no_word refl) (close_on ps h)
 
 rname_are : (r : Option (List ℕ)) (rest : List Piece) → IsMaybeRname r → are_pieces rest ≡ true
     → are_pieces (rname_pieces r rest) ≡ true

@@ -1,15 +1,12 @@
-use Rattle.std.proofs.Common.{sym, ◌∙◌}
-use Rattle.deck_scan.proofs.Pieces.{closes_later, open_later}
+use Rattle.std.proofs.Common.{sym, subst, ℕ, List}
+use Rattle.deck_scan.specs.Rows.{ClosesComment}
+use Rattle.deck_scan.proofs.Searches.{cut_closes, uncut_stays}
 use Rattle.deck_scan.proofs.row.behind_comment.Goals as goal
 
-pub loop-b-preserved : goal.loop-b-preserved
-loop-b-preserved c =
-    let other = sym c.begins_pair.ensures ∙ c.if-begins_pair.false in
-    record {
-      closes = λ r k.
-          c.loop-b.invariant.closes r
-          (closes_later c.loop-b.rest.now c.in-Some.b.now c.in-Some.tail.now r c.in-Some.ensures.cases.0 other k);
-      stays = λ h.
-          c.loop-b.invariant.stays
-          (open_later c.loop-b.rest.now c.in-Some.b.now c.in-Some.tail.now c.in-Some.ensures.cases.0 other h);
-    }
+pub returns-in-Some-clause-closed : goal.returns-in-Some-clause-closed
+returns-in-Some-clause-closed c =
+    let k = c.in-Some.ensures in
+    subst (λ (t : List ℕ). ClosesComment c.args.text.now t) (sym k.3) (cut_closes c.args.text.now k.0 k.1)
+
+pub returns-in-None-clause-begun : goal.returns-in-None-clause-begun
+returns-in-None-clause-begun c = uncut_stays c.args.text.now c.in-None.ensures

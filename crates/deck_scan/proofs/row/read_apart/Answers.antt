@@ -1,4 +1,4 @@
-use Rattle.std.proofs.Common.{ap, sym, ◌∙◌, rules}
+use Rattle.std.proofs.Common.{ap, ◌∙◌, rules, arith}
 use Rattle.deck_scan.specs.declared.row.Row.{Row}
 use Rattle.deck_scan.proofs.Rows.{along_none, along_piece, takes_less, printable_rest, row_done, open_here}
 use Rattle.deck_scan.proofs.Rows.{comment_here}
@@ -13,18 +13,15 @@ loop-b-init c = record {
 
 pub returns-in-None : goal.returns-in-None
 returns-in-None c =
-    open_here c.args.at c.args.text.now c.loop-b.row c.loop-b.rest.now c.in-Some.b.now c.in-Some.tail.now c.requires
-    c.loop-b.invariant.printable c.in-Some.ensures.cases.0 (sym c.begins_pair.ensures ∙ c.if-begins_pair.true)
-    c.in-None.ensures.begun
-    c.loop-b.invariant.along
+    open_here c.loop-b.row c.loop-b.rest.now c.loop-b.invariant.printable c.in-47.len_at_least (search rules)
+    (search rules) c.args.at c.args.text.now c.requires c.in-None.ensures.begun c.loop-b.invariant.along
 
-pub loop-b-preserved-in-Some-behind_comment : goal.loop-b-preserved-in-Some-behind_comment
-loop-b-preserved-in-Some-behind_comment c =
+pub loop-b-preserved-in-42-1 : goal.loop-b-preserved-in-42-1
+loop-b-preserved-in-42-1 c =
     let rest = c.loop-b.rest.now in
     let k =
-    comment_here c.loop-b.row rest c.in-Some.b.now c.in-Some.tail.now c.in-Some-behind_comment.behind.now
-    c.loop-b.invariant.printable c.in-Some.ensures.cases.0 (sym c.begins_pair.ensures ∙ c.if-begins_pair.true)
-    c.in-Some-behind_comment.ensures.closed in
+    comment_here c.loop-b.row rest c.loop-b.invariant.printable (search (rules, arith)) (search rules) (search rules)
+    c.in-Some-behind_comment.behind.now c.in-Some-behind_comment.ensures.closed in
     record {
       along = λ more.
           along_piece c.args.at c.args.text.now c.loop-b.row rest c.in-Some-behind_comment.behind.now _ more k
@@ -32,13 +29,6 @@ loop-b-preserved-in-Some-behind_comment c =
       printable = printable_rest rest c.loop-b.row c.in-Some-behind_comment.behind.now _ k c.loop-b.invariant.printable;
       apart = c.loop-b.invariant.apart;
     }
-
-pub loop-b-smaller-in-Some-behind_comment : goal.loop-b-smaller-in-Some-behind_comment
-loop-b-smaller-in-Some-behind_comment c =
-    takes_less c.loop-b.rest.now c.loop-b.row c.in-Some-behind_comment.behind.now _
-    (comment_here c.loop-b.row c.loop-b.rest.now c.in-Some.b.now c.in-Some.tail.now c.in-Some-behind_comment.behind.now
-    c.loop-b.invariant.printable c.in-Some.ensures.cases.0 (sym c.begins_pair.ensures ∙ c.if-begins_pair.true)
-    c.in-Some-behind_comment.ensures.closed)
 
 pub loop-b-preserved : goal.loop-b-preserved
 loop-b-preserved c = record {
