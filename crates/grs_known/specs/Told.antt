@@ -10,7 +10,7 @@ use Rattle.grs_base.specs.declared.resource.Ret.{Ret}
 use Rattle.grs_base.specs.declared.resource.Ret.TheVariants.{RetEcb}
 use Rattle.grs_base.specs.declared.resource.TaskId.{TaskId}
 use Rattle.grs_base.specs.declared.decision.Code.{Code}
-use Rattle.grs_base.specs.declared.decision.Code.TheVariants.{C00, C04, C08, C14, C18, Wait, End}
+use Rattle.grs_base.specs.declared.decision.Code.TheVariants.{C00, C04, C08, Wait}
 use Rattle.grs_legal.specs.declared.meaning.Meaning.{Meaning}
 use Rattle.grs_legal.specs.declared.meaning.Meaning.TheVariants as lines
 use Rattle.grs_wire.specs.declared.history.HistEntry.{HistEntry}
@@ -39,12 +39,7 @@ entry_of_line ls entries k =
 -- a reply as it is told: one that waited is told 00, when control is told
 abbrev pub told_as : Code → Code
 told_as Wait = C00
-told_as C00 = C00
-told_as C04 = C04
-told_as C08 = C08
-told_as C14 = C14
-told_as C18 = C18
-told_as (End n) = End n
+told_as code = code
 
 -- whether an ENQ gets control when it is told this code: TEST gets none
 abbrev pub gets_control : Ret → Code → Bool

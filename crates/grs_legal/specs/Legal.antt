@@ -1,10 +1,11 @@
 -- Which histories are legal.
 use Rattle.std.specs.Prelude.{◌≡◌, ◌≢◌, ◌==◌, ℕ, zero, suc, Bool, true, false, not, ◌&&◌, ◌||◌, nat_lt, ◌-◌, List, []}
 use Rattle.std.specs.Prelude.{◌∷◌, ◌++◌, length, filter, cond, Option, Some, None, slice_get, is_some, IfSome}
+use Rattle.std.specs.Prelude.{IsSomeAnd}
 use Rattle.std.specs.List.{list_all, list_any}
+use Rattle.std.specs.Option.{option_or, option_map}
 use Rattle.grs_base.specs.Lists.{owns, has_task}
 use Rattle.grs_base.specs.State.{State, list_of, queued_by}
-use Rattle.grs_base.specs.declared.resource.Res.{Res}
 use Rattle.grs_base.specs.declared.resource.TaskId.{TaskId}
 use Rattle.grs_base.specs.declared.decision.Code.{Code}
 use Rattle.grs_base.specs.declared.decision.Code.TheVariants as codes
@@ -57,23 +58,13 @@ end_among (h ∷ hs) = end_or (code_of h) (end_among hs)
 abbrev pub end_code : TaskId → List HistEntry → Option ℕ
 end_code t hist = end_among (line_entries t hist)
 
--- the release of the first resource on which the task has an element, if any
-abbrev pub release_next : Option Res → Option Ask
-release_next None = None
-release_next (Some r) = Some (AsksRelease r)
-
--- the first that is there
-abbrev pub or_else : Option Ask → Option Ask → Option Ask
-or_else None other = other
-or_else (Some a) other = Some a
-
 -- what a task with these lines asks after a history: what its next asking line asks; after an end, or
 -- behind the last line, the release of what it has, in the order in which that was queued
 abbrev pub next_ask : ℕ → TaskId → List Meaning → List HistEntry → Option Ask
 next_ask limit t ls hist =
-    or_else
+    option_or
     (cond (is_some (end_code t hist)) None (slice_get (asks_of ls) (length (line_entries t hist))))
-    (release_next (slice_get (queued_by (replay limit hist) t) 0))
+    (option_map AsksRelease (slice_get (queued_by (replay limit hist) t) 0))
 
 -- the lines that ask nothing behind the lines that asked this much, up to the next line that asks
 abbrev pub passed_behind : ℕ → List Meaning → List Meaning
@@ -109,7 +100,7 @@ owns_asked s t (Remove by target) = false
 abbrev pub HasControl : State → TaskId → HistEntry → Type 0
 HasControl s t h = code_of h ≡ codes.Wait → owns_asked s t h ≡ true
 
--- An entry of task t may stand behind a history.
+-- An entry of task t, whose lines mean this, may stand behind a history.
 pub record IsLegal (limit : ℕ) (t : TaskId) (ls : List Meaning) (hist : List HistEntry) (h : HistEntry) : Type 0 where
   -- its reply is the one that the lists give
   pub reply : answer_of h ≡ reply_of limit (replay limit hist) h
@@ -122,14 +113,9 @@ pub record IsLegal (limit : ℕ) (t : TaskId) (ls : List Meaning) (hist : List H
   -- each WAIT line that its task passed on the way let it pass
   pub passed : list_all (lets_pass (replay limit hist) t) (passed_lines t ls hist) ≡ true
 
--- an entry of a task with these lines may stand behind a history; a task that the deck lacks has none
-abbrev pub IsLegalOf : ℕ → TaskId → Option (List Meaning) → List HistEntry → HistEntry → Type 0
-IsLegalOf limit t None hist h = ⊥
-IsLegalOf limit t (Some ls) hist h = IsLegal limit t ls hist h
-
--- an entry of a task of the deck may stand behind a history
+-- The same by the deck: the task is one of the deck, with its lines there.
 abbrev pub MayAsk : Deck → TaskId → List HistEntry → HistEntry → Type 0
-MayAsk deck t hist h = IsLegalOf deck.limit t (lines_of deck t) hist h
+MayAsk deck t hist h = IsSomeAnd (lines_of deck t) (λ ls. IsLegal deck.limit t ls hist h)
 
 -- whether a command is to remove this system
 abbrev pub is_removal_of : SysId → Order → Bool

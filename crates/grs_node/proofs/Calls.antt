@@ -227,60 +227,35 @@ need-other deck n p choices.Rest = refl
 abbrev OfDesk : Reply → Type 0
 OfDesk reply = (act : Act) → is_commanded act ≡ false → is_listed act reply ≡ false
 
+-- there are five
+of-desk : (act : Act) → is_commanded act ≡ false
+    → (is_listed act replies.Switched ≡ false) × (is_listed act replies.Already ≡ false)
+    × (is_listed act replies.Purged ≡ false)
+    × (is_listed act replies.NoSuch ≡ false) × (is_listed act replies.InStar ≡ false)
+of-desk (acts.Turn out) h = (refl, refl, refl, refl, refl)
+of-desk (acts.Switch words) h = absurd cc
+of-desk (acts.Submit e q) h = (refl, refl, refl, refl, refl)
+of-desk acts.Take h = (refl, refl, refl, refl, refl)
+of-desk (acts.Settle to mail) h = (refl, refl, refl, refl, refl)
+of-desk (acts.Tell to mail) h = (refl, refl, refl, refl, refl)
+of-desk (acts.Leave e) h = (refl, refl, refl, refl, refl)
+of-desk (acts.Purge target) h = absurd cc
+of-desk acts.Rest h = (refl, refl, refl, refl, refl)
+
 of-switched : OfDesk replies.Switched
-of-switched (acts.Turn out) h = refl
-of-switched (acts.Switch words) h = cc
-of-switched (acts.Submit e q) h = refl
-of-switched acts.Take h = refl
-of-switched (acts.Settle to mail) h = refl
-of-switched (acts.Tell to mail) h = refl
-of-switched (acts.Leave e) h = refl
-of-switched (acts.Purge target) h = cc
-of-switched acts.Rest h = refl
+of-switched act h = (of-desk act h).0
 
 of-already : OfDesk replies.Already
-of-already (acts.Turn out) h = refl
-of-already (acts.Switch words) h = cc
-of-already (acts.Submit e q) h = refl
-of-already acts.Take h = refl
-of-already (acts.Settle to mail) h = refl
-of-already (acts.Tell to mail) h = refl
-of-already (acts.Leave e) h = refl
-of-already (acts.Purge target) h = cc
-of-already acts.Rest h = refl
+of-already act h = (of-desk act h).1
 
 of-purged : OfDesk replies.Purged
-of-purged (acts.Turn out) h = refl
-of-purged (acts.Switch words) h = cc
-of-purged (acts.Submit e q) h = refl
-of-purged acts.Take h = refl
-of-purged (acts.Settle to mail) h = refl
-of-purged (acts.Tell to mail) h = refl
-of-purged (acts.Leave e) h = refl
-of-purged (acts.Purge target) h = cc
-of-purged acts.Rest h = refl
+of-purged act h = (of-desk act h).2
 
 of-no_such : OfDesk replies.NoSuch
-of-no_such (acts.Turn out) h = refl
-of-no_such (acts.Switch words) h = cc
-of-no_such (acts.Submit e q) h = refl
-of-no_such acts.Take h = refl
-of-no_such (acts.Settle to mail) h = refl
-of-no_such (acts.Tell to mail) h = refl
-of-no_such (acts.Leave e) h = refl
-of-no_such (acts.Purge target) h = cc
-of-no_such acts.Rest h = refl
+of-no_such act h = (of-desk act h).3
 
 of-in_star : OfDesk replies.InStar
-of-in_star (acts.Turn out) h = refl
-of-in_star (acts.Switch words) h = cc
-of-in_star (acts.Submit e q) h = refl
-of-in_star acts.Take h = refl
-of-in_star (acts.Settle to mail) h = refl
-of-in_star (acts.Tell to mail) h = refl
-of-in_star (acts.Leave e) h = refl
-of-in_star (acts.Purge target) h = cc
-of-in_star acts.Rest h = refl
+of-in_star act h = (of-desk act h).4
 
 -- such a reply comes only where the desk has a command that isn't done
 module _ (deck : Deck) (n : NodeState) (reply : Reply) (only : OfDesk reply) where

@@ -17,8 +17,8 @@ use contention_mgr::Manager;
 use grs_base::{Elem, List, NoMemory, Res, Row, SysId, TaskId};
 use grs_wire::{Deck, Req, Said, Want};
 use mode_migrate::{Roles, part_of, roles_of};
+use qel_store::LinkedQueues;
 use queue_table::Table;
-use serial_queue::PlainQueues;
 use std::alloc::Global;
 use std::collections::VecDeque;
 use task_state::{Asked, Tasks};
@@ -210,7 +210,7 @@ impl NodeState {
         let waiting = std::mem::replace(&mut self.outbox, List::new(alloc));
         take_first_looks(alloc, &mut self.tasks, waiting.as_slice())?;
         rank_all(&mut self.tasks, roles.ranked.as_slice());
-        self.shared = Table::new(alloc, PlainQueues::new(alloc));
+        self.shared = Table::new(alloc, LinkedQueues::new(alloc));
         self.star = Some(part);
         Ok(())
     }

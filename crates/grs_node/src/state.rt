@@ -20,10 +20,10 @@ use grs_base::{Code, Line, List, NoMemory, Res, SysId, TaskId};
 use grs_legal::Meaning;
 use grs_wire::{Choice, Deck, Fixed, Req, ToldLine, Verb, Want};
 use local_queue::Local;
+use qel_store::LinkedQueues;
 use queue_table::{Outcome, Table};
 use ring_mode::{is_for_all, res_of};
 use scope_resolve::Resolver;
-use serial_queue::PlainQueues;
 use std::alloc::Global;
 use std::marker::Model;
 use task_state::{Asked, Phase, Tasks, replied, tell_code, tell_new};
@@ -33,7 +33,7 @@ use task_state::{Asked, Phase, Tasks, replied, tell_code, tell_new};
 pub(crate) struct NodeState {
     pub(crate) tasks: Tasks,
     pub(crate) local: Local,
-    pub(crate) shared: Table<PlainQueues>,
+    pub(crate) shared: Table<LinkedQueues>,
     pub(crate) outbox: List<Req>,
     pub(crate) star: Option<StarPart>,
     pub(crate) known: u32,
@@ -117,7 +117,7 @@ impl NodeState {
         Ok(NodeState {
             tasks: Tasks::new(alloc, system, jobs)?,
             local: Local::new(alloc, system),
-            shared: Table::new(alloc, PlainQueues::new(alloc)),
+            shared: Table::new(alloc, LinkedQueues::new(alloc)),
             outbox: List::new(alloc),
             star,
             known: 0,
@@ -129,7 +129,7 @@ impl NodeState {
     pub(crate) fn give_up(&mut self, alloc: Global)
         ensures { self.new ≡ record self.old { shared = []; star = None } }
     {
-        self.shared = Table::new(alloc, PlainQueues::new(alloc));
+        self.shared = Table::new(alloc, LinkedQueues::new(alloc));
         self.star = None;
     }
 

@@ -11,7 +11,7 @@ ghost use Rattle.grs_node.specs.TurnCalls.{turn_of};
 ghost use Rattle.grs_node.specs.declared.prepared.Prepared.TheVariants.{Call as Calls};
 ghost use Rattle.grs_wire.specs.declared.deck.Choice.TheVariants.{Turn};
 ghost use Rattle.grs_world.specs.World.{chosen};
-ghost use Rattle.grs_world.specs.Done.{last_done, done_by, journalled};
+ghost use Rattle.grs_world.specs.Done.{last_done, done_by, journalled, finish_of, chosen_by, Ends};
 ghost use Rattle.grs_world.specs.Running.{AreOf, AreNumbered, nodes_of, node_at};
 
 use grs_base::{List, NoMemory, SysId};
@@ -34,7 +34,6 @@ fn take_done(node: &mut Node<'_>) -> Done
     ensures done { result ≡ last_done node.old.log }
     ensures node { node.new.node ≡ node.old.node }
     ensures deck { node.new.deck ≡ node.old.deck }
-    ensures number { node.new.node.tasks.system ≡ node.old.node.tasks.system }
 {
     match node.take_step() {
         Some(step) => Done {
@@ -49,8 +48,7 @@ fn take_done(node: &mut Node<'_>) -> Done
 #[tactic(auto, using(crate::proofs::code::Logged::logged_steps))]
 fn finished(node: &mut Node<'_>, choice: &Choice, reply: Option<Reply>) -> Result<Done, NoMemory>
     requires { MayFinish node.old choice.now (journalled reply) }
-    ensures node { OnOk result (node.new.node ≡ (steps.finish node.old.deck node.old.node choice.now reply).node) }
-    ensures done { IfOk result (λ done. done ≡ done_by node.old.node (steps.finish node.old.deck node.old.node choice.now reply)) }
+    ensures ends { IfOk result (Ends node.old (finish_of node.old choice.now reply) node.new) }
     ensures deck { node.new.deck ≡ node.old.deck }
     ensures number { node.new.node.tasks.system ≡ node.old.node.tasks.system }
 {
@@ -82,8 +80,7 @@ fn replied(
     reply: Reply,
 ) -> Result<Done, NoMemory>
     requires { MayFinish node.old choice.now (journalled (Some reply)) }
-    ensures node { OnOk result (node.new.node ≡ (steps.finish node.old.deck node.old.node choice.now (Some reply)).node) }
-    ensures done { IfOk result (λ done. done ≡ done_by node.old.node (steps.finish node.old.deck node.old.node choice.now (Some reply))) }
+    ensures ends { IfOk result (Ends node.old (finish_of node.old choice.now (Some reply)) node.new) }
     ensures deck { node.new.deck ≡ node.old.deck }
     ensures number { node.new.node.tasks.system ≡ node.old.node.tasks.system }
 {
@@ -110,8 +107,7 @@ fn called(
     requires prepared { steps.prepare node.old.deck node.old.node choice.now ≡ Calls call }
     requires addressed { is_act_addressed node.old.deck system.0 call.act ≡ true }
     ensures medium { OnOk result (medium.new.state ≡ medium_after medium.old.state system call) }
-    ensures node { OnOk result (node.new.node ≡ (steps.finish node.old.deck node.old.node choice.now (Some (reply_to medium.old.state system call))).node) }
-    ensures done { IfOk result (λ done. done ≡ done_by node.old.node (steps.finish node.old.deck node.old.node choice.now (Some (reply_to medium.old.state system call)))) }
+    ensures ends { IfOk result (Ends node.old (finish_of node.old choice.now (Some (reply_to medium.old.state system call))) node.new) }
     ensures deck { node.new.deck ≡ node.old.deck }
     ensures number { node.new.node.tasks.system ≡ node.old.node.tasks.system }
     ensures systems { systems_of medium.new.state ≡ systems_of medium.old.state }
@@ -133,9 +129,8 @@ fn refused_turn(
 ) -> Result<Done, NoMemory>
     requires prepared { steps.prepare node.old.deck node.old.node Turn ≡ Calls (turn_of node.old.node known) }
     requires refused { refused_with medium.now.state system known ≡ Some (refusal_reply refusal) }
-    ensures medium { OnOk result (medium.now.state ≡ (chosen node.old.deck medium.now.state system node.old.node Turn).medium) }
-    ensures node { OnOk result (node.new.node ≡ (chosen node.old.deck medium.now.state system node.old.node Turn).step.node) }
-    ensures done { IfOk result (λ done. done ≡ done_by node.old.node (chosen node.old.deck medium.now.state system node.old.node Turn).step) }
+    ensures medium { OnOk result (medium.now.state ≡ (chosen_by node.old medium.now.state system Turn).medium) }
+    ensures ends { IfOk result (Ends node.old (chosen_by node.old medium.now.state system Turn).step node.new) }
     ensures deck { node.new.deck ≡ node.old.deck }
     ensures number { node.new.node.tasks.system ≡ node.old.node.tasks.system }
 {
@@ -162,9 +157,8 @@ fn turned(
     requires few { systems_of medium.old.state ≤ most_systems }
     requires prepared { steps.prepare node.old.deck node.old.node Turn ≡ Calls (turn_of node.old.node known) }
     requires given { refused_with medium.old.state system known ≡ None }
-    ensures medium { OnOk result (medium.new.state ≡ (chosen node.old.deck medium.old.state system node.old.node Turn).medium) }
-    ensures node { OnOk result (node.new.node ≡ (chosen node.old.deck medium.old.state system node.old.node Turn).step.node) }
-    ensures done { IfOk result (λ done. done ≡ done_by node.old.node (chosen node.old.deck medium.old.state system node.old.node Turn).step) }
+    ensures medium { OnOk result (medium.new.state ≡ (chosen_by node.old medium.old.state system Turn).medium) }
+    ensures ends { IfOk result (Ends node.old (chosen_by node.old medium.old.state system Turn).step node.new) }
     ensures deck { node.new.deck ≡ node.old.deck }
     ensures number { node.new.node.tasks.system ≡ node.old.node.tasks.system }
     ensures systems { systems_of medium.new.state ≡ systems_of medium.old.state }
@@ -190,9 +184,8 @@ fn turn(
 ) -> Result<Done, NoMemory>
     requires caller { system.0 < systems_of medium.old.state }
     requires few { systems_of medium.old.state ≤ most_systems }
-    ensures medium { OnOk result (medium.new.state ≡ (chosen node.old.deck medium.old.state system node.old.node Turn).medium) }
-    ensures node { OnOk result (node.new.node ≡ (chosen node.old.deck medium.old.state system node.old.node Turn).step.node) }
-    ensures done { IfOk result (λ done. done ≡ done_by node.old.node (chosen node.old.deck medium.old.state system node.old.node Turn).step) }
+    ensures medium { OnOk result (medium.new.state ≡ (chosen_by node.old medium.old.state system Turn).medium) }
+    ensures ends { IfOk result (Ends node.old (chosen_by node.old medium.old.state system Turn).step node.new) }
     ensures deck { node.new.deck ≡ node.old.deck }
     ensures number { node.new.node.tasks.system ≡ node.old.node.tasks.system }
     ensures systems { systems_of medium.new.state ≡ systems_of medium.old.state }
@@ -221,9 +214,8 @@ fn choose(
     requires few { systems_of medium.old.state ≤ most_systems }
     requires words { length medium.old.state.words ≡ node.old.deck.entries }
     requires number { node.old.node.tasks.system ≡ system.0 }
-    ensures medium { OnOk result (medium.new.state ≡ (chosen node.old.deck medium.old.state system node.old.node choice.now).medium) }
-    ensures node { OnOk result (node.new.node ≡ (chosen node.old.deck medium.old.state system node.old.node choice.now).step.node) }
-    ensures done { IfOk result (λ done. done ≡ done_by node.old.node (chosen node.old.deck medium.old.state system node.old.node choice.now).step) }
+    ensures medium { OnOk result (medium.new.state ≡ (chosen_by node.old medium.old.state system choice.now).medium) }
+    ensures ends { IfOk result (Ends node.old (chosen_by node.old medium.old.state system choice.now).step node.new) }
     ensures deck { node.new.deck ≡ node.old.deck }
     ensures number { node.new.node.tasks.system ≡ node.old.node.tasks.system }
     ensures systems { systems_of medium.new.state ≡ systems_of medium.old.state }

@@ -7,7 +7,7 @@ use Rattle.grs_base.specs.declared.resource.Ret.{Ret}
 use Rattle.grs_base.specs.declared.resource.Ret.TheVariants.{RetNone, RetUse, RetHave, RetChng, RetEcb}
 use Rattle.grs_base.specs.declared.resource.TaskId.{TaskId}
 use Rattle.grs_base.specs.declared.decision.Code.{Code}
-use Rattle.grs_base.specs.declared.decision.Code.TheVariants.{C00, C04, C08, C14, C18, Wait, End}
+use Rattle.grs_base.specs.declared.decision.Code.TheVariants.{C00, C04, Wait, End}
 use Rattle.grs_wire.specs.declared.request.Want.{Want}
 use Rattle.grs_wire.specs.declared.request.Want.TheVariants.{Enq, Deq, Release, Look}
 use Rattle.grs_wire.specs.declared.request.Answer.{Answer}
@@ -27,7 +27,8 @@ abbrev pub is_granted : Code → Bool
 is_granted C00 = true
 is_granted _ = false
 
--- whether an ENQ that was answered like this stands in a list
+-- Whether an ENQ that was answered like this stands in a list: it got control, or it waits, by an answer that is held
+-- back or by an ECB. TEST and CHNG queue nothing.
 abbrev pub is_queued : Ret → Code → Bool
 is_queued RetNone C00 = true
 is_queued RetNone Wait = true
@@ -52,12 +53,7 @@ phase_after _ = phases.Ready
 -- telling the code of a task's last line; WAIT isn't told
 unfoldable pub tell_code : TasksView → TaskId → Verb → Code → TasksView
 tell_code v t verb Wait = v
-tell_code v t verb C00 = telling v (told.Coded t (state_of v t).line 0 verb C00)
-tell_code v t verb C04 = telling v (told.Coded t (state_of v t).line 0 verb C04)
-tell_code v t verb C08 = telling v (told.Coded t (state_of v t).line 0 verb C08)
-tell_code v t verb C14 = telling v (told.Coded t (state_of v t).line 0 verb C14)
-tell_code v t verb C18 = telling v (told.Coded t (state_of v t).line 0 verb C18)
-tell_code v t verb (End n) = telling v (told.Coded t (state_of v t).line 0 verb (End n))
+tell_code v t verb code = telling v (told.Coded t (state_of v t).line 0 verb code)
 
 -- the record of an ENQ or RESERVE of a task's last line, with the unit that it reserves
 abbrev pub new_record : TasksView → TaskId → Res → Ctl → Option ℕ → Code → Rec

@@ -1,14 +1,14 @@
 -- What a task asks next by its past may follow in the history.
 use Rattle.std.proofs.Common.{◌≡◌, suc, true, ◌||◌, List, [], ◌∷◌, map, length, Option, Some, None, refl, ap, sym, ◌∙◌}
 use Rattle.std.proofs.Common.{subst}
-use Rattle.std.specs.Prelude.{is_some, nat_le}
+use Rattle.std.specs.Prelude.{is_some, nat_le, IsSomeAnd}
 use Rattle.grs_base.specs.Lists.{has_task}
 use Rattle.grs_base.specs.State.{list_of, is_full, is_systems, enq_code}
 use Rattle.grs_base.specs.declared.resource.Res.{Res}
 use Rattle.grs_base.specs.declared.resource.SysId.{SysId}
 use Rattle.grs_base.specs.declared.resource.TaskId.{TaskId}
 use Rattle.grs_legal.specs.Asks.{Ask, AsksEnq, AsksDeq, AsksRelease, lines_of}
-use Rattle.grs_legal.specs.Legal.{ask_in, IsLegalOf, MayAsk}
+use Rattle.grs_legal.specs.Legal.{ask_in, IsLegal, MayAsk}
 use Rattle.grs_legal.specs.declared.meaning.Meaning.{Meaning}
 use Rattle.grs_wire.specs.History.{answer_of, reply_of}
 use Rattle.grs_wire.specs.Wants.{res_wanted}
@@ -54,7 +54,7 @@ module _ (deck : Deck) (P : List RunItem) (right : IsHistory deck P) (t : TaskId
   module _ (ls : List Meaning) (lines : lines_of deck t ≡ Some ls) (live : IsLive t P) where
     asks : (a : Ask) (h : HistEntry) → IsNext ls p a → ask_in h ≡ Some a → answer_of h ≡ reply_of deck.limit (lists P) h
         → MayAsk deck t (history P) h
-    asks a h next is reply = subst (λ o. IsLegalOf deck.limit t o (history P) h) (sym lines)
+    asks a h next is reply = subst (λ o. IsSomeAnd o (λ zs. IsLegal deck.limit t zs (history P) h)) (sym lines)
         (legal-speaks deck.limit t p (history P) speaks ls a h (removes-history [] P right.made t ∙ live) next
         (reply ∙ ap (λ s. reply_of deck.limit s h) (replayed deck P right)) is)
 

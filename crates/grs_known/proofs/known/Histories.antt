@@ -277,7 +277,7 @@ looks-keep : (s : State) (t : TaskId) (first count : ℕ) (f : Filter) (u : SysI
 looks-keep s t first zero f u = refl
 looks-keep s t first (suc count) f u = looks-keep s t (suc first) count f u
 
-ask-keeps : (s : State) (t : TaskId) (w : Want) (u : SysId) → list_any (removes u) (entries_for s t w) ≡ false
+pub ask-keeps : (s : State) (t : TaskId) (w : Want) (u : SysId) → list_any (removes u) (entries_for s t w) ≡ false
 ask-keeps s t (wants.Enq r c ret full) u = refl
 ask-keeps s t (wants.Deq r have) u = refl
 ask-keeps s t (wants.Release r) u = refl

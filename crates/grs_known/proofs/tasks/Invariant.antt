@@ -3,6 +3,7 @@ use Rattle.std.proofs.Common.{◌≡◌, ◌<◌, ◌≤◌, ◌-◌, ℕ, suc, 
 use Rattle.std.proofs.Common.{length, take, Option, Some, None}
 use Rattle.std.specs.Prelude.{slice_get, ◌⊎◌, IfSome, is_some, unwrap_or, nat_lt}
 use Rattle.std.specs.List.{list_any, list_all}
+use Rattle.std.specs.Option.{option_or, option_map}
 use Rattle.grs_base.specs.Same.{same_res, same_task}
 use Rattle.grs_base.specs.declared.resource.Res.{Res}
 use Rattle.grs_base.specs.declared.resource.Ctl.{Ctl}
@@ -16,8 +17,8 @@ use Rattle.grs_wire.specs.declared.history.HistEntry.TheVariants.{Enq, Deq, Rele
 use Rattle.grs_wire.specs.declared.told.ToldLine.{ToldLine}
 use Rattle.grs_wire.specs.declared.told.ToldLine.TheVariants.{Coded, Shown, Post, Ended, Desk}
 use Rattle.grs_wire.specs.History.{code_of}
-use Rattle.grs_legal.specs.Asks.{Ask, asks_of}
-use Rattle.grs_legal.specs.Legal.{end_among, passed_behind, or_else, release_next}
+use Rattle.grs_legal.specs.Asks.{Ask, AsksRelease, asks_of}
+use Rattle.grs_legal.specs.Legal.{end_among, passed_behind}
 use Rattle.grs_known.specs.Past.{has_own, Past}
 use Rattle.task_state.specs.declared.state.Rec.{Rec}
 use Rattle.task_state.specs.declared.state.Phase.{Phase}
@@ -160,8 +161,8 @@ IsFree p = IfSome p.last (λ h. code_of h ≡ Wait → owns_entry p.owns h ≡ t
 -- lines that ask nothing it passes before
 abbrev pub asks_next : List Meaning → Past → Option Ask
 asks_next ls p =
-    or_else (cond (is_some (end_among p.asked)) None (slice_get (asks_of ls) (length p.asked)))
-    (release_next (slice_get (map (λ k. k.0) p.own) 0))
+    option_or (cond (is_some (end_among p.asked)) None (slice_get (asks_of ls) (length p.asked)))
+    (option_map AsksRelease (slice_get (map (λ k. k.0) p.own) 0))
 
 abbrev pub passes_next : List Meaning → Past → List Meaning
 passes_next ls p = cond (is_some (end_among p.asked)) [] (passed_behind (length p.asked) ls)

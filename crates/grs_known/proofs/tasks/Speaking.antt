@@ -4,6 +4,7 @@ use Rattle.std.proofs.Common.{refl, ap, sym, ◌∙◌, subst, arith}
 use Rattle.std.specs.Prelude.{slice_get, is_some, IfSome}
 use Rattle.std.specs.List.{list_all, list_any}
 use Rattle.std.proofs.lemmas.Option.{IfSome_then}
+use Rattle.std.specs.Option.{option_or, option_map}
 use Rattle.grs_base.specs.Same.{same_res}
 use Rattle.grs_base.specs.Lists.{owns, has_task}
 use Rattle.grs_base.specs.State.{list_of, queued_by}
@@ -11,9 +12,9 @@ use Rattle.grs_base.specs.declared.resource.Res.{Res}
 use Rattle.grs_base.specs.declared.resource.TaskId.{TaskId}
 use Rattle.grs_base.specs.declared.decision.Code.TheVariants.{Wait}
 use Rattle.grs_base.proofs.SameLaws.{same_res-exact}
-use Rattle.grs_legal.specs.Asks.{Ask, asks_of}
-use Rattle.grs_legal.specs.Legal.{ask_in, IsLegal, entries_of, end_among, release_next, or_else, next_ask}
-use Rattle.grs_legal.specs.Legal.{passed_behind, passed_lines, lets_pass, last_entry, HasControl}
+use Rattle.grs_legal.specs.Asks.{Ask, AsksRelease, asks_of}
+use Rattle.grs_legal.specs.Legal.{ask_in, IsLegal, entries_of, end_among, next_ask, passed_behind, passed_lines}
+use Rattle.grs_legal.specs.Legal.{lets_pass, last_entry, HasControl}
 use Rattle.grs_legal.specs.declared.meaning.Meaning.{Meaning}
 use Rattle.grs_legal.specs.declared.meaning.Meaning.TheVariants as lines
 use Rattle.grs_wire.specs.History.{removes, code_of, answer_of, reply_of, replay}
@@ -27,8 +28,8 @@ use Rattle.grs_known.proofs.lists.Own.{queued_by-own, has_task-own}
 -- what a task asks next that has these entries of its lines, and elements on these resources
 next_of : List Meaning → List HistEntry → List Res → Option Ask
 next_of ls asked queued =
-    or_else (cond (is_some (end_among asked)) None (slice_get (asks_of ls) (length asked)))
-    (release_next (slice_get queued 0))
+    option_or (cond (is_some (end_among asked)) None (slice_get (asks_of ls) (length asked)))
+    (option_map AsksRelease (slice_get queued 0))
 
 passed_of : List Meaning → List HistEntry → List Meaning
 passed_of ls asked = cond (is_some (end_among asked)) [] (passed_behind (length asked) ls)

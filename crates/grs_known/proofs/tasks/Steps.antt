@@ -6,6 +6,7 @@ use Rattle.std.specs.List.{list_any, list_all}
 use Rattle.std.proofs.lemmas.Bool.{cases_Bool, lt-ltb, ltb-true, or_right}
 use Rattle.std.proofs.lemmas.Option.{slice_get_past, slice_get_within}
 use Rattle.std.proofs.Math.Seq.{take-length}
+use Rattle.std.specs.Option.{option_or, option_map}
 use Rattle.grs_base.specs.Same.{same_res, same_task}
 use Rattle.grs_base.specs.declared.resource.Res.{Res}
 use Rattle.grs_base.specs.declared.resource.Ctl.{Ctl}
@@ -21,7 +22,7 @@ use Rattle.grs_wire.specs.declared.told.ToldLine.{ToldLine}
 use Rattle.grs_wire.specs.declared.told.ToldLine.TheVariants.{Coded, Shown, Post, Ended, Desk}
 use Rattle.grs_wire.proofs.WantLaws.{by_res}
 use Rattle.grs_legal.specs.Asks.{AsksRelease, asks_of, asks_in}
-use Rattle.grs_legal.specs.Legal.{end_among, passed_behind, or_else, release_next}
+use Rattle.grs_legal.specs.Legal.{end_among, passed_behind}
 use Rattle.grs_known.specs.Items.{owns_told}
 use Rattle.grs_known.specs.Past.{has_own, Past, after_entry}
 use Rattle.grs_wire.specs.declared.history.HistEntry.TheVariants.{Release}
@@ -256,10 +257,11 @@ module _ (ls : List Meaning) (p : Past) (T : List ToldLine) (leaving : Res → B
     (k :
     IsTask ls p T leaving t
     (record { line = n; phase = phases.Ending c; code = code; records = xs; outstanding = o; rows = ws })) where
-  next-release : asks_next ls p ≡ release_next (slice_get (map (λ (y : Rec). y.res) xs) 0)
+  next-release : asks_next ls p ≡ option_map AsksRelease (slice_get (map (λ (y : Rec). y.res) xs) 0)
   next-release =
-      ap (λ z. or_else z (release_next (slice_get (map (λ z. z.0) p.own) 0))) (no_line (end_among p.asked) refl)
-      ∙ ap (λ z. release_next (slice_get z 0)) (ap (map (λ z. z.0)) (sym k.keys) ∙ fused xs)
+      ap (λ z. option_or z (option_map AsksRelease (slice_get (map (λ z. z.0) p.own) 0)))
+      (no_line (end_among p.asked) refl)
+      ∙ ap (λ z. option_map AsksRelease (slice_get z 0)) (ap (map (λ z. z.0)) (sym k.keys) ∙ fused xs)
     where
       fused : (ys : List Rec) → map (λ z. z.0) (map key ys) ≡ map (λ (y : Rec). y.res) ys
       fused [] = refl
@@ -278,7 +280,7 @@ module _ (ls : List Meaning) (p : Past) (T : List ToldLine) (leaving : Res → B
 
   pub next-ending : (r : Res) → slice_get (map (λ (y : Rec). y.res) xs) 0 ≡ Some r → IsNext ls p (AsksRelease r)
   next-ending r first = record {
-    next = next-release ∙ ap release_next first;
+    next = next-release ∙ ap (option_map AsksRelease) first;
     free = k.phase.free;
     passed = by_end (end_among p.asked) refl;
   }

@@ -2,20 +2,20 @@
 use Rattle.std.proofs.Common.{◌≡◌, ◌≢◌, ◌<◌, ◌≤◌, ◌+◌, ◌*◌, ℕ, zero, suc, Bool, true, false, cond, not, ◌&&◌, List, []}
 use Rattle.std.proofs.Common.{◌∷◌, ◌++◌, length, map, Option, Some, None, refl, ap, sym, ◌∙◌, subst, arith, append-nil}
 use Rattle.std.proofs.Common.{append_assoc, length-append, leb-true, le-leb}
-use Rattle.std.specs.Prelude.{◌==◌, All, filter, get_or, is_some, nat_le, nat_lt, slice_get}
+use Rattle.std.specs.Prelude.{◌==◌, All, IsSomeAnd, filter, get_or, is_some, nat_le, nat_lt, slice_get}
 use Rattle.std.specs.List.{list_all}
 use Rattle.std.proofs.lemmas.Bool.{and_from, and_parts, eq-eqb, and_right, eqb-true, eqb-false, ltb-true, lt-ltb}
 use Rattle.std.proofs.lemmas.Option.{get_or_from_slice_get, slice_get_within}
 use Rattle.std.proofs.lemmas.List.Folds.{list_all-append}
 use Rattle.std.proofs.lemmas.List.{length-map}
+use Rattle.std.specs.Option.{option_or, option_map}
 use Rattle.grs_base.specs.Same.{same_task}
 use Rattle.grs_base.proofs.SameLaws.{same_task-exact}
 use Rattle.grs_base.specs.declared.resource.Res.{Res}
 use Rattle.grs_base.specs.declared.resource.TaskId.{TaskId}
 use Rattle.grs_legal.specs.Asks.{Ask, AsksEnq, AsksDeq, AsksLook, AsksRelease, Script, asks_in, asks_of, lines_at}
 use Rattle.grs_legal.specs.Asks.{lines_of, meaning_of, meanings, scripts_at, scripts_from, scripts_in}
-use Rattle.grs_legal.specs.Legal.{ask_in, LegalFrom, IsLegalOf, MayStand, is_of_line, line_entries, or_else}
-use Rattle.grs_legal.specs.Legal.{release_next}
+use Rattle.grs_legal.specs.Legal.{ask_in, LegalFrom, IsLegal, MayAsk, MayStand, is_of_line, line_entries}
 use Rattle.grs_legal.specs.declared.meaning.Meaning.{Meaning}
 use Rattle.grs_legal.specs.declared.meaning.Meaning.TheVariants as lines
 use Rattle.grs_wire.specs.History.{is_by, entries_for, fixed_entries, look_entries}
@@ -155,29 +155,30 @@ asks-le (m ∷ ls) = by_line m (asks-le ls)
 
 -- what is asked next, if it is no release, is what the next asking line asks
 next-line : (ls : List Meaning) (n : ℕ) (e : Bool) (z : Option Res) (a : Ask) → ((r : Res) → AsksRelease r ≡ a → ⊥)
-    → or_else (cond e None (slice_get (asks_of ls) n)) (release_next z) ≡ Some a → n < length (asks_of ls)
+    → option_or (cond e None (slice_get (asks_of ls) n)) (option_map AsksRelease z) ≡ Some a → n < length (asks_of ls)
 next-line ls n true None a none h = absurd (cc)
 next-line ls n true (Some r) a none h = absurd (none r (let same : AsksRelease r ≡ a = cc in same))
 next-line ls n false z a none h = go (slice_get (asks_of ls) n) refl h
   where
-    go : (o : Option Ask) → slice_get (asks_of ls) n ≡ o → or_else o (release_next z) ≡ Some a → n < length (asks_of ls)
+    go : (o : Option Ask) → slice_get (asks_of ls) n ≡ o → option_or o (option_map AsksRelease z) ≡ Some a
+        → n < length (asks_of ls)
     go (Some b) e f = slice_get_within (asks_of ls) n b e
     go None e f = by_release z f
       where
-        by_release : (y : Option Res) → release_next y ≡ Some a → n < length (asks_of ls)
+        by_release : (y : Option Res) → option_map AsksRelease y ≡ Some a → n < length (asks_of ls)
         by_release None g = absurd (cc)
         by_release (Some r) g = absurd (none r (let same : AsksRelease r ≡ a = cc in same))
 
 module _ (deck : Deck) (t : TaskId) (ls : List Meaning) (lines_are : lines_of deck t ≡ Some ls) where
   -- an entry of one of its lines, where it may stand
   may-line : (u : TaskId) (a : Ask) (front : List HistEntry) (h : HistEntry) → same_task t u ≡ true
-      → ((r : Res) → AsksRelease r ≡ a → ⊥) → ask_in h ≡ Some a → IsLegalOf deck.limit u (lines_of deck u) front h
+      → ((r : Res) → AsksRelease r ≡ a → ⊥) → ask_in h ≡ Some a → MayAsk deck u front h
       → length (line_entries t front) < length (asks_of ls)
   may-line u a front h own none asks k =
       let one : u ≡ t = sym (same_task-exact t u own) in
-      let legal : IsLegalOf deck.limit t (Some ls) front h =
-      subst (λ o. IsLegalOf deck.limit t o front h) lines_are
-      (subst (λ z. IsLegalOf deck.limit z (lines_of deck z) front h) one k) in
+      let legal : IsLegal deck.limit t ls front h =
+      subst (λ o. IsSomeAnd o (λ zs. IsLegal deck.limit t zs front h)) lines_are
+      (subst (λ z. MayAsk deck z front h) one k) in
       next-line ls (length (line_entries t front)) _ _ a none (legal.next ∙ asks)
 
   may-more : (front : List HistEntry) (h : HistEntry) → MayStand deck front h → (is_by t h && is_of_line h) ≡ true
@@ -250,8 +251,8 @@ known-enqs deck front (entries.Enq u r c ret code ∷ hs) legal =
     and_from (is_some (lines_of deck u)) _ (by_lines (lines_of deck u) legal.0)
     (known-enqs deck (front ++ entries.Enq u r c ret code ∷ []) hs legal.1)
   where
-    by_lines : (o : Option (List Meaning)) → IsLegalOf deck.limit u o front (entries.Enq u r c ret code)
-        → is_some o ≡ true
+    by_lines : (o : Option (List Meaning))
+        → IsSomeAnd o (λ ls. IsLegal deck.limit u ls front (entries.Enq u r c ret code)) → is_some o ≡ true
     by_lines None k = absurd k
     by_lines (Some ls) k = refl
 known-enqs deck front (entries.Deq u r have code ∷ hs) legal =

@@ -11,6 +11,7 @@ use Rattle.grs_base.specs.declared.resource.TaskId.{TaskId}
 use Rattle.grs_legal.specs.Asks.{lines_of, scripts_of}
 use Rattle.grs_medium.specs.Apply.{reply_to}
 use Rattle.grs_medium.specs.Medium.{MediumState}
+use Rattle.grs_node.proofs.Fits.{by-reply}
 use Rattle.grs_node.specs.Star.{StarPart, answer_for, begin_at, begun, decide_own, entry_asked, first_held, fixing_none}
 use Rattle.grs_node.specs.Star.{leave_step, own_step, owners_by, rank_of, request_of, send_step, sent_to, serves}
 use Rattle.grs_node.specs.Star.{settle_step, settled_by, settled_first, tell_step, took_mail}
@@ -354,58 +355,31 @@ size-to v p t None = refl
 size-to v p t (Some e) = count-phase v t phases.Sent
 
 size-send : (v : TasksView) (p : StarPart) (t : TaskId) (r : Reply) → size (send_step v p t r).tasks ≡ size v
-size-send v p t replies.Sole = size-begin v p t (state_of v t).outstanding (entry_asked p (state_of v t).outstanding)
-size-send v p t replies.Sent = size-to v p t (entry_asked p (state_of v t).outstanding)
-size-send v p t (replies.Turned entries taken closed) = refl
-size-send v p t (replies.NotYours holder) = refl
-size-send v p t (replies.Behind first) = refl
-size-send v p t replies.Switched = refl
-size-send v p t replies.Already = refl
-size-send v p t (replies.Taken mail) = refl
-size-send v p t replies.Empty = refl
-size-send v p t replies.Settled = refl
-size-send v p t replies.Told = refl
-size-send v p t replies.Left = refl
-size-send v p t (replies.Kept mask) = refl
-size-send v p t replies.Purged = refl
-size-send v p t replies.NoSuch = refl
-size-send v p t replies.InStar = refl
-size-send v p t replies.Resting = refl
-size-send v p t replies.Over = refl
-size-send v p t (replies.Stale set) = refl
-size-send v p t replies.Removed = refl
+size-send v p t =
+    by-reply (λ r. size (send_step v p t r).tasks ≡ size v)
+    (λ es k b. refl) (λ h. refl) (λ k. refl) refl refl
+    (size-begin v p t (state_of v t).outstanding (entry_asked p (state_of v t).outstanding))
+    (size-to v p t (entry_asked p (state_of v t).outstanding))
+    (λ m. refl) refl refl refl refl (λ m. refl) refl refl refl refl refl (λ k. refl) refl
 
 size-took : (deck : Deck) (v : TasksView) (p : StarPart) (r : Reply) → size (take_step deck v p r).tasks ≡ size v
 unfolding took_mail
-size-took deck v p (replies.Taken m) = go (is_for_deck deck m) m
+size-took deck v p =
+    by-reply (λ r. size (take_step deck v p r).tasks ≡ size v)
+    (λ es k b. refl) (λ h. refl) (λ k. refl) refl refl refl refl
+    (λ m. go (is_for_deck deck m) m) refl refl refl refl (λ m. refl) refl refl refl refl refl (λ k. refl) refl
   where
     go : (b : Bool) (m : Mail) → size (cond b (took_mail v p m) (fixing_none v p)).tasks ≡ size v
     go false m = refl
     go true (RequestMail e from q) = refl
     go true (AnsweredMail t answer rank) = size-mail v (AnsweredMail t answer rank)
     go true (Granted t r) = size-mail v (Granted t r)
-size-took deck v p (replies.Turned entries taken closed) = refl
-size-took deck v p (replies.NotYours holder) = refl
-size-took deck v p (replies.Behind first) = refl
-size-took deck v p replies.Switched = refl
-size-took deck v p replies.Already = refl
-size-took deck v p replies.Sole = refl
-size-took deck v p replies.Sent = refl
-size-took deck v p replies.Empty = refl
-size-took deck v p replies.Settled = refl
-size-took deck v p replies.Told = refl
-size-took deck v p replies.Left = refl
-size-took deck v p (replies.Kept mask) = refl
-size-took deck v p replies.Purged = refl
-size-took deck v p replies.NoSuch = refl
-size-took deck v p replies.InStar = refl
-size-took deck v p replies.Resting = refl
-size-took deck v p replies.Over = refl
-size-took deck v p (replies.Stale set) = refl
-size-took deck v p replies.Removed = refl
 
 size-settle : (v : TasksView) (p : StarPart) (r : Reply) → size (settle_step v p r).tasks ≡ size v
-size-settle v p replies.Settled = go (first_held p)
+size-settle v p =
+    by-reply (λ r. size (settle_step v p r).tasks ≡ size v)
+    (λ es k b. refl) (λ h. refl) (λ k. refl) refl refl refl refl
+    (λ m. refl) refl (go (first_held p)) refl refl (λ m. refl) refl refl refl refl refl (λ k. refl) refl
   where
     go : (o : Option Req) → size (settled_by v p o).tasks ≡ size v
     go None = refl
@@ -414,69 +388,18 @@ size-settle v p replies.Settled = go (first_held p)
         by_serves : (b : Bool) → size (cond b (settled_first v p q) (fixing_none v p)).tasks ≡ size v
         by_serves true = size-new v (res_wanted q.want) (owners_by p q)
         by_serves false = refl
-size-settle v p (replies.Turned entries taken closed) = refl
-size-settle v p (replies.NotYours holder) = refl
-size-settle v p (replies.Behind first) = refl
-size-settle v p replies.Switched = refl
-size-settle v p replies.Already = refl
-size-settle v p replies.Sole = refl
-size-settle v p replies.Sent = refl
-size-settle v p (replies.Taken mail) = refl
-size-settle v p replies.Empty = refl
-size-settle v p replies.Told = refl
-size-settle v p replies.Left = refl
-size-settle v p (replies.Kept mask) = refl
-size-settle v p replies.Purged = refl
-size-settle v p replies.NoSuch = refl
-size-settle v p replies.InStar = refl
-size-settle v p replies.Resting = refl
-size-settle v p replies.Over = refl
-size-settle v p (replies.Stale set) = refl
-size-settle v p replies.Removed = refl
 
 size-tell : (v : TasksView) (p : StarPart) (e : ℕ) (r : Reply) → size (tell_step v p e r).tasks ≡ size v
-size-tell v p e replies.Told = refl
-size-tell v p e (replies.Turned entries taken closed) = refl
-size-tell v p e (replies.NotYours holder) = refl
-size-tell v p e (replies.Behind first) = refl
-size-tell v p e replies.Switched = refl
-size-tell v p e replies.Already = refl
-size-tell v p e replies.Sole = refl
-size-tell v p e replies.Sent = refl
-size-tell v p e (replies.Taken mail) = refl
-size-tell v p e replies.Empty = refl
-size-tell v p e replies.Settled = refl
-size-tell v p e replies.Left = refl
-size-tell v p e (replies.Kept mask) = refl
-size-tell v p e replies.Purged = refl
-size-tell v p e replies.NoSuch = refl
-size-tell v p e replies.InStar = refl
-size-tell v p e replies.Resting = refl
-size-tell v p e replies.Over = refl
-size-tell v p e (replies.Stale set) = refl
-size-tell v p e replies.Removed = refl
+size-tell v p e =
+    by-reply (λ r. size (tell_step v p e r).tasks ≡ size v)
+    (λ es k b. refl) (λ h. refl) (λ k. refl) refl refl refl refl
+    (λ m. refl) refl refl refl refl (λ m. refl) refl refl refl refl refl (λ k. refl) refl
 
 size-leave : (v : TasksView) (p : StarPart) (e : ℕ) (r : Reply) → size (leave_step v p e r).tasks ≡ size v
-size-leave v p e replies.Left = refl
-size-leave v p e (replies.Turned entries taken closed) = refl
-size-leave v p e (replies.NotYours holder) = refl
-size-leave v p e (replies.Behind first) = refl
-size-leave v p e replies.Switched = refl
-size-leave v p e replies.Already = refl
-size-leave v p e replies.Sole = refl
-size-leave v p e replies.Sent = refl
-size-leave v p e (replies.Taken mail) = refl
-size-leave v p e replies.Empty = refl
-size-leave v p e replies.Settled = refl
-size-leave v p e replies.Told = refl
-size-leave v p e (replies.Kept mask) = refl
-size-leave v p e replies.Purged = refl
-size-leave v p e replies.NoSuch = refl
-size-leave v p e replies.InStar = refl
-size-leave v p e replies.Resting = refl
-size-leave v p e replies.Over = refl
-size-leave v p e (replies.Stale set) = refl
-size-leave v p e replies.Removed = refl
+size-leave v p e =
+    by-reply (λ r. size (leave_step v p e r).tasks ≡ size v)
+    (λ es k b. refl) (λ h. refl) (λ k. refl) refl refl refl refl
+    (λ m. refl) refl refl refl refl (λ m. refl) refl refl refl refl refl (λ k. refl) refl
 
 size-starred : (deck : Deck) (v : TasksView) (p : StarPart) (choice : Choice) (r : Reply)
     → size (star_step deck v p choice r).tasks ≡ size v

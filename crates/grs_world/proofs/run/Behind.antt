@@ -1,14 +1,14 @@
 -- No entry of a task stands behind the removal of its system, where the history is legal.
 use Rattle.std.proofs.Common.{◌≡◌, Bool, true, false, cond, List, [], ◌∷◌, ◌++◌, Option, Some, None, refl, sym, ◌∙◌}
 use Rattle.std.proofs.Common.{subst, append-nil, append_assoc}
-use Rattle.std.specs.Prelude.{◌==◌}
+use Rattle.std.specs.Prelude.{◌==◌, IsSomeAnd}
 use Rattle.std.specs.List.{list_any}
 use Rattle.std.proofs.lemmas.Bool.{eq-eqb, or_left, or_right}
 use Rattle.std.proofs.lemmas.List.Folds.{list_any-append}
 use Rattle.grs_base.specs.declared.resource.TaskId.{TaskId}
 use Rattle.grs_base.proofs.SameLaws.{same_task-exact}
 use Rattle.grs_legal.specs.Asks.{lines_of}
-use Rattle.grs_legal.specs.Legal.{IsLegalOf, Legal, LegalFrom, MayAsk, MayStand, entries_of}
+use Rattle.grs_legal.specs.Legal.{IsLegal, Legal, LegalFrom, MayAsk, MayStand, entries_of}
 use Rattle.grs_legal.specs.declared.meaning.Meaning.{Meaning}
 use Rattle.grs_wire.specs.History.{is_by, removes}
 use Rattle.grs_wire.specs.declared.deck.Deck.{Deck}
@@ -24,7 +24,8 @@ live_by : (deck : Deck) (u : TaskId) (P : List HistEntry) (h : HistEntry) → Ma
     → list_any (removes u.system) P ≡ false
 live_by deck u P h may = go (lines_of deck u) may
   where
-    go : (o : Option (List Meaning)) → IsLegalOf deck.limit u o P h → list_any (removes u.system) P ≡ false
+    go : (o : Option (List Meaning)) → IsSomeAnd o (λ ls. IsLegal deck.limit u ls P h)
+        → list_any (removes u.system) P ≡ false
     go None k = absurd k
     go (Some ls) k = k.live
 

@@ -10,14 +10,11 @@ use Rattle.std.proofs.lemmas.Bool.{and_from, and_parts, eqb-true, eqb-false, eq-
 use Rattle.std.proofs.lemmas.List.Folds.{list_any-append}
 use Rattle.std.proofs.lemmas.Option.{same_Some}
 use Rattle.grs_base.specs.State.{State}
-use Rattle.grs_base.specs.declared.look.Filter.{Filter}
 use Rattle.grs_base.specs.declared.resource.SysId.{SysId}
-use Rattle.grs_base.specs.declared.resource.TaskId.{TaskId}
 use Rattle.grs_medium.specs.Apply.{without_system}
 use Rattle.grs_node.specs.Log.{told_in}
 use Rattle.grs_node.specs.Node.{NodeState, next_order, purged}
-use Rattle.grs_wire.specs.History.{removes, look_entries, entries_for, fixed_entries, after_fixed, answered_from}
-use Rattle.grs_wire.specs.History.{answered}
+use Rattle.grs_wire.specs.History.{removes, fixed_entries, after_fixed, answered_from, answered}
 use Rattle.grs_wire.specs.Masks.{has, with_also}
 use Rattle.grs_wire.specs.declared.deck.Choice.TheVariants as choices
 use Rattle.grs_wire.specs.declared.deck.Deck.{Deck}
@@ -25,12 +22,11 @@ use Rattle.grs_wire.specs.declared.deck.Event.{Event}
 use Rattle.grs_wire.specs.declared.deck.Order.TheVariants as orders
 use Rattle.grs_wire.specs.declared.request.Fixed.{Fixed}
 use Rattle.grs_wire.specs.declared.request.Fixed.TheVariants.{Asked, LocalLook, Purged}
-use Rattle.grs_wire.specs.declared.request.Want.{Want}
-use Rattle.grs_wire.specs.declared.request.Want.TheVariants as wants
 use Rattle.grs_wire.specs.declared.told.Said.TheVariants as saids
 use Rattle.grs_wire.specs.declared.told.Told.{Told}
 use Rattle.grs_wire.specs.declared.told.ToldLine.TheVariants as lines
 use Rattle.grs_wire.proofs.MaskLaws.{has-zero, has-with_same, has-with_other}
+use Rattle.grs_known.proofs.known.Histories.{ask-keeps}
 use Rattle.grs_known.proofs.lists.Truths.{false_by, no_truth}
 use Rattle.grs_world.specs.Agree.{is_purge, purges, is_removal, is_vary, order_of, fixed_in, RemovalsTold}
 use Rattle.grs_world.specs.Removing.{RemovedAreInHistory}
@@ -46,20 +42,9 @@ use Rattle.grs_world.proofs.system.Desks.{desk-told}
 abbrev pub takes_out : SysId → List (SysId × Fixed) → Bool
 takes_out s fs = list_any (λ x. is_purge s x.1) fs
 
-looks-keep : (st : State) (t : TaskId) (first count : ℕ) (f : Filter) (s : SysId)
-    → list_any (removes s) (look_entries st t first count f) ≡ false
-looks-keep st t first zero f s = refl
-looks-keep st t first (suc count) f s = looks-keep st t (suc first) count f s
-
-asked-keep : (st : State) (t : TaskId) (w : Want) (s : SysId) → list_any (removes s) (entries_for st t w) ≡ false
-asked-keep st t (wants.Enq r c ret full) s = refl
-asked-keep st t (wants.Deq r have) s = refl
-asked-keep st t (wants.Release r) s = refl
-asked-keep st t (wants.Look first count f) s = looks-keep st t first count f s
-
 one-removes : (st : State) (by : SysId) (f : Fixed) (s : SysId)
     → list_any (removes s) (fixed_entries st by f) ≡ is_purge s f
-one-removes st by (Asked q) s = asked-keep st q.task q.want s
+one-removes st by (Asked q) s = ask-keeps st q.task q.want s
 one-removes st by (LocalLook t f) s = refl
 one-removes st by (Purged target) s = or-false (s.0 == target.0)
 

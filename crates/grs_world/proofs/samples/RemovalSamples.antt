@@ -1,15 +1,15 @@
 -- A worked run in which a system of a ring is removed while it owns, has the message, and has a request in it, by which
 -- the definitions are checked: what is answered, fixed, told and kept is what the rules of the service give by hand.
-use Rattle.std.proofs.Common.{◌≡◌, ℕ, true, false, List, [], ◌∷◌, ◌++◌, Some, map, drop, refl}
+use Rattle.std.proofs.Common.{◌≡◌, ℕ, true, false, List, [], ◌∷◌, ◌++◌, Some, map, drop, refl, Bool}
 use Rattle.grs_base.specs.declared.decision.Code.TheVariants.{C00, Wait}
-use Rattle.grs_base.specs.declared.line.Scope.TheVariants.{Systems}
+use Rattle.grs_base.specs.declared.line.Scope.TheVariants.{Systems, System}
 use Rattle.grs_base.specs.declared.resource.Ctl.TheVariants.{E}
 use Rattle.grs_base.specs.declared.resource.Elem.{Elem}
 use Rattle.grs_base.specs.declared.resource.Ret.TheVariants.{RetNone}
 use Rattle.grs_medium.specs.Apply.{row, apply, turn_row, purge_row}
 use Rattle.grs_node.specs.Node.{post, ask, take_line, end_step, ready_step, phase_step, may_go, prepare, finish_quiet}
 use Rattle.grs_node.specs.Node.{finish_call, finish, first_node, read_entries, all_sent, put_in, desk_told, purged}
-use Rattle.grs_node.specs.Node.{turned as system_turned}
+use Rattle.grs_node.specs.Node.{turned as system_turned, decide, is_pending}
 use Rattle.grs_wire.specs.Masks.{has, without, with_also}
 use Rattle.grs_wire.specs.declared.deck.Deck.{Deck}
 use Rattle.grs_wire.specs.declared.deck.Event.{Event}
@@ -33,9 +33,21 @@ use Rattle.task_state.specs.View.{state_of, with_state, with_line, with_phase, w
 use Rattle.task_state.specs.View.{without_record, with_told, with_exclusive, telling}
 use Rattle.grs_world.specs.Kept.{kept, places}
 use Rattle.grs_world.specs.Removing.{reply_of}
-use Rattle.grs_world.specs.Running.{is_live, task_end}
+use Rattle.grs_world.specs.Running.{is_live, task_end, at_rest}
 use Rattle.grs_world.specs.World.{first_world, carry_out, chosen, placed, happens_at, happens, run, hist, told}
-use Rattle.grs_world.proofs.samples.Samples.{system, task_of, shared, enq, deck_of, goes, turn, at}
+use Rattle.grs_world.proofs.samples.Samples.{system, task_of, shared, enq, deck_of, goes, turn, at, own}
+use Rattle.std.specs.Prelude.{unwrap_or}
+use Rattle.std.specs.List.{list_any}
+use Rattle.grs_base.specs.State.{list_of}
+use Rattle.grs_base.specs.declared.resource.Res.{Res}
+use Rattle.grs_base.specs.declared.resource.TaskId.{TaskId}
+use Rattle.grs_known.specs.Told.{tells_control}
+use Rattle.grs_legal.specs.Asks.{lines_of}
+use Rattle.grs_legal.specs.Legal.{line_entries}
+use Rattle.grs_legal.specs.declared.meaning.Meaning.{Meaning}
+use Rattle.grs_medium.specs.Medium.{medium_at_end}
+use Rattle.grs_world.specs.Agree.{lines_of_told}
+use Rattle.grs_world.specs.AtRest.{goes_on_with, lists_after}
 
 abbrev purges : ℕ → ℕ → Event
 purges s target = record { system = system s; choice = choices.Purge (system target) }
@@ -103,3 +115,56 @@ unfolding state_of with_state with_line with_phase with_outstanding with_record 
     process_entry has without with_also turn_row purge_row row apply first_after unseen any_unseen cleared stamped
     turn_reply wakes rest_after_turn dropped turned first_node first_world carry_out chosen placed happens_at happens
 samples = (refl, refl, refl, refl, refl, refl, refl, refl, refl, refl, refl, refl, refl, refl, refl, refl, refl, refl)
+
+-- ---- at rest behind a removal
+-- Two tasks of the first system of a ring ask for two resources in turn, each for the other's first, of which one is
+-- the whole complex's; a task of the second system asks for that one too.
+abbrev crossing : Deck
+crossing =
+    deck_of (((enq 66 E Systems RetNone ∷ enq 67 E System RetNone ∷ [])
+    ∷ (enq 67 E System RetNone ∷ enq 66 E Systems RetNone ∷ []) ∷ [])
+    ∷ ((enq 66 E Systems RetNone ∷ []) ∷ []) ∷ [])
+
+abbrev bound : Deck
+bound =
+    record crossing {
+      systems =
+          map (λ (s : SystemDef). record s { desk = record { at = 0; order = orders.Vary (system 1) } ∷ [] })
+          crossing.systems;
+    }
+
+-- The second system's task owns, and the first one's are to wait behind it; then the first system removes the second.
+-- By that its own task gets control, and asks for what the other has.
+abbrev left : List Event
+left =
+    goes 1 0 ∷ turn 0 ∷ turn 1 ∷ goes 0 0 ∷ goes 0 1 ∷ goes 0 1 ∷ turn 0 ∷ turn 1 ∷ purges 0 1 ∷ turn 0 ∷ goes 0 0 ∷ []
+
+abbrev its_lines : TaskId → List Meaning
+its_lines t = unwrap_or (lines_of bound t) []
+
+abbrev goes_on : TaskId → Res → Bool
+goes_on t r = goes_on_with t (its_lines t) (hist bound left) (lines_of_told (told bound left)) r
+
+-- Nothing is lost on the system that is left: its owner was told control, and both its tasks wait. Of the removed one's
+-- task nothing is said.
+pub rests_behind :
+    (at_rest bound (run bound left) ≡ true)
+    × (map (λ s. is_live (run bound left) (system s)) (0 ∷ 1 ∷ []) ≡ true ∷ false ∷ [])
+    × (list_of (lists_after bound left) (shared 66) ≡ elem 0 ∷ record { task = task_of 0 1; ctl = E } ∷ [])
+    × (list_any (tells_control (task_of 0 0) (its_lines (task_of 0 0)) (line_entries (task_of 0 0) (hist bound left))
+    (shared 66))
+    (lines_of_told (told bound left))
+    ≡ true)
+    × (goes_on (task_of 0 0) (own 67) ≡ true)
+    × (goes_on (task_of 0 1) (shared 66) ≡ true)
+    × (map (λ t. task_end (run bound left).medium.removed (run bound left).nodes t)
+    (task_of 0 0 ∷ task_of 0 1 ∷ task_of 1 0 ∷ [])
+    ≡ ends.Waits ∷ ends.Waits ∷ ends.Removed ∷ [])
+unfolding decide is_pending medium_at_end at_rest state_of with_state with_line with_phase with_outstanding with_record
+    without_record with_told with_exclusive telling tell_code record_enq after_code replied passes_wait tell_line
+    tell_untold tell_control tell_all tell_new recalled tell_answer tell_answer_any tell_freed post ask take_line
+    end_step ready_step phase_step may_go prepare finish_quiet finish_call finish read_entries all_sent put_in desk_told
+    purged system_turned answer_own process process_entry has without with_also turn_row purge_row row apply first_after
+    unseen any_unseen cleared stamped turn_reply wakes rest_after_turn dropped turned first_node first_world carry_out
+    chosen placed happens_at happens
+rests_behind = (refl, refl, refl, refl, refl, refl, refl)

@@ -17,20 +17,11 @@ returns-clause-medium c =
     c.requires.prepared (refusal_reply c.args.refusal) c.requires.refused)
     (search rules)
 
-pub returns-clause-node : goal.returns-clause-node
-returns-clause-node c =
+pub returns-clause-ends : goal.returns-clause-ends
+returns-clause-ends c =
     rw (
       chosen-refused c.args.node.now.deck c.args.medium.now.state c.args.system c.args.node.now.node c.args.known
           c.requires.prepared (refusal_reply c.args.refusal) c.requires.refused,
       ← c.into_reply.ensures,
     )
-    c.finished.ensures.node
-
-pub returns-clause-done : goal.returns-clause-done
-returns-clause-done c =
-    rw (
-      chosen-refused c.args.node.now.deck c.args.medium.now.state c.args.system c.args.node.now.node c.args.known
-          c.requires.prepared (refusal_reply c.args.refusal) c.requires.refused,
-      ← c.into_reply.ensures,
-    )
-    c.finished.ensures.done
+    c.finished.ensures.ends

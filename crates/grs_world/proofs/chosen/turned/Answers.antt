@@ -13,8 +13,8 @@ take_done-requires c =
     (finished-some c.args.node.now Turn
     (Some (Turned (unseen c.args.system c.entries.result.now) c.taken_of-taken.result c.is_closed-closed.result)))
 
-pub returns-clause-node : goal.returns-clause-node
-returns-clause-node c =
+pub returns-clause-ends : goal.returns-clause-ends
+returns-clause-ends c =
     let reply : Turned (unseen c.args.system c.entries.result.now) c.taken_of-taken.result c.is_closed-closed.result
     ≡ Turned (unseen c.args.system c.args.medium.now.state.message.entries)
     (cond c.args.medium.now.state.message.closed 0 (length (take most_additions c.args.node.now.node.outbox)))
@@ -30,35 +30,14 @@ returns-clause-node c =
     refl in
     rw (
       c.take_done.ensures.node,
-      c.in_ok-finish_turn.ensures.step,
-      chosen-given c.args.node.now.deck c.args.medium.now.state c.args.system c.args.node.now.node c.args.known
-          c.requires.prepared c.requires.given,
-      ← reply,
-    )
-    (finished-node c.args.node.now Turn
-    (Some (Turned (unseen c.args.system c.entries.result.now) c.taken_of-taken.result c.is_closed-closed.result)))
-
-pub returns-clause-done : goal.returns-clause-done
-returns-clause-done c =
-    let reply : Turned (unseen c.args.system c.entries.result.now) c.taken_of-taken.result c.is_closed-closed.result
-    ≡ Turned (unseen c.args.system c.args.medium.now.state.message.entries)
-    (cond c.args.medium.now.state.message.closed 0 (length (take most_additions c.args.node.now.node.outbox)))
-    c.args.medium.now.state.message.closed =
-    rw (
-      c.entries.ensures,
-      c.taken_of-taken.ensures,
-      c.is_closed-closed.ensures,
-      c.in_ok-reserve_places.ensures.state,
-      c.len-count.ensures,
-      c.in_ok-out.ensures.first,
-    )
-    refl in
-    rw (
       c.take_done.ensures.done,
       c.in_ok-finish_turn.ensures.step,
       chosen-given c.args.node.now.deck c.args.medium.now.state c.args.system c.args.node.now.node c.args.known
           c.requires.prepared c.requires.given,
       ← reply,
+    ) (
+      finished-node c.args.node.now Turn
+          (Some (Turned (unseen c.args.system c.entries.result.now) c.taken_of-taken.result c.is_closed-closed.result)),
+      finished-done c.args.node.now Turn
+          (Some (Turned (unseen c.args.system c.entries.result.now) c.taken_of-taken.result c.is_closed-closed.result)),
     )
-    (finished-done c.args.node.now Turn
-    (Some (Turned (unseen c.args.system c.entries.result.now) c.taken_of-taken.result c.is_closed-closed.result)))
