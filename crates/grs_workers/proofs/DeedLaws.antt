@@ -252,7 +252,7 @@ grew-called v w choice (reply, false) k =
       makes = (refl, ap (λ (n : NodeView). n.node) node);
     }
 
-grew-done : (v w : Stand) (d : Deed) → IsDone v d w → Grew v w
+pub grew-done : (v w : Stand) (d : Deed) → IsDone v d w → Grew v w
 grew-done v w d k = by_told d.told k
   where
     by_told : (told : Option (Reply × Bool)) → IsDoneBy v d.choice told w → Grew v w

@@ -9,7 +9,7 @@ use Rattle.grs_base.specs.declared.fault.NoMemory.{NoMemory}
 use Rattle.grs_bus.specs.Seats.{BusValue}
 use Rattle.grs_workers.specs.Stands.{stand, IsOn, Agrees}
 use Rattle.grs_workers.specs.Beside.{IsOver}
-use Rattle.grs_workers.specs.Rounds.{Went, Grew, Each, HasWorked, is_out}
+use Rattle.grs_workers.specs.Rounds.{Went, Grew, Each, HasWorked, HasMoved, is_out}
 use Rattle.grs_workers.specs.declared.worker.Worker.{Worker}
 use Rattle.grs_workers.proofs.DeedLaws.{went-grew, grew-none, grew-further}
 
@@ -21,6 +21,15 @@ worked-grew b v w worked fine = by_outcome w.outcome worked fine
         → Grew (stand v) (stand w)
     by_outcome (Ok out) worked fine = went-grew (stand v) out (stand w) worked.0
     by_outcome (Err e) worked fine = absurd fine
+
+pub moved-grew : (b : BusValue) (v w : Worker) → HasMoved b v w → IfErr w.outcome (λ _. ⊥) → Grew (stand v) (stand w)
+moved-grew b v w moved fine = by_outcome w.outcome moved fine
+  where
+    by_outcome : (o : Result Bool NoMemory)
+        → IfOk o (λ out. Grew (stand v) (stand w) × IsOn b (stand w) × Agrees (stand w)) → IfErr o (λ _. ⊥)
+        → Grew (stand v) (stand w)
+    by_outcome (Ok out) moved fine = moved.0
+    by_outcome (Err e) moved fine = absurd fine
 
 -- ---- several rounds
 

@@ -54,6 +54,10 @@ is_out (Err e) = false
 abbrev pub HasWorked : BusValue → Worker → Worker → Type 0
 HasWorked b v w = IfOk w.outcome (λ out. Went (stand v) out (stand w) × IsOn b (stand w) × Agrees (stand w))
 
+-- a worker's stretch, unless memory was wanting in it
+abbrev pub HasMoved : BusValue → Worker → Worker → Type 0
+HasMoved b v w = IfOk w.outcome (λ out. Grew (stand v) (stand w) × IsOn b (stand w) × Agrees (stand w))
+
 -- what holds of each worker before and after a round
 abbrev pub Each : (Worker → Worker → Type 0) → List Worker → List Worker → Type 0
 Each P vs ws = (i : ℕ) (d : Worker) → i < length vs → P (slice_index_or vs i d) (slice_index_or ws i d)

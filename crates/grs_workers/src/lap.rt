@@ -1,8 +1,8 @@
 //! In which order a worker tries the choices of its system. No clause rests on it, but that interest in a lock entry is given up
 //! only where nothing is pending.
-ghost use Rattle.std.specs.Prelude.{◌≡◌, ◌≢◌, ◌≤◌, ◌&&◌, true, false, length, IfOk};
+ghost use Rattle.std.specs.Prelude.{◌≡◌, ◌≢◌, true, false, IfOk, IfSome};
 ghost use Rattle.grs_node.specs.Addressed.{is_addressed};
-ghost use Rattle.grs_node.specs.Node.{prepare};
+ghost use Rattle.grs_node.specs.Node.{prepare, is_pending};
 ghost use Rattle.grs_node.specs.declared.prepared.Prepared.TheVariants.{Nothing};
 ghost use Rattle.grs_workers.specs.Stands.{is_leave, is_early};
 
@@ -12,6 +12,9 @@ use grs_wire::{Choice, Deck, Desk, JobDef, Order};
 use std::alloc::Global;
 use std::thread;
 
+/// Behind how many choices that have nothing to do it is asked whether any has.
+const SOME_TRIES: usize = 3;
+
 /// A choice, and behind how many events it is tried where there is something else to do.
 #[derive(Clone, Copy)]
 struct Try {
@@ -19,26 +22,53 @@ struct Try {
     choice: Choice,
 }
 
-/// The choices of a system, which are tried one after the other and round again, and where it is among them.
+/// What was picked last, as long as nobody has looked back at it.
+#[derive(Clone, Copy)]
+enum Last {
+    Nothing,
+    Choice,
+    Leave,
+    Turn,
+    /// A look into the inbox.
+    Look,
+    Rest,
+}
+
+/// What is asked next where no choice has anything to do.
+#[derive(Clone, Copy)]
+enum Then {
+    /// A turn, or a look into the inbox.
+    Turn,
+    /// A rest, since a turn or a look was asked.
+    Rest,
+    /// Both were asked.
+    Nothing,
+}
+
+/// The choices of a system, which are tried one after the other and round again while the system changes, and where it is among
+/// them.
 #[derive(Drop)]
 pub(crate) struct Lap {
     tries: List<Try>,
-    /// How many of them, from the first on, can have something to do in ring mode.
-    of_ring: usize,
-    next: usize,
-    events: u64,
-    /// Some task or request got on in this round of the choices.
-    busy: bool,
-    /// Some choice may have something to do: the system has changed since all of them had nothing.
-    fresh: bool,
-    /// How many steps the log had when an event was picked last.
-    steps: usize,
-    /// That event looked into the inbox.
-    looked: bool,
-    /// It was a rest.
-    rested: bool,
-    /// The system is in star mode.
+    /// Those of star mode, until the system is in it.
+    later: List<Try>,
     star: bool,
+    /// Where it is among them.
+    next: usize,
+    /// How many tries are left since the system changed: each choice, and then once more those of the desk that were put off.
+    left: usize,
+    /// How many lock entries there are, and in which of them interest is given up next.
+    entries: u32,
+    entry: u32,
+    events: u64,
+    last: Last,
+    then: Then,
+    /// A task or a request of the system got on since it was woken last. It rests only where none did, since else it will hear more.
+    busy: bool,
+    /// The last turn put nothing into the message, which may have stayed with the system.
+    stays: bool,
+    /// How many steps the log had when somebody looked back last.
+    steps: usize,
 }
 
 /// A choice that is tried at any time.
@@ -46,7 +76,7 @@ fn any_time(choice: Choice) -> Try {
     Try { after: 0, choice }
 }
 
-/// Adds a choice for each task of these jobs of a system.
+/// Adds that each task of these jobs of a system goes on, and, in star mode, that it sends.
 fn add_tasks(
     tries: &mut List<Try>,
     system: SysId,
@@ -58,11 +88,10 @@ fn add_tasks(
     for def in jobs {
         for _ in 0..def.tasks.len() {
             let of_deck = TaskId { system, job, task };
-            tries.push(any_time(if sends {
-                Choice::Send(of_deck)
-            } else {
-                Choice::Task(of_deck)
-            }))?;
+            tries.push(any_time(Choice::Task(of_deck)))?;
+            if sends {
+                tries.push(any_time(Choice::Send(of_deck)))?;
+            }
             task = task.saturating_add(1);
         }
         job = job.saturating_add(1);
@@ -70,13 +99,10 @@ fn add_tasks(
     Ok(())
 }
 
-/// Adds that owners are told, and interest is given up, in each of so many lock entries.
+/// Adds that owners are told in each of so many lock entries.
 fn add_entries(tries: &mut List<Try>, entries: u32) -> Result<(), NoMemory> {
     for entry in 0..entries {
         tries.push(any_time(Choice::Tell(entry)))?;
-    }
-    for entry in 0..entries {
-        tries.push(any_time(Choice::Leave(entry)))?;
     }
     Ok(())
 }
@@ -109,97 +135,217 @@ fn turn_or_take(node: &mut Node<'_>) -> Result<(Choice, Prepared), NoMemory>
     }
 }
 
+/// Whether the last event of a system fixed something, and whether it told something.
+fn last_brought(node: &Node<'_>) -> (bool, bool) {
+    match node.log().steps.as_slice().last() {
+        Some(step) => (step.fixed.len() != 0, step.told.len() != 0),
+        None => (false, false),
+    }
+}
+
 impl Lap {
     /// The choices of a system of a deck: its tasks go on, its desk commands; and in star mode its requests are sent, settled
     /// and told, and its interest in lock entries is given up.
     pub(crate) fn new(alloc: Global, deck: &Deck, system: SysId) -> Result<Lap, NoMemory> {
         let mut tries = List::new(alloc);
-        let mut of_ring = 0;
+        let mut later = List::new(alloc);
         if let Some(def) = deck.systems.as_slice().get(system.0 as usize) {
             add_tasks(&mut tries, system, def.jobs.as_slice(), false)?;
             add_desk(&mut tries, def.desk.as_slice())?;
-            of_ring = tries.len();
-            add_tasks(&mut tries, system, def.jobs.as_slice(), true)?;
+            add_tasks(&mut later, system, def.jobs.as_slice(), true)?;
+            add_desk(&mut later, def.desk.as_slice())?;
         }
-        tries.push(any_time(Choice::Settle))?;
-        add_entries(&mut tries, deck.entries)?;
+        later.push(any_time(Choice::Settle))?;
+        add_entries(&mut later, deck.entries)?;
+        let left = tries.len().saturating_mul(2);
         Ok(Lap {
             tries,
-            of_ring,
-            next: 0,
-            events: 0,
-            busy: false,
-            fresh: true,
-            steps: 0,
-            looked: false,
-            rested: false,
+            later,
             star: false,
+            next: 0,
+            left,
+            entries: deck.entries,
+            entry: 0,
+            events: 0,
+            last: Last::Nothing,
+            then: Then::Turn,
+            busy: false,
+            stays: false,
+            steps: 0,
         })
     }
 
-    /// Whether a choice is tried now. The interest in a lock entry is given up only where nothing is pending.
-    fn is_due(&self, one: Try, pending: bool) -> bool
-        ensures { result ≡ true → (is_leave one.choice && pending) ≡ false }
+    /// Whether a choice is tried now. A command of the desk is, once there were as many events, or all others had nothing to do.
+    fn is_due(&self, one: Try) -> bool
+        ensures { result ≡ true → is_leave one.choice ≡ false }
     {
+        let late = self.left <= self.tries.len();
         match one.choice {
-            Choice::Leave(_) => !pending,
-            Choice::Switch | Choice::Purge(_) => one.after <= self.events || !self.busy,
+            Choice::Leave(_) => false,
+            Choice::Switch | Choice::Purge(_) => late || one.after <= self.events,
             Choice::Task(_)
             | Choice::Turn
             | Choice::Send(_)
             | Choice::Take
             | Choice::Settle
             | Choice::Tell(_)
-            | Choice::Rest => true,
+            | Choice::Rest => !late,
         }
     }
 
-    /// Counts an event, and whether by it a task or a request got on.
-    fn count(&mut self, choice: Choice) {
-        self.events = self.events.saturating_add(1);
-        match choice {
-            Choice::Task(_) | Choice::Send(_) | Choice::Settle | Choice::Tell(_) => {
-                self.busy = true
+    /// The choice where the system is among them, if it is tried now.
+    fn here(&self) -> Option<Choice>
+        ensures { IfSome result (λ choice. is_leave choice ≡ false) }
+    {
+        match self.tries.as_slice().get(self.next) {
+            Some(one) if self.is_due(*one) => Some(one.choice),
+            Some(_) | None => None,
+        }
+    }
+
+    /// The system goes on to the next choice.
+    fn move_on(&mut self) {
+        self.left = self.left.saturating_sub(1);
+        self.next = self.next.saturating_add(1);
+        if self.next >= self.tries.len() {
+            self.next = 0;
+        }
+    }
+
+    /// The event that was picked last changed the system, so that each choice may have something to do. It fixed something, and told
+    /// something, or didn't.
+    fn changed(&mut self, fixed: bool, told: bool) {
+        match self.last {
+            Last::Rest => {
+                self.last = Last::Nothing;
+                return;
             }
-            Choice::Turn
-            | Choice::Take
-            | Choice::Leave(_)
-            | Choice::Switch
-            | Choice::Purge(_)
-            | Choice::Rest => {}
+            Last::Turn => {
+                self.busy = self.busy || fixed || told;
+                self.stays = !fixed;
+            }
+            Last::Nothing | Last::Choice | Last::Leave | Last::Look => self.busy = true,
+        }
+        if !matches!(self.last, Last::Leave) {
+            self.entry = 0;
+        }
+        self.left = self.tries.len().saturating_mul(2);
+        if matches!(self.then, Then::Nothing) {
+            self.then = Then::Rest;
+        }
+        if !matches!(self.last, Last::Look) {
+            self.last = Last::Nothing;
         }
     }
 
-    /// Sees whether the event that was picked last changed the system. Where it didn't, another thread may run before the next.
+    /// The event that was picked last changed nothing.
+    fn unchanged(&mut self) {
+        if matches!(self.last, Last::Leave) {
+            self.entry = self.entry.saturating_add(1);
+        }
+        self.last = Last::Nothing;
+    }
+
+    /// The system came into star mode, so that more choices can have something to do.
+    fn enter_star(&mut self) {
+        std::mem::swap(&mut self.tries, &mut self.later);
+        self.star = true;
+        self.next = 0;
+        self.left = self.tries.len().saturating_mul(2);
+        self.then = Then::Turn;
+    }
+
+    /// Sees whether the event that was picked last changed the system.
     fn look_back(&mut self, node: &Node<'_>) {
+        if !self.star && node.known_at_turn().is_none() {
+            self.enter_star();
+        }
         let steps = node.log().steps.len();
         if steps == self.steps {
-            self.looked = false;
-            thread::yield_now();
+            self.unchanged();
         } else {
             self.steps = steps;
-            self.fresh = true;
+            let (fixed, told) = last_brought(node);
+            self.changed(fixed, told);
         }
     }
 
-    /// How many of the choices, from the first on, may have something to do.
-    fn due_count(&self) -> usize
-        ensures { result ≤ length self.now.tries }
-    {
-        if !self.fresh {
-            0
-        } else if self.star {
-            self.tries.len()
-        } else {
-            self.of_ring.min(self.tries.len())
-        }
+    /// Whether the event that was picked last was a turn, or a look into the inbox.
+    pub(crate) fn asked(&self) -> bool {
+        matches!(self.last, Last::Turn | Last::Look)
     }
 
-    /// All choices were gone through. They are again where an event was made since the first of them, or the system changes.
-    fn end(&mut self) {
-        self.fresh = self.fresh && self.next > 0;
-        self.next = 0;
+    /// The medium may have changed, so that a turn, or a look into the inbox, is due.
+    pub(crate) fn wake(&mut self) {
+        self.then = Then::Turn;
         self.busy = false;
+    }
+
+    /// The choice where the system is among them, if it has something to do.
+    fn try_here(&mut self, node: &mut Node<'_>) -> Result<Option<(Choice, Prepared)>, NoMemory>
+        ensures same { node.new ≡ node.old }
+        ensures prepared { IfOk result (λ o. IfSome o (λ x. x.1 ≡ prepare node.old.deck node.old.node x.0)) }
+        ensures some { IfOk result (λ o. IfSome o (λ x. x.1 ≢ Nothing)) }
+        ensures addressed { IfOk result (λ o. IfSome o (λ x. is_addressed node.old.deck node.old.node.tasks.system x.1 ≡ true)) }
+        ensures in_time { IfOk result (λ o. IfSome o (λ x. is_early node.old x.0 ≡ false)) }
+    {
+        let here = self.here();
+        self.move_on();
+        if let Some(choice) = here {
+            match node.prepare(&choice)? {
+                Prepared::Nothing => {}
+                prepared => {
+                    self.events = self.events.saturating_add(1);
+                    self.last = Last::Choice;
+                    return Ok(Some((choice, prepared)));
+                }
+            }
+        }
+        Ok(None)
+    }
+
+    /// The next of the choices that has something to do. Where nothing is pending none has.
+    fn find(&mut self, node: &mut Node<'_>) -> Result<Option<(Choice, Prepared)>, NoMemory>
+        ensures same { node.new ≡ node.old }
+        ensures prepared { IfOk result (λ o. IfSome o (λ x. x.1 ≡ prepare node.old.deck node.old.node x.0)) }
+        ensures some { IfOk result (λ o. IfSome o (λ x. x.1 ≢ Nothing)) }
+        ensures addressed { IfOk result (λ o. IfSome o (λ x. is_addressed node.old.deck node.old.node.tasks.system x.1 ≡ true)) }
+        ensures in_time { IfOk result (λ o. IfSome o (λ x. is_early node.old x.0 ≡ false)) }
+    {
+        for tried in 0..self.left {
+            if tried == SOME_TRIES && !node.pending() {
+                self.left = 0;
+                return Ok(None);
+            }
+            if let Some(found) = self.try_here(node)? {
+                return Ok(Some(found));
+            }
+        }
+        Ok(None)
+    }
+
+    /// The next lock entry in which interest can be given up, where nothing is pending.
+    fn leave(&mut self, node: &mut Node<'_>) -> Result<Option<(Choice, Prepared)>, NoMemory>
+        requires { is_pending node.old.deck node.old.node ≡ false }
+        ensures same { node.new ≡ node.old }
+        ensures prepared { IfOk result (λ o. IfSome o (λ x. x.1 ≡ prepare node.old.deck node.old.node x.0)) }
+        ensures some { IfOk result (λ o. IfSome o (λ x. x.1 ≢ Nothing)) }
+        ensures addressed { IfOk result (λ o. IfSome o (λ x. is_addressed node.old.deck node.old.node.tasks.system x.1 ≡ true)) }
+        ensures in_time { IfOk result (λ o. IfSome o (λ x. is_early node.old x.0 ≡ false)) }
+    {
+        for entry in self.entry..self.entries {
+            let choice = Choice::Leave(entry);
+            match node.prepare(&choice)? {
+                Prepared::Nothing => {}
+                prepared => {
+                    self.entry = entry;
+                    self.last = Last::Leave;
+                    return Ok(Some((choice, prepared)));
+                }
+            }
+        }
+        self.entry = self.entries;
+        Ok(None)
     }
 
     /// A turn, or a look into the inbox.
@@ -211,38 +357,95 @@ impl Lap {
         ensures in_time { IfOk result (λ x. is_early node.old x.0 ≡ false) }
     {
         let (choice, prepared) = turn_or_take(node)?;
-        self.rested = false;
-        self.looked = matches!(choice, Choice::Take);
-        if self.looked && !self.star {
-            self.star = true;
-            self.fresh = true;
+        self.then = Then::Rest;
+        self.stays = false;
+        self.last = Last::Turn;
+        if matches!(choice, Choice::Take) {
+            self.last = Last::Look;
         }
         Ok((choice, prepared))
     }
 
-    /// Behind all other choices: a rest, and a turn or a look into the inbox, one after the other.
-    fn rest_or_turn(&mut self, node: &mut Node<'_>) -> Result<(Choice, Prepared), NoMemory>
+    /// A rest, if nothing is pending.
+    fn rest(&mut self, node: &mut Node<'_>) -> Result<Option<(Choice, Prepared)>, NoMemory>
         ensures same { node.new ≡ node.old }
-        ensures prepared { IfOk result (λ x. x.1 ≡ prepare node.old.deck node.old.node x.0) }
-        ensures some { IfOk result (λ x. x.1 ≢ Nothing) }
-        ensures addressed { IfOk result (λ x. is_addressed node.old.deck node.old.node.tasks.system x.1 ≡ true) }
-        ensures in_time { IfOk result (λ x. is_early node.old x.0 ≡ false) }
+        ensures prepared { IfOk result (λ o. IfSome o (λ x. x.1 ≡ prepare node.old.deck node.old.node x.0)) }
+        ensures some { IfOk result (λ o. IfSome o (λ x. x.1 ≢ Nothing)) }
+        ensures addressed { IfOk result (λ o. IfSome o (λ x. is_addressed node.old.deck node.old.node.tasks.system x.1 ≡ true)) }
+        ensures in_time { IfOk result (λ o. IfSome o (λ x. is_early node.old x.0 ≡ false)) }
     {
-        if self.rested {
-            return self.turn(node);
-        }
+        self.then = Then::Nothing;
         match node.prepare(&Choice::Rest)? {
-            Prepared::Nothing => self.turn(node),
+            Prepared::Nothing => Ok(None),
             prepared => {
-                self.rested = true;
-                self.looked = false;
-                Ok((Choice::Rest, prepared))
+                self.last = Last::Rest;
+                Ok(Some((Choice::Rest, prepared)))
             }
         }
     }
 
-    /// The next choice that has something to do, and what it comes to. Mail is taken until the inbox is empty; then all choices
-    /// are gone through, as long as the system changes.
+    /// Interest in a lock entry is given up in star mode, where nothing is pending.
+    fn leave_if(&mut self, node: &mut Node<'_>) -> Result<Option<(Choice, Prepared)>, NoMemory>
+        ensures same { node.new ≡ node.old }
+        ensures prepared { IfOk result (λ o. IfSome o (λ x. x.1 ≡ prepare node.old.deck node.old.node x.0)) }
+        ensures some { IfOk result (λ o. IfSome o (λ x. x.1 ≢ Nothing)) }
+        ensures addressed { IfOk result (λ o. IfSome o (λ x. is_addressed node.old.deck node.old.node.tasks.system x.1 ≡ true)) }
+        ensures in_time { IfOk result (λ o. IfSome o (λ x. is_early node.old x.0 ≡ false)) }
+    {
+        if !self.star || self.entry >= self.entries || node.pending() {
+            return Ok(None);
+        }
+        self.leave(node)
+    }
+
+    /// Behind all other choices: a turn or a look into the inbox, and then a rest, each once until the system changes or is woken.
+    fn turn_then_rest(
+        &mut self,
+        node: &mut Node<'_>,
+    ) -> Result<Option<(Choice, Prepared)>, NoMemory>
+        ensures same { node.new ≡ node.old }
+        ensures prepared { IfOk result (λ o. IfSome o (λ x. x.1 ≡ prepare node.old.deck node.old.node x.0)) }
+        ensures some { IfOk result (λ o. IfSome o (λ x. x.1 ≢ Nothing)) }
+        ensures addressed { IfOk result (λ o. IfSome o (λ x. is_addressed node.old.deck node.old.node.tasks.system x.1 ≡ true)) }
+        ensures in_time { IfOk result (λ o. IfSome o (λ x. is_early node.old x.0 ≡ false)) }
+    {
+        match self.then {
+            Then::Turn => Ok(Some(self.turn(node)?)),
+            Then::Rest | Then::Nothing if self.stays && node.pending() => {
+                Ok(Some(self.turn(node)?))
+            }
+            Then::Rest if !self.busy => self.rest(node),
+            Then::Rest | Then::Nothing => Ok(None),
+        }
+    }
+
+    /// The next choice that has something to do, and what it comes to; none where there is nothing to do until the medium changes.
+    /// Mail is taken until the inbox is empty; then the choices are gone through, as long as the system changes.
+    pub(crate) fn next(
+        &mut self,
+        node: &mut Node<'_>,
+    ) -> Result<Option<(Choice, Prepared)>, NoMemory>
+        ensures same { node.new ≡ node.old }
+        ensures prepared { IfOk result (λ o. IfSome o (λ x. x.1 ≡ prepare node.old.deck node.old.node x.0)) }
+        ensures some { IfOk result (λ o. IfSome o (λ x. x.1 ≢ Nothing)) }
+        ensures addressed { IfOk result (λ o. IfSome o (λ x. is_addressed node.old.deck node.old.node.tasks.system x.1 ≡ true)) }
+        ensures in_time { IfOk result (λ o. IfSome o (λ x. is_early node.old x.0 ≡ false)) }
+    {
+        self.look_back(node);
+        if matches!(self.last, Last::Look) {
+            return Ok(Some(self.turn(node)?));
+        }
+        if let Some(found) = self.find(node)? {
+            return Ok(Some(found));
+        }
+        if let Some(found) = self.leave_if(node)? {
+            return Ok(Some(found));
+        }
+        self.turn_then_rest(node)
+    }
+
+    /// The next choice that has something to do, and what it comes to. Where there is nothing to do until the medium changes it is a
+    /// turn or a look into the inbox, by turns with a rest; another thread may run before.
     pub(crate) fn pick(&mut self, node: &mut Node<'_>) -> Result<(Choice, Prepared), NoMemory>
         ensures same { node.new ≡ node.old }
         ensures prepared { IfOk result (λ x. x.1 ≡ prepare node.old.deck node.old.node x.0) }
@@ -250,25 +453,13 @@ impl Lap {
         ensures addressed { IfOk result (λ x. is_addressed node.old.deck node.old.node.tasks.system x.1 ≡ true) }
         ensures in_time { IfOk result (λ x. is_early node.old x.0 ≡ false) }
     {
-        self.look_back(node);
-        if self.looked {
-            return self.turn(node);
-        }
-        let pending = node.pending();
-        for place in self.next..self.due_count() {
-            let one = *self.tries.get(place);
-            if self.is_due(one, pending) {
-                match node.prepare(&one.choice)? {
-                    Prepared::Nothing => {}
-                    prepared => {
-                        self.next = place + 1;
-                        self.count(one.choice);
-                        return Ok((one.choice, prepared));
-                    }
-                }
+        match self.next(node)? {
+            Some(found) => Ok(found),
+            None => {
+                thread::yield_now();
+                self.wake();
+                self.turn(node)
             }
         }
-        self.end();
-        self.rest_or_turn(node)
     }
 }

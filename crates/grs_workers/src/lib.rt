@@ -5,8 +5,10 @@
 mod crew;
 mod gate;
 mod lap;
+mod news;
 mod rounds;
 mod run;
+mod stretch;
 mod worker;
 
 pub use crew::workers_of;

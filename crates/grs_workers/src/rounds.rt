@@ -1,9 +1,9 @@
 //! Rounds by fork and join: all workers at once, each with as many events as a round has.
-ghost use Rattle.std.specs.Prelude.{◌≡◌, true, false, All, IfOk, IfErr, OnOk};
+ghost use Rattle.std.specs.Prelude.{◌≡◌, ◌≢◌, true, false, All, IfOk, IfErr, OnOk};
 ghost use Rattle.std.specs.List.{list_all};
-ghost use Rattle.grs_node.specs.Addressed.{is_act_addressed};
+ghost use Rattle.grs_node.specs.Addressed.{is_act_addressed, is_addressed};
 ghost use Rattle.grs_node.specs.Node.{prepare};
-ghost use Rattle.grs_node.specs.declared.prepared.Prepared.TheVariants.{Call as Calls};
+ghost use Rattle.grs_node.specs.declared.prepared.Prepared.TheVariants.{Call as Calls, Nothing};
 ghost use Rattle.grs_workers.specs.Stands.{stand, IsOn, Agrees, Deed, is_last, is_last_reply, is_early, IsDone};
 ghost use Rattle.grs_workers.specs.Rounds.{Went, Grew, Each, HasWorked, is_out};
 
@@ -21,7 +21,7 @@ use std::thread::Threads;
 const MOST_EVENTS: u32 = 64;
 
 /// The most threads of a round.
-const MOST_THREADS: usize = 64;
+pub(crate) const MOST_THREADS: usize = 64;
 
 /// Whether a reply ends the round of its worker.
 fn is_last_reply(reply: &Reply) -> bool
@@ -58,6 +58,35 @@ fn make_call<R: Wait, G: Gate>(
     Ok(out)
 }
 
+/// An event: whether its reply ends the round.
+pub(crate) fn act<R: Wait, G: Gate>(
+    rt: &R,
+    bus: &Bus,
+    worker: &mut Worker<'_>,
+    gate: &G,
+    choice: Choice,
+    prepared: Prepared,
+) -> Result<bool, NoMemory>
+    requires on { IsOn bus.now (stand worker.old) }
+    requires agrees { Agrees (stand worker.old) }
+    requires prepared { prepared ≡ prepare worker.old.node.deck worker.old.node.node choice }
+    requires some { prepared ≢ Nothing }
+    requires addressed { is_addressed worker.old.node.deck worker.old.node.node.tasks.system prepared ≡ true }
+    requires in_time { is_early worker.old.node choice ≡ false }
+    ensures done { IfOk result (λ out. (d : Deed) × IsDone (stand worker.old) d (stand worker.new) × (is_last d ≡ out)) }
+    ensures on { OnOk result (IsOn bus.now (stand worker.new)) }
+    ensures agrees { OnOk result (Agrees (stand worker.new)) }
+{
+    match prepared {
+        Prepared::Quiet => {
+            worker.node.finish(&choice, None)?;
+            Ok(false)
+        }
+        Prepared::Call(call) => make_call(rt, bus, worker, gate, choice, call),
+        Prepared::Nothing => unreachable!(),
+    }
+}
+
 /// The next event that has something to do: whether its reply ends the round.
 fn event<R: Wait, G: Gate>(
     rt: &R,
@@ -72,14 +101,7 @@ fn event<R: Wait, G: Gate>(
     ensures agrees { OnOk result (Agrees (stand worker.new)) }
 {
     let (choice, prepared) = worker.lap.pick(&mut worker.node)?;
-    match prepared {
-        Prepared::Quiet => {
-            worker.node.finish(&choice, None)?;
-            Ok(false)
-        }
-        Prepared::Call(call) => make_call(rt, bus, worker, gate, choice, call),
-        Prepared::Nothing => unreachable!(),
-    }
+    act(rt, bus, worker, gate, choice, prepared)
 }
 
 /// The events of a round: whether one was answered Over or Removed. Behind that the worker makes none.
@@ -132,7 +154,7 @@ fn all_work<R: Threads + Wait + Sync, G: Gate + Sync>(
 }
 
 /// Whether each worker was answered Over or Removed.
-fn all_out(workers: &[Worker<'_>]) -> Result<bool, NoMemory>
+pub(crate) fn all_out(workers: &[Worker<'_>]) -> Result<bool, NoMemory>
     ensures out { IfOk result (λ all. all ≡ list_all (λ w. is_out w.outcome) workers.now) }
     ensures ok { OnOk result (All (λ w. IfErr w.outcome (λ _. ⊥)) workers.now) }
 {

@@ -8,6 +8,7 @@ ghost use Rattle.grs_workers.specs.Stands.{stand, IsOn, Agrees};
 use crate::crew::workers_of;
 use crate::gate::Gate;
 use crate::rounds::round;
+use crate::stretch::stretch;
 use crate::worker::Worker;
 use grs_base::{List, NoMemory};
 use grs_bus::{Bus, Seat};
@@ -43,7 +44,7 @@ fn begin<'d>(alloc: Global, deck: &'d Deck) -> Result<(Bus, Vec<Worker<'d>>), No
     Ok((bus, workers))
 }
 
-/// Rounds, until each worker is answered Over or Removed in one.
+/// A stretch, and rounds, until each worker is answered Over or Removed in one.
 #[tactic(auto, using(crate::proofs::RoundLaws::rounds))]
 fn rounds<R: Threads + Wait + Sync, G: Gate + Sync>(
     rt: &R,
@@ -57,6 +58,7 @@ fn rounds<R: Threads + Wait + Sync, G: Gate + Sync>(
     ensures over { OnOk result (All (λ w. IsOver (stand w)) workers.new) }
     ensures on { OnOk result (All (λ w. IsOn bus.now (stand w)) workers.new) }
 {
+    stretch(rt, bus, workers, gate)?;
     for _ in rt.forever() {
         if round(rt, bus, workers, gate)? {
             return Ok(());

@@ -16,3 +16,8 @@ loop-preserved g c = record {
       c.in_ok-round.ensures.grew;
   count = c.round.auto.workers ∙ c.loop.invariant.count;
 }
+
+pub returns-then-branch-clause-grew : goal.returns-then-branch-clause-grew
+returns-then-branch-clause-grew g c =
+    grew-again c.args.workers.now c.loop.workers c.round.new.workers c.loop.invariant.count c.loop.invariant.grew
+    c.in_ok-round.ensures.grew
