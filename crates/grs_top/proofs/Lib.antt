@@ -6,3 +6,8 @@ pub mod DueLemmas
 pub mod OneItem
 mod Samples
 mod StarSamples
+mod Rounds
+mod HistoryLen
+mod GenAnswering
+mod GenLaws
+mod GenLine

@@ -6,4 +6,6 @@ pub mod Seen
 pub mod Beside
 pub mod Due
 pub mod Answers
+pub mod Generated
+pub mod Forms
 pub mod Whole

@@ -11,7 +11,8 @@ use Rattle.grs_report.specs.Report.{report}
 use Rattle.grs_report.specs.Ends.{all_ended}
 use Rattle.grs_top.specs.declared.status.Status.{Status}
 use Rattle.grs_top.specs.declared.status.Status.TheVariants.{Done, Waits}
-use Rattle.grs_top.specs.Tasks.{tasks_of, ends_at}
+use Rattle.deck_tasks.specs.Tasks.{tasks_of}
+use Rattle.grs_top.specs.Tasks.{ends_at}
 
 -- What a run of a deck shows: its events and history, what was told, the lists that the history leaves,
 -- the units that are reserved in hardware, the lock words and the mode of the medium, and the end of each task.

@@ -1,6 +1,12 @@
--- Which words name a command.
-use Rattle.std.specs.Prelude.{ℕ, List, [], ◌∷◌, codes, Option, None, Some, if◌then◌else◌}
+-- Which words ask for what.
+use Rattle.std.specs.Prelude.{ℕ, ◌+◌, ◌*◌, ◌-◌, ◌==◌, nat_le, not, ◌&&◌, cond, List, [], ◌∷◌, codes, Option, None, Some}
+use Rattle.std.specs.Prelude.{if◌then◌else◌}
+use Rattle.std.specs.Option.{option_map}
 use Rattle.std.specs.Str.{bytes_eq}
+use Rattle.grs_base.specs.Limits.{most_tasks}
+use Rattle.grs_base.specs.ShortNames.{is_digit}
+use Rattle.grs_top.specs.declared.words.Form.{Form}
+use Rattle.grs_top.specs.declared.words.Form.TheVariants.{OfDeck, Generate}
 use Rattle.grs_top.specs.declared.words.Command.{Command}
 use Rattle.grs_top.specs.declared.words.Command.TheVariants.{Replay, Run, Lists}
 
@@ -11,8 +17,25 @@ command_named word =
     else (if bytes_eq word (codes "run") then Some Run
     else (if bytes_eq word (codes "lists") then Some Lists else None))
 
--- the command of the words after the program's name: one word alone
-abbrev pub command_of : List (List ℕ) → Option Command
-command_of [] = None
-command_of (word ∷ []) = command_named word
-command_of (word ∷ other ∷ more) = None
+-- a number of which a deck can be made: 1 to 64
+abbrev pub size_in : ℕ → Option ℕ
+size_in n = cond (nat_le 1 n && nat_le n most_tasks) (Some n) None
+
+-- the number that a word is, in one or two decimal digits of which the first is no zero
+abbrev pub size_named : List ℕ → Option ℕ
+size_named [] = None
+size_named (unit ∷ []) = cond (is_digit unit) (size_in (unit - 48)) None
+size_named (ten ∷ unit ∷ []) =
+    cond (is_digit ten && not (ten == 48) && is_digit unit) (size_in ((ten - 48) * 10 + (unit - 48))) None
+size_named (ten ∷ unit ∷ other ∷ more) = None
+
+-- gen, and a number
+abbrev pub form_of_two : List ℕ → List ℕ → Option Form
+form_of_two word number = if bytes_eq word (codes "gen") then option_map Generate (size_named number) else None
+
+-- The form of the words after the program's name: one word alone that names a command, or gen and a number.
+abbrev pub form_of : List (List ℕ) → Option Form
+form_of [] = None
+form_of (word ∷ []) = option_map OfDeck (command_named word)
+form_of (word ∷ number ∷ []) = form_of_two word number
+form_of (word ∷ number ∷ other ∷ more) = None

@@ -2,11 +2,13 @@
 ghost use Rattle.std.specs.Prelude.{◌≡◌, ◌≢◌, IfOk, OnOk, IfSome, IfNone, Err, map, string_bytes};
 ghost use Rattle.grs_io.specs.Faults.{HasRisen};
 ghost use Rattle.grs_top.specs.Answers.{streams, Answers, ReadsDue, Writes};
-ghost use Rattle.grs_top.specs.Words.{command_of};
+ghost use Rattle.grs_top.specs.Forms.{AnswersForm};
+ghost use Rattle.grs_top.specs.Words.{form_of};
 
 use super::Status;
 use super::due::{Due, due_by_run, due_for};
-use super::words::{Command, command_of};
+use super::generate::gen_command;
+use super::words::{Command, Form, form_of};
 use deck_scan::MOST_TEXT_BYTES;
 use grs_io::{ReadFailure, Sink, Source, read_all, write_all};
 use grs_workers::Gate;
@@ -48,7 +50,7 @@ fn read_run<R: Threads + Wait + Sync, S: Source, G: Gate + Sync>(
 
 /// Writes what is due.
 #[tactic(none)]
-fn write_due<K: Sink>(sink: &mut K, due: &Due) -> Status
+pub(crate) fn write_due<K: Sink>(sink: &mut K, due: &Due) -> Status
     ensures { Writes (K.written sink.old) (K.written sink.new) (K.faults sink.old) (K.faults sink.new)
         due.now.out due.now.status result }
 {
@@ -134,8 +136,9 @@ pub fn lists_command<S: Source, K: Sink>(alloc: Global, source: &mut S, sink: &m
     answer(alloc, Command::Lists, source, sink)
 }
 
-/// Does what the words after the program's name ask for. The words are `replay`, `run` or `lists`; no others are
-/// known, and `Words` is the answer to these: then nothing is read and nothing written. Only `run` waits, and looks at the gate.
+/// Does what the words after the program's name ask for. The words are `replay`, `run` or `lists`, or `gen` and a number from 1
+/// to 64; no others are known, and `Words` is the answer to these: then nothing is read and nothing written. Nothing is read for
+/// `gen` either. Only `run` waits, and looks at the gate.
 pub fn grs<R: Threads + Wait + Sync, S: Source, K: Sink, G: Gate + Sync>(
     rt: &R,
     alloc: Global,
@@ -144,21 +147,22 @@ pub fn grs<R: Threads + Wait + Sync, S: Source, K: Sink, G: Gate + Sync>(
     sink: &mut K,
     gate: &G,
 ) -> Status
-    ensures command { IfSome (command_of (map string_bytes words.now)) (λ command. Answers command
+    ensures form { IfSome (form_of (map string_bytes words.now)) (λ form. AnswersForm form
         (streams (S.left source.old) (K.written sink.old) (S.faults source.old) (K.faults sink.old))
         (streams (S.left source.new) (K.written sink.new) (S.faults source.new) (K.faults sink.new))
         result) }
     // Other words are answered Words alone, and nothing happens.
-    ensures words { IfNone (command_of (map string_bytes words.now)) (result ≡ Status.Words) }
-    ensures unread { IfNone (command_of (map string_bytes words.now))
+    ensures words { IfNone (form_of (map string_bytes words.now)) (result ≡ Status.Words) }
+    ensures unread { IfNone (form_of (map string_bytes words.now))
         ((S.left source.new ≡ S.left source.old) × (S.faults source.new ≡ S.faults source.old)) }
-    ensures unwritten { IfNone (command_of (map string_bytes words.now))
+    ensures unwritten { IfNone (form_of (map string_bytes words.now))
         ((K.written sink.new ≡ K.written sink.old) × (K.faults sink.new ≡ K.faults sink.old)) }
 {
-    match command_of(words) {
-        Some(Command::Replay) => replay_command(alloc, source, sink),
-        Some(Command::Run) => run_command(rt, alloc, source, sink, gate),
-        Some(Command::Lists) => lists_command(alloc, source, sink),
+    match form_of(words) {
+        Some(Form::OfDeck(Command::Replay)) => replay_command(alloc, source, sink),
+        Some(Form::OfDeck(Command::Run)) => run_command(rt, alloc, source, sink, gate),
+        Some(Form::OfDeck(Command::Lists)) => lists_command(alloc, source, sink),
+        Some(Form::Generate(n)) => gen_command(alloc, n, sink),
         None => Status::Words,
     }
 }

@@ -1,9 +1,12 @@
-//! The law of the commands, which follows from what each says of its source and sink, and those of systems that ran beside each
-//! other. There is nothing to run.
+//! The laws of the commands, which follow from what each says of its source and sink, those of systems that ran beside each
+//! other, and that of runs that are made from a number. There is nothing to run.
 ghost use Rattle.grs_top.specs.Beside.{MergedRuns, MergedRests};
+ghost use Rattle.grs_top.specs.Generated.{LineUnlessMemory, GeneratedRuns};
 ghost use Rattle.grs_top.specs.Whole.{WholeUnlessMemory};
 
 use grs_deck::one_deck;
+use grs_gen::laws::are_decks;
+use grs_world::laws::runs_are_sound;
 
 /// A source whose bytes spell a deck is answered by the whole text of the command, unless a read or write
 /// fails or memory is wanted.
@@ -26,3 +29,17 @@ pub fn merged_runs()
 pub fn merged_rests()
     ensures { MergedRests }
 {}
+
+/// A sink is given the whole line of a number, unless a write fails or memory is wanted.
+pub fn line_unless_memory()
+    ensures { LineUnlessMemory }
+{}
+
+/// The rounds of the deck of a number are a run of this deck, a sound one, which is made until the world is at rest, unless 20,000
+/// rounds were made.
+pub fn generated_runs()
+    ensures { GeneratedRuns }
+{
+    are_decks();
+    runs_are_sound();
+}

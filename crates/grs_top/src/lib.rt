@@ -7,6 +7,7 @@ mod command;
 mod due;
 mod ends;
 mod fault_line;
+mod generate;
 pub mod laws;
 mod lists;
 mod seen;
@@ -15,6 +16,7 @@ mod words;
 
 pub use beside::seen_of;
 pub use command::{grs, lists_command, replay_command, run_command};
+pub use generate::gen_command;
 pub use seen::seen_by_replay;
 pub use status::Status;
-pub use words::Command;
+pub use words::{Command, Form};

@@ -4,7 +4,8 @@ ghost use Rattle.std.specs.Prelude.{◌≡◌, IfOk};
 ghost use Rattle.grs_wire.specs.Decks.{IsDeck};
 ghost use Rattle.grs_world.specs.World.{run, hist, told};
 ghost use Rattle.grs_world.specs.Running.{units_of};
-ghost use Rattle.grs_top.specs.Tasks.{tasks_of, ends_at};
+ghost use Rattle.deck_tasks.specs.Tasks.{tasks_of};
+ghost use Rattle.grs_top.specs.Tasks.{ends_at};
 ghost use Rattle.grs_top.specs.Seen.{seen_of_run};
 
 use super::ends::ends_of;

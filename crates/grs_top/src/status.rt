@@ -4,13 +4,13 @@ ghost use Rattle.std.specs.Prelude.{◌≡◌};
 /// How a command ended.
 #[derive(Clone, Copy, Debug, PartialEq, Eq)]
 pub enum Status {
-    /// The whole report was written, and each task ended; or the name lists were written.
+    /// The whole report, or the line of a number, was written, and each task ended; or the name lists were written.
     Done,
-    /// The whole report was written, and some task hasn't ended.
+    /// The whole report, or the line of a number, was written, and some task hasn't ended.
     Waits,
     /// The text is no deck, and the line of its first fault was written whole.
     Deck,
-    /// The words name no command. Nothing was read or written.
+    /// The words are of none of the forms. Nothing was read or written.
     Words,
     /// A read failed. Nothing was written.
     ReadFault,

@@ -1,6 +1,9 @@
 //! The words after the program's name. What a command does is not known here.
 ghost use Rattle.std.specs.Prelude.{◌≡◌, map, string_bytes};
-ghost use Rattle.grs_top.specs.Words.{command_named, command_of};
+ghost use Rattle.grs_top.specs.Words.{command_named, size_in, size_named, form_of_two, form_of};
+
+/// The greatest number of which a deck is made.
+const MOST_SIZE: u32 = 64;
 
 /// What the program can be asked to do.
 #[derive(Clone, Copy, Debug, PartialEq, Eq)]
@@ -11,6 +14,15 @@ pub enum Command {
     Run,
     /// Writes the name lists of a deck.
     Lists,
+}
+
+/// What the words after the program's name ask for.
+#[derive(Clone, Copy, Debug, PartialEq, Eq)]
+pub enum Form {
+    /// A command on a deck that is read.
+    OfDeck(Command),
+    /// The run of the deck that is made from this number, which is one from 1 to 64.
+    Generate(u32),
 }
 
 /// The command of a word.
@@ -28,12 +40,48 @@ fn command_named(word: &[u8]) -> Option<Command>
     }
 }
 
-/// The command that the words name, if they name one: `replay`, `run` or `lists`, alone.
-pub(crate) fn command_of(words: &[String]) -> Option<Command>
-    ensures { result ≡ command_of (map string_bytes words.now) }
+/// A number, where a deck can be made of it.
+fn size_in(number: u32) -> Option<u32>
+    ensures { result ≡ size_in number }
+{
+    if (1..=MOST_SIZE).contains(&number) {
+        Some(number)
+    } else {
+        None
+    }
+}
+
+/// The number from 1 to 64 that a word is, in decimal digits without a leading zero.
+fn size_named(word: &[u8]) -> Option<u32>
+    ensures { result ≡ size_named word.now }
+{
+    match word {
+        [unit] if unit.is_ascii_digit() => size_in(u32::from(unit - b'0')),
+        [ten, unit] if ten.is_ascii_digit() && *ten != b'0' && unit.is_ascii_digit() => {
+            size_in(u32::from(ten - b'0') * 10 + u32::from(unit - b'0'))
+        }
+        _ => None,
+    }
+}
+
+/// What two words ask for: `gen` and a number.
+fn form_of_two(word: &[u8], number: &[u8]) -> Option<Form>
+    ensures { result ≡ form_of_two word.now number.now }
+{
+    if word == b"gen".as_slice() {
+        size_named(number).map(Form::Generate)
+    } else {
+        None
+    }
+}
+
+/// What the words ask for, if they are of one of the forms: `replay`, `run` or `lists`, alone, or `gen` and a number.
+pub(crate) fn form_of(words: &[String]) -> Option<Form>
+    ensures { result ≡ form_of (map string_bytes words.now) }
 {
     match words {
-        [word] => command_named(word.as_bytes()),
+        [word] => command_named(word.as_bytes()).map(Form::OfDeck),
+        [word, number] => form_of_two(word.as_bytes(), number.as_bytes()),
         _ => None,
     }
 }

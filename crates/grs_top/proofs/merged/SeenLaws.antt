@@ -11,7 +11,8 @@ use Rattle.grs_wire.specs.declared.history.HistEntry.{HistEntry}
 use Rattle.grs_world.specs.Running.{nodes_of, units_of}
 use Rattle.grs_top.specs.Beside.{IsRun}
 use Rattle.grs_top.specs.Seen.{seen_of_run}
-use Rattle.grs_top.specs.Tasks.{tasks_of, ends_at}
+use Rattle.deck_tasks.specs.Tasks.{tasks_of}
+use Rattle.grs_top.specs.Tasks.{ends_at}
 
 -- what is seen of the medium, of the systems and of what they show together is what is seen of the run
 pub seen_is : (deck : Deck) (m : MediumState) (vs : List NodeView) (x : Merged) → IsRun deck m vs x

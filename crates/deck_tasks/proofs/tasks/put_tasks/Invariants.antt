@@ -1,6 +1,6 @@
 use Rattle.std.proofs.Common.{◌≡◌, ◌+◌, ◌++◌, drop, length}
-use Rattle.grs_top.specs.Tasks.{tasks_in}
-use Rattle.grs_top.proofs.ends.put_tasks.Given as goal
+use Rattle.deck_tasks.specs.Tasks.{tasks_in}
+use Rattle.deck_tasks.proofs.tasks.put_tasks.Given as goal
 
 abbrev pub invariant-loop-task : goal.invariant-loop-task
 invariant-loop-task l =

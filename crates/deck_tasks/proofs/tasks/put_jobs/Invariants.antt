@@ -1,7 +1,7 @@
 use Rattle.std.proofs.Common.{◌≡◌, ◌+◌, ◌++◌, drop}
 use Rattle.grs_wire.specs.Decks.{task_count}
-use Rattle.grs_top.specs.Tasks.{tasks_from}
-use Rattle.grs_top.proofs.ends.put_jobs.Given as goal
+use Rattle.deck_tasks.specs.Tasks.{tasks_from}
+use Rattle.deck_tasks.proofs.tasks.put_jobs.Given as goal
 
 abbrev pub invariant-loop-job : goal.invariant-loop-job
 invariant-loop-job l =

@@ -1,6 +1,6 @@
 use Rattle.std.proofs.Common.{◌≡◌, ◌++◌, drop}
-use Rattle.grs_top.specs.Tasks.{tasks_of_systems}
-use Rattle.grs_top.proofs.ends.tasks_of.Given as goal
+use Rattle.deck_tasks.specs.Tasks.{tasks_of_systems}
+use Rattle.deck_tasks.proofs.tasks.tasks_of_systems.Given as goal
 
 abbrev pub invariant-loop-place : goal.invariant-loop-place
 invariant-loop-place l =
