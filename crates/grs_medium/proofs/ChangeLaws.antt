@@ -1,9 +1,9 @@
 -- A call that is said to change the medium changes it.
 use Rattle.std.proofs.Common.{◌≡◌, ℕ, ◌+◌, ◌<◌, ◌≤◌, Bool, true, false, cond, not, ◌&&◌, ◌||◌, List, [], ◌∷◌, ◌++◌}
 use Rattle.std.proofs.Common.{length, drop, refl, ap, sym, ◌∙◌, subst, arith}
-use Rattle.std.specs.Prelude.{Option, Some, None, is_none, map, filter, ◌==◌, nat_lt, slice_set}
+use Rattle.std.specs.Prelude.{Option, Some, None, is_none, map, filter, find, ◌==◌, nat_lt, slice_set}
 use Rattle.std.specs.List.{list_any}
-use Rattle.std.proofs.lemmas.Bool.{and_parts, true≢false}
+use Rattle.std.proofs.lemmas.Bool.{and_parts, true≢false, eqb-true}
 use Rattle.std.proofs.lemmas.List.{append-nil, get_or-set_same, get_or_past, length-drop, length_push}
 use native.Mathlib.Decide.{dec_lt}
 use Rattle.grs_base.specs.declared.resource.SysId.{SysId}
@@ -15,11 +15,11 @@ use Rattle.grs_wire.specs.declared.medium.RingEntry.{RingEntry}
 use Rattle.grs_wire.specs.declared.medium.Reply.{Reply}
 use Rattle.grs_wire.specs.declared.medium.Reply.TheVariants.{Already}
 use Rattle.grs_wire.specs.LockWords.{manager, manager_number, is_manager, submitted, leave_changes, left_word}
-use Rattle.grs_wire.specs.Masks.{has, only}
+use Rattle.grs_wire.specs.Masks.{has, only, without}
 use Rattle.grs_wire.proofs.MaskLaws.{has-without_same, has-with_same}
 use Rattle.lock_structure.specs.Words.{word_at, route_by, route, submitted_words}
 use Rattle.lock_structure.proofs.WordLaws.{submitted-unmanaged, left_word-changed}
-use Rattle.rsa_message.specs.Message.{Message, stands_at, or_else, first_after, first_number, any_unseen, left_by}
+use Rattle.rsa_message.specs.Message.{Message, stands_at, after, or_else, first_after, first_number, any_unseen, left_by}
 use Rattle.rsa_message.specs.Message.{cleared, stamped, is_due, moves, turned_open, turned_closed, turned, turn_changes}
 use Rattle.grs_wire.specs.Unseen.{is_unseen, unseen}
 use Rattle.grs_medium.specs.Apply.{turn_row, switch_ring, switch_row, joined, submit_on, submit_row, take_from}
@@ -27,7 +27,7 @@ use Rattle.grs_medium.specs.Apply.{take_row, mail_row, leave_row, purge_row, res
 use Rattle.grs_medium.specs.Apply.{is_live, without_system}
 use Rattle.grs_medium.specs.Inboxes.{inbox_of, is_empty, with_mail, without_first}
 use Rattle.grs_medium.specs.Medium.{MediumState, systems_of, awake, inbox, live, word}
-use Rattle.grs_medium.specs.Changes.{ChangesWhatItSays, NamesWhatIsThere, WaitsForItsHolder}
+use Rattle.grs_medium.specs.Changes.{ChangesWhatItSays, NamesWhatIsThere}
 
 -- a call that isn't refused by the checks is its row
 behind_checks : {M : Type 0} (b k r : Bool) (m : M) (x : Reply × M) (y z : Reply) → (r ≡ true → ¬ (x.1 ≡ m))
@@ -85,15 +85,35 @@ open_moves m c [] lives rest here h e = by_unseen (any_unseen c m.entries) refl
         (append-nil (cleared c m.entries) ∙ entries) moved in
         apart_by (λ (x : Option SysId). stands_at x c) m.holder _ here (is_false _ asked) (sym holder)
 
-closed_moves : (m : Message) (c : SysId) → has m.still c.0 ≡ true → ¬ (turned_closed m c ≡ m)
-closed_moves m c waits e =
-    apart_by (λ (x : Message). has x.still c.0) m (turned_closed m c) waits (has-without_same m.still c.0) (sym e)
+-- a system that fails a test isn't found by it
+elsewhere-find : (test : SysId → Bool) (c : SysId) → test c ≡ false → (ss : List SysId)
+    → stands_at (find test ss) c ≡ false
+elsewhere-find test c fails [] = refl
+elsewhere-find test c fails (s ∷ ss) = by_test (test s) refl (elsewhere-find test c fails ss)
+  where
+    by_test : (b : Bool) → test s ≡ b → stands_at (find test ss) c ≡ false
+        → stands_at (cond b (Some s) (find test ss)) c ≡ false
+    by_test false fails_too none = none
+    by_test true passes none = by_number (s.0 == c.0) refl
+      where
+        by_number : (b : Bool) → (s.0 == c.0) ≡ b → b ≡ false
+        by_number false other = refl
+        by_number true same =
+            let number : s.0 ≡ c.0 = eqb-true s.0 c.0 same in
+            let test_of : test c ≡ true = subst (λ (n : ℕ). test (record { 0 = n }) ≡ true) number passes in
+            absurd (true≢false (sym test_of ∙ fails))
+
+-- A closed message goes on from where a Turn was made: to one that has yet to change, which the caller no longer has.
+closed_moves : (m : Message) (c : SysId) → stands_at m.holder c ≡ true → ¬ (turned_closed m c ≡ m)
+unfolding first_after
+closed_moves m c here e =
+    apart_by (λ (x : Message). stands_at x.holder c) m (turned_closed m c) here
+    (elsewhere-find (λ s. has (without m.still c.0) s.0) c (has-without_same m.still c.0) (after m.systems c)) (sym e)
 
 turned_moves : (m : Message) (c : SysId) (out : List Req) (lives rest : ℕ)
-    → (m.closed ≡ true → (s : SysId) → stands_at m.holder s ≡ true → has m.still s.0 ≡ true)
     → turn_changes m c (length out) lives rest ≡ true → ¬ (turned m c out lives rest ≡ m)
 unfolding turned turn_changes
-turned_moves m c out lives rest waits h =
+turned_moves m c out lives rest h =
     let parts = and_parts (stands_at m.holder c) _ h in
     rw parts.0 (by_closed m.closed refl parts.0 parts.1)
   where
@@ -102,7 +122,7 @@ turned_moves m c out lives rest waits h =
         || not (stands_at (Some (or_else (first_after m.systems c (is_due m.entries lives rest)) c)) c))
         ≡ true
         → ¬ (cond b (turned_closed m c) (turned_open m c out lives rest) ≡ m)
-    by_closed true closed here g = closed_moves m c (waits closed c here)
+    by_closed true closed here g = closed_moves m c here
     by_closed false closed here g = open_moves m c out lives rest here (rw closed at g)
 
 purge_moves : {M : Type 0} (s l : Bool) (m : M) (x : Reply × M) (y z : Reply) → (not s && l) ≡ true → ¬ (x.1 ≡ m)
@@ -177,32 +197,31 @@ leave_moves m c entry inside h =
     word_moves m.words entry (left_word (word m entry) c) inside (left_word-changed (word m entry) c h)
     (ap (λ (x : MediumState). x.words) e))
 
-row_moves : (m : MediumState) (c : SysId) (act : Act) → NamesWhatIsThere m act → WaitsForItsHolder m
-    → row_changes m c act ≡ true → ¬ ((row m c act).1 ≡ m)
+row_moves : (m : MediumState) (c : SysId) (act : Act) → NamesWhatIsThere m act → row_changes m c act ≡ true
+    → ¬ ((row m c act).1 ≡ m)
 unfolding row row_changes turn_row switch_row submit_row route take_row mail_row purge_row rest_row
-row_moves m c (Turn out) there waits
-    h = λ e. turned_moves m.message c out (live m) m.rest waits h (ap (λ (x : MediumState). x.message) e)
-row_moves m c (Purge t) there waits h =
+row_moves m c (Turn out) there h = λ e. turned_moves m.message c out (live m) m.rest h (ap (λ (x : MediumState). x.message) e)
+row_moves m c (Purge t) there h =
     let living = and_parts (not m.star) (is_live m t) h in
     let present = and_parts (nat_lt t.0 (systems_of m)) (not (has m.removed t.0)) living.1 in
     purge_moves m.star (is_live m t) m _ _ _ h (λ e.
     apart_by (λ (x : MediumState). has x.removed t.0) (without_system m c t) m (has-with_same m.removed t.0)
     (is_false (has m.removed t.0) present.1) e)
-row_moves m c Rest there waits h = λ e.
+row_moves m c Rest there h = λ e.
     apart_by (λ (x : MediumState). has x.rest c.0) _ m (has-with_same m.rest c.0) (is_false (has m.rest c.0) h) e
-row_moves m c (Switch words) there waits h =
+row_moves m c (Switch words) there h =
     switch_moves m c words m.star refl (first_number (unseen c m.message.entries)) h
-row_moves m c (Submit entry req) there waits h =
+row_moves m c (Submit entry req) there h =
     submit_moves m c entry req (manager (word m entry)) refl there.0 there.1 h (unless _ m _ (is_false _ h))
-row_moves m c Take there waits h = take_moves m c (inbox m c.0) refl h
-row_moves m c (Settle to mail) there waits
+row_moves m c Take there h = take_moves m c (inbox m c.0) refl h
+row_moves m c (Settle to mail) there
     h = λ e. mail_moves m.inboxes to.0 mail there (ap (λ (x : MediumState). x.inboxes) e)
-row_moves m c (Tell to mail) there waits
+row_moves m c (Tell to mail) there
     h = λ e. mail_moves m.inboxes to.0 mail there (ap (λ (x : MediumState). x.inboxes) e)
-row_moves m c (Leave entry) there waits h = leave_moves m c entry there h
+row_moves m c (Leave entry) there h = leave_moves m c entry there h
 
 pub changes_what_it_says : ChangesWhatItSays
 unfolding apply changes
-changes_what_it_says m c call there waits h =
+changes_what_it_says m c call there h =
     behind_checks (has m.removed c.0) (call.known == m.removed) (row_changes m c call.act) m (row m c call.act) _ _
-    (row_moves m c call.act there waits) h
+    (row_moves m c call.act there) h

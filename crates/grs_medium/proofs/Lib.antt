@@ -5,6 +5,7 @@ pub mod InboxLaws
 pub mod KeepLaws
 pub mod KeptSizes
 pub mod ChangeLaws
+pub mod Differs
 pub mod ReplyKinds
 pub mod CauseLaws
 pub mod StarCauses

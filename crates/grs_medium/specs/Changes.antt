@@ -1,7 +1,5 @@
 -- What is said of calls that change the medium, and of calls that don't.
-use Rattle.std.specs.Prelude.{◌≡◌, ◌<◌, ◌≤◌, true, false, length}
-use Rattle.grs_wire.specs.Masks.{has}
-use Rattle.rsa_message.specs.Message.{stands_at}
+use Rattle.std.specs.Prelude.{◌≡◌, ◌<◌, ◌≤◌, Bool, true, false, length}
 use Rattle.grs_base.specs.declared.resource.SysId.{SysId}
 use Rattle.grs_wire.specs.LockWords.{manager, manager_number}
 use Rattle.grs_wire.specs.declared.medium.Act.{Act}
@@ -13,11 +11,6 @@ use Rattle.grs_medium.specs.Medium.{MediumState, word}
 -- A call that isn't said to change the medium leaves it as it was.
 abbrev pub LeavesTheRest : Type 0
 LeavesTheRest = (m : MediumState) (c : SysId) (call : Call) → changes m c call ≡ false → medium_after m c call ≡ m
-
--- where a closed message stands at a system, that one has yet to change to star mode
-abbrev pub WaitsForItsHolder : MediumState → Type 0
-WaitsForItsHolder m =
-    m.message.closed ≡ true → (c : SysId) → stands_at m.message.holder c ≡ true → has m.message.still c.0 ≡ true
 
 -- The lock entry that an act names is there, and so is the inbox that gets its mail.
 abbrev pub NamesWhatIsThere : MediumState → Act → Type 0
@@ -31,5 +24,10 @@ NamesWhatIsThere m act = Unit {0}
 -- A call that is said to change the medium doesn't leave it as it was.
 abbrev pub ChangesWhatItSays : Type 0
 ChangesWhatItSays =
-    (m : MediumState) (c : SysId) (call : Call) → NamesWhatIsThere m call.act → WaitsForItsHolder m
-    → changes m c call ≡ true → ¬ (medium_after m c call ≡ m)
+    (m : MediumState) (c : SysId) (call : Call) → NamesWhatIsThere m call.act → changes m c call ≡ true
+    → ¬ (medium_after m c call ≡ m)
+
+-- What is said of a call, whether it changes the medium: so where the medium isn't what it was, and there alone.
+abbrev pub TellsChanges : MediumState → SysId → Call → Bool → Type 0
+TellsChanges m c call told =
+    (told ≡ true → ¬ (medium_after m c call ≡ m)) × (told ≡ false → medium_after m c call ≡ m)

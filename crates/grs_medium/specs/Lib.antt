@@ -5,3 +5,4 @@ pub mod Room
 pub mod Changes
 pub mod Causes
 pub mod TurnReplies
+pub mod Concerned

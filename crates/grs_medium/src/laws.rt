@@ -8,8 +8,7 @@ pub fn leaves_the_rest()
     ensures { LeavesTheRest }
 {}
 
-/// A call that is said to change the medium changes it, if its lock entry and the inbox that it mails to are
-/// there, and a closed message stands only at a system that has yet to change to star mode.
+/// A call that is said to change the medium changes it, if its lock entry and the inbox that it mails to are there.
 pub fn changes_what_it_says()
     ensures { ChangesWhatItSays }
 {}

@@ -7,6 +7,8 @@ ghost use Rattle.lock_structure.specs.Words.{route};
 ghost use Rattle.grs_medium.specs.Inboxes.{is_empty};
 ghost use Rattle.grs_medium.specs.Medium.{first_medium, systems_of, awake, inbox, medium_at_end, word};
 ghost use Rattle.grs_medium.specs.Apply.{turn_row, manages, joined, submit_row, switch_ring, switch_row, take_row, mail_row, leave_row, purge_row, rest_row, reply_to, medium_after, changes, row, row_changes, ActFits, MayCall};
+ghost use Rattle.grs_medium.specs.Changes.{TellsChanges};
+ghost use Rattle.grs_medium.specs.Concerned.{just, addressee, is_over, concerned};
 ghost use Rattle.grs_medium.specs.Room.{HasRoomFor, HasRoomOn, request_on};
 ghost use Rattle.grs_medium.specs.TurnReplies.{refusal_reply, refusal};
 ghost use Rattle.rsa_message.specs.Message.{stands_at, rest_after_turn, first_number};
@@ -252,6 +254,51 @@ impl Medium {
         let live = live_of(self.systems, self.removed);
         let rest = self.wake_at_turn(caller, out.len() as u32);
         self.rsa.pass_on(caller, out, live, rest);
+    }
+
+    /// Whom a request of the caller on an entry goes to.
+    fn addressee(&self, caller: SysId, entry: u32) -> u32
+        requires { entry < length self.now.state.words }
+        ensures { result ≡ addressee (route (word self.now.state entry) caller) }
+    {
+        match self.words.route(entry, caller) {
+            Route::Sole => 0,
+            Route::To(manager) => with_system(0, manager),
+        }
+    }
+
+    /// Where the message stands, as a set.
+    fn at_message(&self) -> u32
+        ensures { result ≡ just self.now.state.message.holder }
+    {
+        match self.rsa.holder() {
+            Some(system) => with_system(0, system),
+            None => 0,
+        }
+    }
+
+    /// Whether all systems that aren't removed have come to rest, and nothing is left to do.
+    fn is_over(&self) -> bool
+        ensures { result ≡ is_over self.now.state }
+    {
+        all_at_rest(self.systems, self.removed, self.rest) && self.at_end()
+    }
+
+    /// The systems which a call may have given something to do that was made last, of this caller, and changed the medium:
+    /// the one at which the message stands behind a Turn, whoever got mail, and all behind a Switch, a Purge and the Rest
+    /// by which all is over.
+    pub fn concerned(&self, caller: SysId, act: &Act) -> u32
+        requires { ActFits self.now.state caller act.now }
+        ensures { result ≡ concerned self.now.state caller act.now }
+    {
+        match act {
+            Act::Turn { out: _ } => self.at_message(),
+            Act::Submit { entry, req: _ } => self.addressee(caller, *entry),
+            Act::Settle { to, mail: _ } | Act::Tell { to, mail: _ } => with_system(0, *to),
+            Act::Switch { words: _ } | Act::Purge { target: _ } => live_of(self.systems, 0),
+            Act::Rest if self.is_over() => live_of(self.systems, 0),
+            Act::Rest | Act::Take | Act::Leave { entry: _ } => 0,
+        }
     }
 
     /// The flag of rest of the caller is cleared.
@@ -558,10 +605,9 @@ impl Medium {
         )
     }
 
-    /// The reply that `apply` of this call would give, and whether it would change the medium. That the entry of
-    /// a Purge would have a number past the last that one may have is for `reserve` to say, and not said here.
+    /// What a call would be answered, and whether it changes the medium, by the table of calls.
     #[tactic(auto, unfolding(crate::specs::Apply::apply, crate::specs::Apply::row, crate::specs::Apply::turn_row, crate::specs::Apply::mail_row, crate::specs::Apply::changes, crate::specs::Apply::row_changes))]
-    pub fn preview(&self, caller: SysId, call: &Call) -> Result<(Reply, bool), NoMemory>
+    fn preview_row(&self, caller: SysId, call: &Call) -> Result<(Reply, bool), NoMemory>
         requires { MayCall self.now.state caller call.now }
         ensures reply { IfOk result (λ shown. shown.0 ≡ reply_to self.now.state caller call.now) }
         ensures changes { IfOk result (λ shown. shown.1 ≡ changes self.now.state caller call.now) }
@@ -586,5 +632,18 @@ impl Medium {
             Act::Purge { target } => Ok(self.preview_purge(caller, *target)),
             Act::Rest => Ok((self.rest_reply(caller), !has_system(self.rest, caller))),
         }
+    }
+
+    /// The reply that `apply` of this call would give, and whether it would change the medium: whether the medium
+    /// differs behind it. That the entry of a Purge would have a number past the last that one may have is for `reserve`
+    /// to say, and not said here.
+    pub fn preview(&self, caller: SysId, call: &Call) -> Result<(Reply, bool), NoMemory>
+        requires { MayCall self.now.state caller call.now }
+        ensures reply { IfOk result (λ shown. shown.0 ≡ reply_to self.now.state caller call.now) }
+        ensures changes { IfOk result (λ shown. shown.1 ≡ changes self.now.state caller call.now) }
+        ensures differs { IfOk result (λ shown. TellsChanges self.now.state caller call.now shown.1) }
+    {
+        let _inboxes_and_words_fit = &self.systems;
+        self.preview_row(caller, call)
     }
 }

@@ -1,7 +1,7 @@
 //! The message as a whole.
 ghost use Rattle.std.specs.Prelude.{◌≡◌, ◌+◌, ◌<◌, ◌≤◌, true, length, if◌then◌else◌, Some, None, IfOk, OnOk};
 ghost use Rattle.grs_base.specs.Limits.{most_systems, last_number};
-ghost use Rattle.rsa_message.specs.Message.{stands_at, opened, never_opened, first_number, turn_reply, turned, turned_open, turned_closed, turn_changes, wakes, dropped, closed_by, message_at_end};
+ghost use Rattle.rsa_message.specs.Message.{system_number, stands_at, opened, never_opened, first_number, turn_reply, turned, turned_open, turned_closed, turn_changes, wakes, dropped, closed_by, message_at_end};
 ghost use Rattle.grs_wire.specs.Unseen.{unseen};
 ghost use Rattle.rsa_message.specs.Places.{HasPlaces};
 ghost use Rattle.rsa_message.specs.Room.{HasRoom, given_to};
@@ -225,7 +225,8 @@ impl Rsa {
 
     /// Where the message stands, if anywhere.
     pub fn holder(&self) -> Option<SysId>
-        ensures { result ≡ self.now.message.holder }
+        ensures holder { result ≡ self.now.message.holder }
+        ensures below { system_number result < self.now.message.systems }
     {
         self.holder
     }

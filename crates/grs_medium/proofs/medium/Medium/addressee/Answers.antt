@@ -1,0 +1,17 @@
+use Rattle.std.proofs.Common.{◌≡◌, ◌<◌, ◌≤◌, ℕ, List, length, ap, sym, ◌∙◌, subst, arith}
+use Rattle.grs_base.specs.Limits.{most_systems}
+use Rattle.lock_structure.specs.Words.{word_at}
+use Rattle.lock_structure.proofs.WordLaws.{route-below}
+use Rattle.grs_medium.specs.Room.{MediumValue}
+use Rattle.grs_medium.proofs.medium.Medium.addressee.Goals as goal
+
+pub with_system-requires : goal.with_system-requires
+with_system-requires c =
+    let words : c.self.inside.words ≡ c.args.self.now.state.words =
+    ap (λ (v : MediumValue). v.state.words) c.self.view_is in
+    let inside : c.args.entry < length c.self.inside.words =
+    subst (λ (ws : List ℕ). c.args.entry < length ws) (sym words) c.requires in
+    let below : c.in-To.manager.0 < c.self.inside.systems =
+    route-below c.self.inside.systems (word_at c.self.inside.words c.args.entry) c.args.caller c.in-To.manager
+    (c.self.invariant.3 c.args.entry 0 inside) (sym c.route.ensures ∙ c.in-To.is) in
+    let few : c.self.inside.systems ≤ most_systems = c.self.invariant.1 in omega arith
