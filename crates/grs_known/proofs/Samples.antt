@@ -1,6 +1,6 @@
 -- Worked items, and what is known by them: what the definitions accept and what they refuse.
-use Rattle.std.proofs.Common.{◌≡◌, ◌∙◌, ℕ, Bool, true, false, List, [], ◌∷◌, ◌++◌, take, Some, None, refl, ap, sym}
-use Rattle.std.proofs.Common.{subst}
+use Rattle.std.proofs.Common.{◌≡◌, ◌∙◌, ℕ, Bool, true, false, List, [], ◌∷◌, ◌++◌, take, Option, Some, None, refl, ap}
+use Rattle.std.proofs.Common.{sym, subst, arith}
 use Rattle.grs_base.specs.Same.{same_res}
 use Rattle.grs_base.specs.Lists.{owns}
 use Rattle.grs_base.specs.State.{list_of}
@@ -11,21 +11,26 @@ use Rattle.grs_base.specs.declared.resource.Res.{Res}
 use Rattle.grs_base.specs.declared.resource.Res.TheVariants as kinds
 use Rattle.grs_base.specs.declared.resource.Ret.{Ret}
 use Rattle.grs_base.specs.declared.resource.Ret.TheVariants.{RetNone, RetTest, RetChng, RetEcb}
+use Rattle.grs_base.specs.declared.resource.Row.{Row}
 use Rattle.grs_base.specs.declared.resource.SysId.{SysId}
 use Rattle.grs_base.specs.declared.resource.TaskId.{TaskId}
 use Rattle.grs_base.specs.declared.decision.Code.TheVariants.{C00, C04, C08, Wait}
 use Rattle.grs_base.proofs.SameLaws.{same_res-exact}
+use Rattle.grs_legal.specs.declared.meaning.Meaning.{Meaning}
+use Rattle.grs_legal.specs.declared.meaning.Meaning.TheVariants.{Shows}
 use Rattle.grs_wire.specs.History.{fixed_entries}
 use Rattle.grs_wire.specs.declared.history.HistEntry.TheVariants.{Enq, Deq, Release, Look}
 use Rattle.grs_wire.specs.declared.request.Answer.TheVariants.{Coded}
 use Rattle.grs_wire.specs.declared.request.Fixed.{Fixed}
 use Rattle.grs_wire.specs.declared.request.Fixed.TheVariants.{Asked, Purged}
 use Rattle.grs_wire.specs.declared.request.Want.TheVariants as wants
+use Rattle.grs_wire.specs.declared.told.Verb.TheVariants as verbs
 use Rattle.grs_known.specs.Items.{RunItem, rounds, is_of, removes_system_of, took, gave, owns_after, tells, reply_in}
 use Rattle.grs_known.specs.Items.{lists, Made, history, items, Counts, mine}
 use Rattle.grs_known.specs.Known.{Known, learned, outstanding, Still, IsRight, learns_item, learns_control, Answers}
 use Rattle.grs_known.specs.Known.{Grants, Coming, after_news}
 use Rattle.grs_known.specs.Reading.{gives_among, Keeps, all_known, all_but, after_read}
+use Rattle.grs_known.specs.Told.{TellsRows}
 use Rattle.grs_known.specs.Past.{own_told, Fits, after_entry, after_entries, past_of, Speaks}
 
 abbrev system : ℕ → SysId
@@ -293,6 +298,38 @@ looks_last : (f : Filter)
     (past_of (task_of 1) (has_none true) run)).last
     ≡ Some (Look (task_of 1) (Slice 1) f [])
 looks_last f = refl
+
+-- they leave what the task owned
+looks_leave : (f : Filter) (owned : Res → Bool)
+    → owns_after owned (Look (task_of 1) (Slice 0) f [] ∷ Look (task_of 1) (Slice 1) f [] ∷ []) file ≡ owned file
+looks_leave f owned = refl
+
+-- a line that scans two slices is told once both looks stand, with a code by what these show
+abbrev scan : Filter → Option Meaning
+scan f = Some (Shows (record { verb = verbs.Gqscan; home = None; first = 0; count = 2; filter = f }))
+
+tells_none : (f : Filter)
+    → TellsRows verbs.Gqscan C04 [] (scan f) (Look (task_of 1) (Slice 0) f [] ∷ Look (task_of 1) (Slice 1) f [] ∷ [])
+tells_none f = record { kind = refl; all = refl; shown = refl; told = refl }
+
+tells_early : (f : Filter) → TellsRows verbs.Gqscan C04 [] (scan f) (Look (task_of 1) (Slice 0) f [] ∷ []) → ⊥
+tells_early f h = let e : 1 ≡ 2 = h.all in absurd (omega (arith, e))
+
+tells_some : (f : Filter)
+    → TellsRows verbs.Gqscan C00 [] (scan f) (Look (task_of 1) (Slice 0) f [] ∷ Look (task_of 1) (Slice 1) f [] ∷ [])
+    → ⊥
+tells_some f h = let e : C00 ≡ C04 = h.told in absurd (cc)
+
+tells_other : (f : Filter)
+    → TellsRows verbs.Display C04 [] (scan f) (Look (task_of 1) (Slice 0) f [] ∷ Look (task_of 1) (Slice 1) f [] ∷ [])
+    → ⊥
+tells_other f h = let e : false ≡ true = h.kind in absurd (cc)
+
+tells_fewer : (f : Filter) (row : Row)
+    → TellsRows verbs.Gqscan C04 [] (scan f)
+    (Look (task_of 1) (Slice 0) f [] ∷ Look (task_of 1) (Slice 1) f (row ∷ []) ∷ [])
+    → ⊥
+tells_fewer f row h = let e : [] ≡ row ∷ [] = h.shown in absurd (cc)
 
 -- what is given up last isn't owned
 given_then_taken :

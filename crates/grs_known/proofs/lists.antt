@@ -12,3 +12,4 @@ pub mod All
 pub mod Placed
 pub mod Alike
 pub mod Rows
+pub mod Shows

@@ -10,3 +10,4 @@ pub mod Outstanding
 pub mod Turns
 pub mod Askers
 pub mod Busy
+pub mod Displays

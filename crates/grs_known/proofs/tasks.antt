@@ -8,3 +8,4 @@ pub mod Keys
 pub mod Asked
 pub mod Decided
 pub mod Steps
+pub mod Looks

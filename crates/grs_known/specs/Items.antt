@@ -83,9 +83,10 @@ gave r (Release u q) = false
 gave r (Look u place f rows) = false
 gave r (Remove by target) = false
 
--- what its task owns after an entry, where it owned this before; and after several
+-- what its task owns after an entry, where it owned this before: looks leave that; and after several
 abbrev pub owns_told : HistEntry → (Res → Bool) → Res → Bool
-owns_told h f r = (f r && not (took r h)) || gave r h
+owns_told (Look u place filter rows) f = f
+owns_told h f = λ r. (f r && not (took r h)) || gave r h
 
 abbrev pub owns_after : (Res → Bool) → List HistEntry → Res → Bool
 owns_after f [] r = f r

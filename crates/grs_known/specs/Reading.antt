@@ -4,15 +4,15 @@ use Rattle.std.specs.Prelude.{◌≡◌, Bool, true, false, ◌&&◌, cond, List
 use Rattle.std.specs.List.{list_any}
 use Rattle.grs_base.specs.Same.{same_task}
 use Rattle.grs_base.specs.Lists.{owns}
-use Rattle.grs_base.specs.State.{State, list_of, is_systems}
+use Rattle.grs_base.specs.State.{State, list_of}
 use Rattle.grs_base.specs.declared.resource.Res.{Res}
 use Rattle.grs_base.specs.declared.resource.TaskId.{TaskId}
 use Rattle.grs_wire.specs.Wants.{answer_to, res_wanted, new_owners}
 use Rattle.grs_wire.specs.declared.request.Fixed.{Fixed}
 use Rattle.grs_wire.specs.declared.request.Fixed.TheVariants.{Asked, LocalLook, Purged}
 use Rattle.grs_wire.specs.declared.request.Req.{Req}
-use Rattle.grs_known.specs.Items.{RunItem, is_of, removes_system_of, gives_back, mine, rounds, reply_in, lists, Made}
-use Rattle.grs_known.specs.Items.{AllMade}
+use Rattle.grs_known.specs.Items.{RunItem, is_of, removes_system_of, gives_back, wants_round, mine, rounds, reply_in}
+use Rattle.grs_known.specs.Items.{lists, Made, AllMade}
 use Rattle.grs_known.specs.Known.{Known, outstanding, Still, IsRight, learns_item, learns_control}
 
 -- whether one of the task's items among these asks to give the resource up
@@ -49,11 +49,11 @@ after_read t k table x = learns_gained (learns_mine t k x) (gained t table x.fix
 
 -- ---- laws
 
--- The table answers a request for a resource of the whole complex as the history does.
+-- The table answers a request that goes with the message as the history does.
 abbrev pub TableAnswers : Type 0
 TableAnswers =
-    (front : List RunItem) (x : RunItem) (q : Req) (r : Res) → x.fixed ≡ Asked q → res_wanted q.want ≡ Some r
-    → is_systems r ≡ true → Made front x → answer_to (lists (rounds front)) q.task q.want ≡ reply_in x.entries
+    (front : List RunItem) (x : RunItem) (q : Req) → x.fixed ≡ Asked q → wants_round q.want ≡ true → Made front x
+    → answer_to (lists (rounds front)) q.task q.want ≡ reply_in x.entries
 
 -- An owner by a front is still one by all items, however many of its own its system has decided behind the front,
 -- unless these give the resource up.
@@ -63,12 +63,13 @@ OwnersStayOn =
     → list_any (λ x. removes_system_of t x.fixed) rest ≡ false → Keeps t r k rest →
     owns (list_of (lists front) r) t ≡ true → Still r t (front ++ rest) (outstanding t k (front ++ rest))
 
--- What a system in the ring knows of a task stays right when it processes a request for a resource of the whole complex
--- by its table: the asker's is its outstanding item, and control that the table gives is still there.
+-- What a system in the ring knows of a task stays right when it processes a request of the message by its table: the
+-- asker's is its outstanding item, and control that the table gives is still there.
 abbrev pub ReadingIsRight : Type 0
 ReadingIsRight =
-    (t : TaskId) (k : Known) (front : List RunItem) (x : RunItem) (rest : List RunItem) (q : Req) (r : Res)
-    → x.fixed ≡ Asked q → res_wanted q.want ≡ Some r → is_systems r ≡ true →
+    (t : TaskId) (k : Known) (front : List RunItem) (x : RunItem) (rest : List RunItem) (q : Req) → x.fixed ≡ Asked q
+    → wants_round q.want ≡ true →
     AllMade front (x ∷ rest) → list_any (λ y. removes_system_of t y.fixed) rest ≡ false
-    → (is_of t x.fixed ≡ true → outstanding t k (front ++ x ∷ rest) ≡ Some x) → Keeps t r (learns_mine t k x) rest →
+    → (is_of t x.fixed ≡ true → outstanding t k (front ++ x ∷ rest) ≡ Some x) →
+    ((r : Res) → res_wanted q.want ≡ Some r → Keeps t r (learns_mine t k x) rest) →
     IsRight t k (front ++ x ∷ rest) → IsRight t (after_read t k (lists (rounds front)) x) (front ++ x ∷ rest)

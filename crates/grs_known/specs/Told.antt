@@ -8,6 +8,7 @@ use Rattle.grs_base.specs.State.{State, list_of, queued_by}
 use Rattle.grs_base.specs.declared.resource.Res.{Res}
 use Rattle.grs_base.specs.declared.resource.Ret.{Ret}
 use Rattle.grs_base.specs.declared.resource.Ret.TheVariants.{RetEcb}
+use Rattle.grs_base.specs.declared.resource.Row.{Row}
 use Rattle.grs_base.specs.declared.resource.TaskId.{TaskId}
 use Rattle.grs_base.specs.declared.decision.Code.{Code}
 use Rattle.grs_base.specs.declared.decision.Code.TheVariants.{C00, C04, C08, Wait}
@@ -20,10 +21,11 @@ use Rattle.grs_wire.specs.declared.told.Verb.TheVariants as verbs
 use Rattle.grs_wire.specs.declared.told.ToldLine.{ToldLine}
 use Rattle.grs_wire.specs.declared.told.ToldLine.TheVariants.{Coded, Shown, Post, Ended, Desk}
 use Rattle.grs_wire.specs.History.{replay}
-use Rattle.grs_legal.specs.Asks.{asks_of, is_silent}
+use Rattle.grs_legal.specs.Asks.{Ask, asks_in, asks_of, is_silent}
 use Rattle.grs_legal.specs.Legal.{line_entries, end_code, next_ask}
 use Rattle.task_state.specs.Replies.{is_granted, is_queued}
-use Rattle.grs_known.specs.Items.{has_control}
+use Rattle.grs_known.specs.Items.{has_control, rows_in}
+use Rattle.gqscan.specs.Shown.{code_for}
 
 -- the entry at a place among these, where the line is there and asks something
 abbrev pub asked_at : Option Meaning → Option HistEntry → Option HistEntry
@@ -35,6 +37,27 @@ asked_at (Some l) entry = cond (is_silent l) None entry
 abbrev pub entry_of_line : List Meaning → List HistEntry → ℕ → Option HistEntry
 entry_of_line ls entries k =
     asked_at (slice_get ls (k - 1)) (slice_get entries (length (asks_of (take (k - 1) ls))))
+
+-- what a line asks, which may not be there
+abbrev pub asks_at : Option Meaning → List Ask
+asks_at None = []
+asks_at (Some l) = asks_in l
+
+-- the entries of a task's line that stand, lines numbered from 1: as many as the line asks for, behind those that the
+-- lines before it asked for
+abbrev pub entries_of_line : List Meaning → List HistEntry → ℕ → List HistEntry
+entries_of_line ls entries k =
+    take (length (asks_at (slice_get ls (k - 1)))) (drop (length (asks_of (take (k - 1) ls))) entries)
+
+-- whether a line shows lists, and is of this kind
+abbrev pub is_same_verb : Verb → Verb → Bool
+is_same_verb verbs.Gqscan verbs.Gqscan = true
+is_same_verb verbs.Display verbs.Display = true
+is_same_verb _ _ = false
+
+abbrev pub is_display_by : Verb → Option Meaning → Bool
+is_display_by verb (Some (lines.Shows d)) = is_same_verb verb d.verb
+is_display_by verb _ = false
 
 -- a reply as it is told: one that waited is told 00, when control is told
 abbrev pub told_as : Code → Code
@@ -110,6 +133,15 @@ abbrev pub Posts : State → TaskId → Option HistEntry → Type 0
 Posts s t (Some (Enq u r c ret reply)) = (ret ≡ RetEcb) × (reply ≡ C04) × (owns (list_of s r) t ≡ true)
 Posts s t _ = ⊥
 
+-- Rows are told to a task whose line of this kind shows lists, once each of its looks stands: the rows of all of these,
+-- one look behind the other, and the code 00 where there is a row, else 04.
+pub record TellsRows (verb : Verb) (code : Code) (rows : List Row) (line : Option Meaning) (looks : List HistEntry) :
+    Type 0 where
+  pub kind : is_display_by verb line ≡ true
+  pub all : length looks ≡ length (asks_at line)
+  pub shown : rows ≡ rows_in looks
+  pub told : code ≡ code_for (length rows)
+
 -- whether a line is no code of the task, or one of an earlier line
 abbrev pub is_code_before : TaskId → ℕ → ToldLine → Bool
 is_code_before t k (Coded u j part verb code) = not (same_task t u) || nat_lt j k
@@ -143,7 +175,7 @@ CodeAgrees limit t ls history before k code verbs.Wait =
     TellsWait t ls (line_entries t history) before (replay limit history) code (slice_get ls (k - 1))
 
 -- A line that tells a task of these lines something agrees with the history up to its event, behind the
--- lines told before. Code lines come in the order of their lines, an ECB is posted once, behind its code,
+-- lines told before. Code lines and rows come in the order of their lines, an ECB is posted once, behind its code,
 -- and the end comes last, where nothing is left and nothing more is asked.
 abbrev pub LineAgrees : ℕ → List Meaning → List HistEntry → List ToldLine → ToldLine → Type 0
 LineAgrees limit ls history before (Coded t k part verb code) =
@@ -153,7 +185,9 @@ LineAgrees limit ls history before (Post t k) =
     (0 < k) × Posts (replay limit history) t (entry_of_line ls (line_entries t history) k)
     × (list_any (is_code_of t k) before ≡ true) × (list_any (is_post_of t k) before ≡ false)
     × (list_any (is_end_of t) before ≡ false)
-LineAgrees limit ls history before (Shown t k verb code rows) = ⊥
+LineAgrees limit ls history before (Shown t k verb code rows) =
+    (0 < k) × TellsRows verb code rows (slice_get ls (k - 1)) (entries_of_line ls (line_entries t history) k)
+    × (list_all (is_code_before t k) before ≡ true) × (list_any (is_end_of t) before ≡ false)
 LineAgrees limit ls history before (Desk k said) = ⊥
 LineAgrees limit ls history before (Ended t code) =
     (queued_by (replay limit history) t ≡ []) × (next_ask limit t ls history ≡ None)

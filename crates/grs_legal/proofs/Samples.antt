@@ -1,12 +1,17 @@
 -- Worked histories, by which the definition is checked: entries that may stand where they stand, and entries that may
 -- not.
-use Rattle.std.proofs.Common.{◌≡◌, ℕ, true, false, List, [], ◌∷◌, ◌++◌, Some, None, refl, arith}
+use Rattle.std.proofs.Common.{◌≡◌, ℕ, true, false, List, [], ◌∷◌, ◌++◌, length, Some, None, refl, arith}
 use Rattle.grs_base.specs.declared.decision.Code.{Code}
 use Rattle.grs_base.specs.declared.decision.Code.TheVariants.{C00, C04, Wait, End}
+use Rattle.grs_base.specs.declared.line.Line.TheVariants as texts
+use Rattle.grs_base.specs.declared.look.Filter.{Filter}
+use Rattle.grs_base.specs.declared.look.Filter.TheVariants as filters
+use Rattle.grs_base.specs.declared.look.Place.TheVariants as places
 use Rattle.grs_base.specs.declared.resource.Ctl.TheVariants.{E}
 use Rattle.grs_base.specs.declared.resource.Res.{Res}
 use Rattle.grs_base.specs.declared.resource.Res.TheVariants as kinds
 use Rattle.grs_base.specs.declared.resource.Ret.{Ret}
+use Rattle.grs_base.specs.declared.resource.Row.{Row}
 use Rattle.grs_base.specs.declared.resource.Ret.TheVariants.{RetNone, RetEcb}
 use Rattle.grs_base.specs.Rnl.{no_entries}
 use Rattle.grs_base.specs.declared.resource.SysId.{SysId}
@@ -15,9 +20,9 @@ use Rattle.grs_base.specs.declared.rnl.Which.TheVariants as which
 use Rattle.grs_wire.specs.declared.deck.Deck.{Deck}
 use Rattle.grs_wire.specs.declared.deck.Order.TheVariants as orders
 use Rattle.grs_wire.specs.declared.history.HistEntry.{HistEntry}
-use Rattle.grs_wire.specs.declared.history.HistEntry.TheVariants.{Enq, Deq, Release, Remove}
-use Rattle.grs_wire.specs.declared.request.Answer.TheVariants.{Coded}
-use Rattle.grs_legal.specs.Asks.{AsksEnq, AsksDeq, AsksRelease}
+use Rattle.grs_wire.specs.declared.history.HistEntry.TheVariants.{Enq, Deq, Release, Look, Remove}
+use Rattle.grs_wire.specs.declared.request.Answer.TheVariants.{Coded, Rows}
+use Rattle.grs_legal.specs.Asks.{AsksEnq, AsksDeq, AsksRelease, AsksLook, meaning_of, asks_in, asks_of}
 use Rattle.grs_legal.specs.Legal.{IsLegal, MayRemove}
 use Rattle.grs_legal.specs.declared.meaning.Meaning.{Meaning}
 use Rattle.grs_legal.specs.declared.meaning.Meaning.TheVariants as lines
@@ -108,7 +113,6 @@ passes_early l = let e : false ≡ true = l.passed in absurd (cc)
 passes_owning : IsLegal 9 (task_of 1) posted_and_gives (queued ++ deq 0 C00 ∷ []) (deq 1 C00)
 passes_owning = record { reply = refl; live = refl; next = refl; waited = λ e. absurd (cc); passed = refl }
 
--- ---- removals
 -- A ring of two systems. The desk of the second commands the removal of the first.
 abbrev system : ℕ → SysId
 system n = record { 0 = n }
@@ -129,7 +133,67 @@ deck = record {
   events = [];
 }
 
--- so it may remove it, once; and the first, at whose desk nothing is commanded, may not remove the second
+-- ---- displays
+-- the resource (A,B) of the whole complex, which is of slice 52
+abbrev shared : Res
+shared = kinds.Systems (65 ∷ []) (66 ∷ [])
+
+abbrev named_so : Filter
+named_so = filters.Named (Some (65 ∷ [])) (Some (66 ∷ []))
+
+-- a task that gets it, and looks for it by its names
+abbrev gets_and_looks : List Meaning
+gets_and_looks =
+    lines.Enq shared E RetNone None ∷ meaning_of deck.lists (task_of 0) (texts.DisplayRes (65 ∷ []) (66 ∷ [])) ∷ []
+
+abbrev got : List HistEntry
+got = Enq (task_of 0) shared E RetNone C00 ∷ []
+
+abbrev shown_row : Row
+shown_row = record { res = shared; elems = record { task = task_of 0; ctl = E } ∷ []; owners = 1 }
+
+-- which asks for two looks, the first at its system's own lists
+asks_twice_looking : asks_of gets_and_looks
+    ≡ AsksEnq shared E RetNone ∷ AsksLook (places.Local (system 0)) named_so ∷ AsksLook (places.Slice 52) named_so ∷ []
+asks_twice_looking = refl
+
+looks_home : IsLegal 9 (task_of 0) gets_and_looks got (Look (task_of 0) (places.Local (system 0)) named_so [])
+looks_home = record { reply = refl; live = refl; next = refl; waited = λ e. absurd (cc); passed = refl }
+
+looks_around :
+    IsLegal 9 (task_of 0) gets_and_looks (got ++ Look (task_of 0) (places.Local (system 0)) named_so [] ∷ [])
+    (Look (task_of 0) (places.Slice 52) named_so (shown_row ∷ []))
+looks_around = record { reply = refl; live = refl; next = refl; waited = λ e. absurd (cc); passed = refl }
+
+looks_elsewhere :
+    IsLegal 9 (task_of 0) gets_and_looks got (Look (task_of 0) (places.Slice 52) named_so (shown_row ∷ []))
+    → ⊥
+looks_elsewhere l =
+    let e : Some (AsksLook (places.Local (system 0)) named_so) ≡ Some (AsksLook (places.Slice 52) named_so) = l.next in
+    absurd (cc)
+
+shows_nothing :
+    IsLegal 9 (task_of 0) gets_and_looks (got ++ Look (task_of 0) (places.Local (system 0)) named_so [] ∷ [])
+    (Look (task_of 0) (places.Slice 52) named_so [])
+    → ⊥
+shows_nothing l = let e : Rows [] ≡ Rows (shown_row ∷ []) = l.reply in absurd (cc)
+
+-- in the middle of a line nothing else is asked, nor is anything released
+releases_in_the_middle :
+    IsLegal 9 (task_of 0) gets_and_looks (got ++ Look (task_of 0) (places.Local (system 0)) named_so [] ∷ [])
+    (Release (task_of 0) shared)
+    → ⊥
+releases_in_the_middle l =
+    let e : Some (AsksLook (places.Slice 52) named_so) ≡ Some (AsksRelease shared) = l.next in absurd (cc)
+
+-- GQSCAN SCOPE=GLOBAL asks for 64 looks, DISPLAY GRS,C for one more, GQSCAN SCOPE=LOCAL for one
+how_many : (length (asks_in (meaning_of deck.lists (task_of 0) (texts.Gqscan true filters.All))) ≡ 64)
+    × (length (asks_in (meaning_of deck.lists (task_of 0) texts.DisplayC)) ≡ 65)
+    × (length (asks_in (meaning_of deck.lists (task_of 0) (texts.Gqscan false filters.All))) ≡ 1)
+how_many = (refl, refl, refl)
+
+-- ---- removals
+-- the second may remove the first, once; and the first, at whose desk nothing is commanded, may not remove the second
 removes : MayRemove deck [] (system 1) (system 0)
 removes = record { live = refl; first = refl; other = λ e. absurd (omega (arith, e)); commanded = refl }
 

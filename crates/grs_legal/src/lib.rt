@@ -4,4 +4,4 @@
 
 mod meaning;
 
-pub use meaning::{Meaning, meaning_of};
+pub use meaning::{Display, Meaning, meaning_of};

@@ -1,10 +1,25 @@
 //! What a line of a task means once its names are resolved by the name lists of the deck.
 ghost use Rattle.std.specs.Prelude.{◌≡◌, IfOk};
-ghost use Rattle.grs_legal.specs.Asks.{named, reserved, meaning_of};
+ghost use Rattle.grs_legal.specs.Asks.{named, reserved, scan_of, meaning_of};
 
-use grs_base::{Ctl, Item, Line, NoMemory, Qname, Res, Ret, Rname, Scope, TaskId};
+use grs_base::{
+    Ctl, Filter, Item, Line, NoMemory, Qname, Res, Ret, Rname, SLICES, Scope, SysId, TaskId,
+    slice_of,
+};
+use grs_wire::Verb;
 use scope_resolve::{Resolved, Resolver, Unresolved};
 use std::alloc::Global;
+
+/// What a line asks that shows lists: a look at the own lists of a system (`home`), if it has one, and then one at each
+/// of `count` slices of the Systems resources from slice `first` on, all with one filter. `verb` is the kind of line.
+#[derive(Drop)]
+pub struct Display {
+    pub verb: Verb,
+    pub home: Option<SysId>,
+    pub first: u32,
+    pub count: u32,
+    pub filter: Filter,
+}
 
 /// What a line of a task means.
 #[derive(Drop)]
@@ -25,6 +40,8 @@ pub enum Meaning {
     Wait {
         res: Res,
     },
+    /// A GQSCAN or a DISPLAY.
+    Shows(Display),
     /// A line that asks nothing.
     Nothing,
 }
@@ -95,6 +112,24 @@ fn named(
     Ok(found.res)
 }
 
+/// What a GQSCAN asks: `global` is SCOPE=GLOBAL.
+fn scan_of(task: TaskId, global: bool, filter: Filter) -> Display
+    ensures { result ≡ scan_of task global filter }
+{
+    let (home, count) = if global {
+        (None, SLICES)
+    } else {
+        (Some(task.system), 0)
+    };
+    Display {
+        verb: Verb::Gqscan,
+        home,
+        first: 0,
+        count,
+        filter,
+    }
+}
+
 /// What a line of a task means by these name lists.
 pub fn meaning_of(
     alloc: Global,
@@ -140,6 +175,26 @@ pub fn meaning_of(
         Line::Wait { q, r, scope, rnl } => Ok(Meaning::Wait {
             res: named(alloc, resolver, task, *scope, q, r, *rnl)?,
         }),
-        Line::Gqscan { .. } | Line::DisplayC | Line::DisplayRes { .. } => Ok(Meaning::Nothing),
+        Line::Gqscan { global, filter } => {
+            let filter = filter.copy(alloc)?;
+            Ok(Meaning::Shows(scan_of(task, *global, filter)))
+        }
+        Line::DisplayC => Ok(Meaning::Shows(Display {
+            verb: Verb::Display,
+            home: Some(task.system),
+            first: 0,
+            count: SLICES,
+            filter: Filter::Contended,
+        })),
+        Line::DisplayRes { q, r } => Ok(Meaning::Shows(Display {
+            verb: Verb::Display,
+            home: Some(task.system),
+            first: slice_of(q, r),
+            count: 1,
+            filter: Filter::Named {
+                q: Some(q.copy(alloc)?),
+                r: Some(r.copy(alloc)?),
+            },
+        })),
     }
 }

@@ -31,6 +31,7 @@ use Rattle.grs_wire.specs.declared.medium.Reply.TheVariants as replies
 use Rattle.grs_wire.specs.declared.request.Req.{Req}
 use Rattle.grs_wire.specs.declared.request.Want.{Want}
 use Rattle.grs_wire.specs.declared.request.Want.TheVariants.{Enq, Look}
+use Rattle.grs_wire.specs.declared.told.Verb.TheVariants as verbs
 use Rattle.grs_wire.specs.declared.told.Said.TheVariants as saids
 use Rattle.grs_wire.specs.declared.told.ToldLine.{ToldLine}
 use Rattle.grs_wire.specs.declared.told.ToldLine.TheVariants as told
@@ -96,7 +97,7 @@ sending w = record {
   phase = phases.ToSend;
   code = 0;
   records = [];
-  outstanding = Some (record { req = asks w; unit = None });
+  outstanding = Some (record { req = asks w; unit = None; showing = None });
   rows = [];
 }
 
@@ -163,8 +164,25 @@ second : change_to_star (deck []) (of_second None table) ≡ of_second (Some (pa
 unfolding change_to_star with_rank with_state state_of
 second = refl
 
--- of several looks the first waits to be sent
-looks : one_by_one (tasks 0 0 (Look 5 3 All) []) (asks (Look 5 3 All) ∷ []) ≡ tasks 0 0 (Look 5 1 All) []
+-- of several looks the first waits to be sent, and the others are left behind it
+abbrev looking : ℕ → ℕ → TasksView
+looking count left = record {
+  system = 0;
+  tasks =
+      waiting 0 0
+      ∷ record (sending (Look 5 count All)) {
+        outstanding =
+            Some (record {
+              req = asks (Look 5 count All);
+              unit = None;
+              showing = Some (record { verb = verbs.Display; left = left });
+            });
+      }
+      ∷ [];
+  told = [];
+}
+
+looks : one_by_one (looking 3 0) (asks (Look 5 3 All) ∷ []) ≡ looking 1 2
 unfolding with_outstanding with_state state_of
 looks = refl
 

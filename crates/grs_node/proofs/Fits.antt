@@ -29,9 +29,10 @@ use Rattle.grs_node.specs.Addressed.{NodeFits}
 use Rattle.grs_node.specs.Log.{stepped}
 use Rattle.grs_node.specs.Node.{NodeState, Step, purged, purge_call, desk_of, part_at_first, prepare, star_call}
 use Rattle.grs_node.specs.Node.{prepared_by, star_need, turn_call, may_go, may_send, is_pending, finish_quiet}
-use Rattle.grs_node.specs.Node.{finish_call, finish_star, star_step, take_step, take_mail, is_of_deck, send_own}
+use Rattle.grs_node.specs.Node.{finish_call, finish_star, star_step, take_step, take_mail, is_for_deck, is_of_deck}
+use Rattle.grs_node.specs.Node.{send_own}
 use Rattle.grs_node.specs.Node.{read_entries, put_in, desk_count, next_order, change_to_star, changed_if, turned}
-use Rattle.grs_node.specs.Node.{desk_told, switched}
+use Rattle.grs_node.specs.Node.{desk_told, is_for_deck, switched}
 use Rattle.grs_node.specs.Star.{StarPart, first_part, entry_asked, to_tell, send_of, send_to, first_held, answer_for}
 use Rattle.grs_node.specs.Star.{rank_of, settle_by, tell_by, leave_by, may_leave, has_interest, manages, serves}
 use Rattle.grs_node.specs.Star.{entry_for, fixing_none, own_step, decide_own, begun, begin_at, sent_to, with_held}
@@ -547,7 +548,7 @@ module _ (deck : Deck) (home : ℕ) (v : TasksView) (p : StarPart) (fits : PartF
       go false d is = fits
       go true false is = fits
       go true true is = with_held-fits deck home p e q fits (deck-task deck q.task is)
-  mail-fits (mails.Answered t answer rank) = go (is_of_deck deck t)
+  mail-fits (mails.Answered t answer rank) = go (is_for_deck deck (mails.Answered t answer rank))
     where
       go : (b : Bool)
           → PartFits deck home (cond b (took_mail v p (mails.Answered t answer rank)) (fixing_none v p)).part

@@ -1,18 +1,21 @@
 -- What happens to a system outside star mode leaves its part there, what it knows of removed systems, and which lines
 -- of its desk are done; and what its tasks do leaves its table.
-use Rattle.std.proofs.Common.{◌≡◌, ℕ, Bool, true, false, cond, List, [], ◌∷◌, Option, Some, None, refl, ap, ◌∙◌}
+use Rattle.std.proofs.Common.{◌≡◌, ℕ, zero, suc, Bool, true, false, cond, List, [], ◌∷◌, Option, Some, None, refl, ap}
+use Rattle.std.proofs.Common.{◌∙◌}
 use Rattle.std.specs.Prelude.{slice_get}
 use Rattle.grs_base.specs.State.{State}
+use Rattle.grs_legal.specs.declared.meaning.Display.{Display}
 use Rattle.grs_legal.specs.declared.meaning.Meaning.{Meaning}
 use Rattle.grs_legal.specs.declared.meaning.Meaning.TheVariants as lines
-use Rattle.grs_node.specs.Node.{NodeState, Step, decide, post, ask, has_most, take_line, end_step, ready_step}
-use Rattle.grs_node.specs.Node.{phase_step, task_step, read_entry, read_entries, put_in, is_of_deck, with_side}
-use Rattle.grs_node.specs.Node.{with_tasks}
+use Rattle.grs_node.specs.Node.{NodeState, Step, decide, post, ask, has_most, look_home, look_around, show, take_line}
+use Rattle.grs_node.specs.Node.{end_step, ready_step, phase_step, task_step, read_entry, read_entries, put_in}
+use Rattle.grs_node.specs.Node.{is_of_deck, with_side, with_tasks}
 use Rattle.grs_wire.specs.Wants.{res_wanted}
 use Rattle.grs_wire.specs.declared.deck.Deck.{Deck}
 use Rattle.grs_wire.specs.declared.medium.RingBody.{RingBody}
 use Rattle.grs_wire.specs.declared.medium.RingBody.TheVariants as bodies
 use Rattle.grs_wire.specs.declared.medium.RingEntry.{RingEntry}
+use Rattle.grs_base.specs.declared.resource.SysId.{SysId}
 use Rattle.grs_base.specs.declared.resource.TaskId.{TaskId}
 use Rattle.grs_wire.specs.declared.request.Want.{Want}
 use Rattle.grs_node.specs.Star.{StarPart}
@@ -50,11 +53,26 @@ rest-ask n t w unit =
     either-rest (is_for_all (res_wanted w)) (post n t w unit) (decide n t w unit) (rest_of n) (rest-post n t w unit)
     (rest-decide n t w unit)
 
+-- a display: its system's own look, and then the looks that it asks for
+rest-home : (n : NodeState) (t : TaskId) (d : Display) (home : Option SysId)
+    → rest_of (look_home n t d home).node ≡ rest_of n
+rest-home n t d None = refl
+rest-home n t d (Some s) = refl
+
+rest-around : (n : NodeState) (t : TaskId) (d : Display) (count : ℕ) → rest_of (look_around n t d count) ≡ rest_of n
+rest-around n t d zero = refl
+rest-around n t d (suc more) = refl
+
+rest-show : (n : NodeState) (t : TaskId) (d : Display) → rest_of (show n t d).node ≡ rest_of n
+unfolding show
+rest-show n t d = let home : Step = look_home n t d d.home in rest-around home.node t d d.count ∙ rest-home n t d d.home
+
 rest-take : (limit : ℕ) (n : NodeState) (t : TaskId) (l : Meaning) → rest_of (take_line limit n t l).node ≡ rest_of n
 unfolding take_line
 rest-take limit n t (lines.Enq r c ret unit) = rest-ask n t (Enq r c ret (has_most limit n.tasks t)) unit
 rest-take limit n t (lines.Deq r have) = rest-ask n t (Deq r have) None
 rest-take limit n t (lines.Wait r) = refl
+rest-take limit n t (lines.Shows d) = rest-show n t d
 rest-take limit n t lines.Nothing = refl
 
 rest-end : (n : NodeState) (t : TaskId) (code : ℕ) (xs : List Rec) → rest_of (end_step n t code xs).node ≡ rest_of n

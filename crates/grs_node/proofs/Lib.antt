@@ -17,3 +17,4 @@ pub mod Samples
 pub mod StarSamples
 pub mod TableParts
 pub mod ChangeSamples
+pub mod ShowSamples

@@ -5,10 +5,12 @@ use Rattle.contention_mgr.specs.Manager.{Managed, Ranked, no_elements}
 use Rattle.grs_base.specs.Rnl.{no_entries}
 use Rattle.grs_base.specs.declared.decision.Code.TheVariants.{C00}
 use Rattle.grs_base.specs.declared.look.Filter.TheVariants.{All}
-use Rattle.grs_base.specs.declared.resource.Ctl.TheVariants.{E}
+use Rattle.grs_base.specs.declared.resource.Ctl.TheVariants.{E, S}
+use Rattle.grs_base.specs.declared.resource.Elem.{Elem}
 use Rattle.grs_base.specs.declared.resource.Res.{Res}
 use Rattle.grs_base.specs.declared.resource.Res.TheVariants.{Step, System, Systems}
 use Rattle.grs_base.specs.declared.resource.Ret.TheVariants.{RetNone}
+use Rattle.grs_base.specs.declared.resource.Row.{Row}
 use Rattle.grs_base.specs.declared.resource.SysId.{SysId}
 use Rattle.grs_base.specs.declared.resource.TaskId.{TaskId}
 use Rattle.grs_base.specs.declared.rnl.Which.TheVariants as which
@@ -24,7 +26,7 @@ use Rattle.grs_wire.specs.declared.medium.Act.{Act}
 use Rattle.grs_wire.specs.declared.medium.Act.TheVariants as acts
 use Rattle.grs_wire.specs.declared.medium.Mail.TheVariants.{Request, Answered, Granted}
 use Rattle.grs_wire.specs.declared.medium.Reply.TheVariants as replies
-use Rattle.grs_wire.specs.declared.request.Answer.TheVariants.{Coded}
+use Rattle.grs_wire.specs.declared.request.Answer.TheVariants.{Coded, Rows}
 use Rattle.grs_wire.specs.declared.request.Fixed.TheVariants as fixes
 use Rattle.grs_wire.specs.declared.request.Req.{Req}
 use Rattle.grs_wire.specs.declared.request.Want.{Want}
@@ -34,9 +36,9 @@ use Rattle.grs_wire.specs.declared.told.ToldLine.TheVariants as told
 use Rattle.grs_wire.specs.declared.told.Verb.TheVariants as verbs
 use Rattle.star_client.specs.Client.{tell_answer_ranked, after_mail}
 use Rattle.task_state.specs.Replies.{tell_code, record_enq, after_code, replied, tell_line, tell_untold, tell_control}
-use Rattle.task_state.specs.Replies.{tell_all, tell_new, recalled, tell_answer}
+use Rattle.task_state.specs.Replies.{tell_all, tell_new, recalled, tell_rows, goes_on_looking, tell_answer}
 use Rattle.task_state.specs.View.{TasksView, new_tasks, state_of, with_state, with_phase, with_outstanding, with_record}
-use Rattle.task_state.specs.View.{without_record, with_told, with_rank, telling}
+use Rattle.task_state.specs.View.{without_record, with_told, with_rank, with_rows, without_rows, telling}
 use Rattle.task_state.specs.declared.state.Asked.{Asked}
 use Rattle.task_state.specs.declared.state.Phase.{Phase}
 use Rattle.task_state.specs.declared.state.Phase.TheVariants as phases
@@ -99,7 +101,7 @@ abbrev deq : Want
 deq = Deq res false
 
 abbrev outstanding : Want → Option Asked
-outstanding w = Some (record { req = asks (task 0 0) w; unit = None })
+outstanding w = Some (record { req = asks (task 0 0) w; unit = None; showing = None })
 
 -- tasks of system 0 at their first line, and a record of (A,B)
 abbrev in_phase : Phase → List Rec → Option Asked → TaskState
@@ -204,6 +206,48 @@ unknown_grant :
     take_mail deck (beyond phases.HeldAnswer (rec_told false ∷ []) None) (managing []) (Granted (task 0 1) res)
     ≡ fixing_none (beyond phases.HeldAnswer (rec_told false ∷ []) None) (managing [])
 unknown_grant = refl
+
+-- A task has sent a look at slice 52, the last of its line. It is told what an answer shows where all who own or wait
+-- are tasks of the deck; one whose rows name another has no effect.
+abbrev looking : Option Asked
+looking = Some (record {
+  req = asks (task 0 0) (Look 52 1 All);
+  unit = None;
+  showing = Some (record { verb = verbs.Display; left = 0 });
+})
+
+abbrev owned_by : TaskId → List Row
+owned_by t = record { res = res; elems = record { task = t; ctl = E } ∷ []; owners = 1 } ∷ []
+
+own_rows :
+    take_mail deck (one phases.Sent [] looking) (managing []) (Answered (task 0 0) (Rows (owned_by (task 1 0))) 0)
+    ≡ fixing_none
+    (record (one phases.Ready [] None) {
+      told = told.Shown (task 0 0) 1 verbs.Display C00 (owned_by (task 1 0)) ∷ [];
+    })
+    (managing [])
+unfolding state_of with_state with_phase with_outstanding with_rows without_rows telling tell_rows goes_on_looking
+    recalled tell_answer tell_answer_ranked after_mail took_mail
+own_rows = refl
+
+unknown_row :
+    take_mail deck (one phases.Sent [] looking) (managing []) (Answered (task 0 0) (Rows (owned_by (task 1 1))) 0)
+    ≡ fixing_none (one phases.Sent [] looking) (managing [])
+unknown_row = refl
+
+-- also where it is one among others: two systems share (A,B), and a third, which the deck lacks, waits behind them
+abbrev shared_by : Elem → Elem → Elem → List Row
+shared_by x y z = record { res = res; elems = x ∷ y ∷ z ∷ []; owners = 2 } ∷ []
+
+unknown_waiter :
+    take_mail deck (one phases.Sent [] looking) (managing [])
+    (Answered (task 0 0)
+    (Rows
+    (shared_by (record { task = task 0 0; ctl = S }) (record { task = task 1 0; ctl = S })
+    (record { task = task 2 0; ctl = E })))
+    0)
+    ≡ fixing_none (one phases.Sent [] looking) (managing [])
+unknown_waiter = refl
 
 -- ---- mail to tasks
 -- an answer and control reach a task of the deck and of this system

@@ -1,7 +1,8 @@
 -- What a system comes to in star mode by its table of the Systems resources: its part there, and its tasks, whose
 -- records get ranks and whose requests wait to be sent each by itself.
-use Rattle.std.specs.Prelude.{ℕ, Bool, ◌==◌, min, cond, List, [], ◌∷◌, map, Option, Some, None}
+use Rattle.std.specs.Prelude.{ℕ, ◌+◌, ◌-◌, Bool, ◌==◌, min, cond, List, [], ◌∷◌, map, Option, Some, None}
 use Rattle.std.specs.List.{list_any, range_with_len}
+use Rattle.std.specs.Option.{option_map}
 use Rattle.contention_mgr.specs.Loads.{loaded}
 use Rattle.contention_mgr.specs.Manager.{Managed, ManagerView, with_entry}
 use Rattle.grs_base.specs.State.{State}
@@ -15,7 +16,9 @@ use Rattle.grs_wire.specs.declared.request.Want.TheVariants.{Enq, Deq, Release, 
 use Rattle.lock_structure.specs.RankedRows.{RankedRow}
 use Rattle.mode_migrate.specs.Migrate.{managed_by_table, part_by, interest_by_table, part_of}
 use Rattle.grs_node.specs.Star.{StarPart}
-use Rattle.task_state.specs.View.{TasksView, is_task, with_rank, with_outstanding}
+use Rattle.task_state.specs.View.{TasksView, is_task, state_of, with_rank, with_outstanding}
+use Rattle.task_state.specs.declared.state.Asked.{Asked}
+use Rattle.task_state.specs.declared.state.Showing.{Showing}
 
 -- ---- the part of a system
 
@@ -72,13 +75,27 @@ abbrev pub with_ranks : TasksView → List RankedRow → TasksView
 with_ranks v [] = v
 with_ranks v (x ∷ xs) = with_ranks (with_list_ranks v x.0.res x.0.elems x.1) xs
 
+-- of looks at several slices the first, behind which the others are left
+abbrev pub more_left : ℕ → Showing → Showing
+more_left n s = record { verb = s.verb; left = s.left + n }
+
+abbrev pub first_look : Asked → Want → Asked
+first_look a (Enq r c ret full) = a
+first_look a (Deq r have) = a
+first_look a (Release r) = a
+first_look a (Look first count f) = record {
+  req = record { task = a.req.task; want = Look first (min count 1) f };
+  unit = a.unit;
+  showing = option_map (more_left (count - 1)) a.showing;
+}
+
 -- A request that waited to be put into the message waits to be sent: looks go one by one, the first of them first.
 abbrev pub with_first_look : TasksView → TaskId → Want → TasksView
 with_first_look v t (Enq r c ret full) = v
 with_first_look v t (Deq r have) = v
 with_first_look v t (Release r) = v
 with_first_look v t (Look first count f) =
-    with_outstanding v t (Some (record { req = record { task = t; want = Look first (min count 1) f }; unit = None }))
+    with_outstanding v t (option_map (λ a. first_look a a.req.want) (state_of v t).outstanding)
 
 -- the same of all requests of an outbox
 abbrev pub one_by_one : TasksView → List Req → TasksView

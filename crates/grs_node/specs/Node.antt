@@ -1,17 +1,22 @@
 -- A system, event by event: what each choice comes to, and what the system is afterwards. An event is prepared,
 -- makes at most one call of the medium, and is finished with the reply.
-use Rattle.std.specs.Prelude.{ℕ, ◌+◌, Bool, true, false, not, cond, ◌&&◌, ◌||◌, ◌==◌, nat_le, nat_lt, List, [], ◌∷◌}
-use Rattle.std.specs.Prelude.{◌++◌, length, map, take, drop, replicate, Option, Some, None, slice_get, is_some, is_none}
-use Rattle.std.specs.List.{list_any}
+use Rattle.std.specs.Prelude.{ℕ, zero, suc, ◌+◌, Bool, true, false, not, cond, ◌&&◌, ◌||◌, ◌==◌, nat_le, nat_lt, List}
+use Rattle.std.specs.Prelude.{[], ◌∷◌, ◌++◌, length, map, take, drop, replicate, Option, Some, None, slice_get, is_some}
+use Rattle.std.specs.Prelude.{is_none}
+use Rattle.std.specs.List.{list_all, list_any}
 use Rattle.grs_base.specs.Limits.{most_additions}
 use Rattle.std.specs.Option.{option_map}
+use Rattle.grs_base.specs.Looks.{look}
 use Rattle.grs_base.specs.Rows.{rows_of}
 use Rattle.grs_base.specs.State.{State, remove_state}
+use Rattle.grs_base.specs.declared.look.Place.TheVariants.{Local}
 use Rattle.grs_base.specs.declared.resource.Res.{Res}
+use Rattle.grs_base.specs.declared.resource.Row.{Row}
 use Rattle.grs_base.specs.declared.resource.SysId.{SysId}
 use Rattle.grs_base.specs.declared.resource.TaskId.{TaskId}
 use Rattle.grs_base.specs.declared.decision.Code.TheVariants.{C00, C08}
 use Rattle.grs_legal.specs.Asks.{lines_of, scripts_of}
+use Rattle.grs_legal.specs.declared.meaning.Display.{Display}
 use Rattle.grs_legal.specs.declared.meaning.Meaning.{Meaning}
 use Rattle.grs_legal.specs.declared.meaning.Meaning.TheVariants as lines
 use Rattle.grs_wire.specs.Masks.{with_also}
@@ -31,11 +36,13 @@ use Rattle.grs_wire.specs.declared.medium.Reply.TheVariants as replies
 use Rattle.grs_wire.specs.declared.medium.RingBody.{RingBody}
 use Rattle.grs_wire.specs.declared.medium.RingBody.TheVariants as bodies
 use Rattle.grs_wire.specs.declared.medium.RingEntry.{RingEntry}
+use Rattle.grs_wire.specs.declared.request.Answer.{Answer}
+use Rattle.grs_wire.specs.declared.request.Answer.TheVariants.{Coded, Rows}
 use Rattle.grs_wire.specs.declared.request.Fixed.{Fixed}
 use Rattle.grs_wire.specs.declared.request.Fixed.TheVariants as fixes
 use Rattle.grs_wire.specs.declared.request.Req.{Req}
 use Rattle.grs_wire.specs.declared.request.Want.{Want}
-use Rattle.grs_wire.specs.declared.request.Want.TheVariants.{Enq, Deq, Release}
+use Rattle.grs_wire.specs.declared.request.Want.TheVariants.{Enq, Deq, Release, Look}
 use Rattle.grs_wire.specs.declared.told.Said.{Said}
 use Rattle.grs_wire.specs.declared.told.Said.TheVariants as saids
 use Rattle.grs_wire.specs.declared.told.Verb.TheVariants as verbs
@@ -51,12 +58,13 @@ use Rattle.grs_node.specs.declared.prepared.Prepared.{Prepared}
 use Rattle.grs_node.specs.declared.prepared.Prepared.TheVariants.{Quiet, Call, Nothing}
 use Rattle.ring_mode.specs.Ring.{Side, side_of, is_for_all, process_entry}
 use Rattle.system_purge.specs.Purge.{tell_freed}
-use Rattle.task_state.specs.Replies.{replied, tell_code, tell_new}
+use Rattle.task_state.specs.Replies.{replied, tell_code, tell_new, tell_rows}
+use Rattle.task_state.specs.declared.state.Asked.{Asked}
 use Rattle.task_state.specs.declared.state.Rec.{Rec}
 use Rattle.task_state.specs.declared.state.Phase.{Phase}
 use Rattle.task_state.specs.declared.state.Phase.TheVariants as phases
 use Rattle.task_state.specs.View.{TasksView, new_tasks, is_task, state_of, record_of, with_line, with_phase}
-use Rattle.task_state.specs.View.{with_outstanding, telling}
+use Rattle.task_state.specs.View.{with_outstanding, with_rows, telling}
 
 -- A system: its tasks; the lists of its own Step and System resources; in ring mode its table of the Systems resources,
 -- and the requests that wait to be put into the message, in order; in star mode its part there; the set of the systems
@@ -120,14 +128,16 @@ decide n t w unit =
 abbrev pub outbox_with : NodeState → Req → List Req
 outbox_with n q = cond (is_some n.star) n.outbox (n.outbox ++ q ∷ [])
 
--- a request that waits to be put into the message, or, in star mode, to be sent
+-- what a task asks for waits to be put into the message, or, in star mode, to be sent
+abbrev pub posted : NodeState → TaskId → Asked → NodeState
+posted n t a = record n {
+  tasks = with_outstanding (with_phase n.tasks t phases.ToSend) t (Some a);
+  outbox = outbox_with n a.req;
+}
+
+-- the same of a request that is for a resource
 unfoldable pub post : NodeState → TaskId → Want → Option ℕ → Step
-post n t w unit =
-    let q : Req = record { task = t; want = w } in
-    only (record n {
-      tasks = with_outstanding (with_phase n.tasks t phases.ToSend) t (Some (record { req = q; unit = unit }));
-      outbox = outbox_with n q;
-    })
+post n t w unit = only (posted n t (record { req = record { task = t; want = w }; unit = unit; showing = None }))
 
 -- a request: decided at once, or, for a resource of the whole complex, kept until it can be put in or sent
 unfoldable pub ask : NodeState → TaskId → Want → Option ℕ → Step
@@ -142,11 +152,43 @@ wait v t r (Some x) = cond x.told (tell_code v t verbs.Wait C00) (with_phase v t
 abbrev pub has_most : ℕ → TasksView → TaskId → Bool
 has_most limit v t = nat_le limit (length (state_of v t).records)
 
+-- A line that shows lists looks at its system's own at once, if it looks at those: their rows are the task's, and the
+-- look is fixed.
+abbrev pub look_home : NodeState → TaskId → Display → Option SysId → Step
+look_home n t d None = only n
+look_home n t d (Some s) = record {
+  node = with_tasks n (with_rows n.tasks t (look n.own (Local t.system) d.filter));
+  fixed = fixes.LocalLook t d.filter ∷ [];
+}
+
+-- the looks at these slices and one more, as a request: for all in ring mode, for the first in star mode
+abbrev pub looks_asked : TaskId → Display → ℕ → Option StarPart → Asked
+looks_asked t d more None = record {
+  req = record { task = t; want = Look d.first (suc more) d.filter };
+  unit = None;
+  showing = Some (record { verb = d.verb; left = 0 });
+}
+looks_asked t d more (Some p) = record {
+  req = record { task = t; want = Look d.first 1 d.filter };
+  unit = None;
+  showing = Some (record { verb = d.verb; left = more });
+}
+
+-- Then it asks for so many slices; where there are none, its task is told all rows at once.
+abbrev pub look_around : NodeState → TaskId → Display → ℕ → NodeState
+look_around n t d zero = with_tasks n (tell_rows n.tasks t d.verb)
+look_around n t d (suc more) = posted n t (looks_asked t d more n.star)
+
+unfoldable pub show : NodeState → TaskId → Display → Step
+show n t d =
+    let home = look_home n t d d.home in record { node = look_around home.node t d d.count; fixed = home.fixed }
+
 -- a line that was taken, by what it means
 unfoldable pub take_line : ℕ → NodeState → TaskId → Meaning → Step
 take_line limit n t (lines.Enq r c ret unit) = ask n t (Enq r c ret (has_most limit n.tasks t)) unit
 take_line limit n t (lines.Deq r have) = ask n t (Deq r have) None
 take_line limit n t (lines.Wait r) = only (with_tasks n (wait n.tasks t r (record_of (state_of n.tasks t).records r)))
+take_line limit n t (lines.Shows d) = show n t d
 take_line limit n t lines.Nothing = only n
 
 -- a task that is ending: it releases the first request on record, or has ended
@@ -367,10 +409,19 @@ purged n choice = record {
   fixed = removal_by choice;
 }
 
+-- whether the tasks in the lists of these rows are of the deck
+abbrev pub has_deck_tasks : Deck → Row → Bool
+has_deck_tasks deck row = list_all (λ x. is_of_deck deck x.task) row.elems
+
+-- whether the tasks that an answer names are of the deck; a code names none
+abbrev pub names_of_deck : Deck → Answer → Bool
+names_of_deck deck (Coded code) = true
+names_of_deck deck (Rows rows) = list_all (has_deck_tasks deck) rows
+
 -- whether the tasks and systems that a mail names are of the deck
 abbrev pub is_for_deck : Deck → Mail → Bool
 is_for_deck deck (mails.Request e from q) = nat_lt from.0 (length deck.systems) && is_of_deck deck q.task
-is_for_deck deck (mails.Answered t answer rank) = is_of_deck deck t
+is_for_deck deck (mails.Answered t answer rank) = is_of_deck deck t && names_of_deck deck answer
 is_for_deck deck (mails.Granted t r) = is_of_deck deck t
 
 -- A mail was taken. One that names what isn't of the deck has no effect.

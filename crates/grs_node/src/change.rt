@@ -1,6 +1,7 @@
 //! A system's change to star mode, by its table of the Systems resources.
 ghost use Rattle.std.specs.Prelude.{◌≡◌, ◌≢◌, ◌<◌, true, false, is_some, map, length, List, IfOk, OnOk};
 ghost use Rattle.std.specs.List.{range_with_len};
+ghost use Rattle.std.specs.Option.{option_map};
 ghost use Rattle.contention_mgr.specs.Manager.{managed_at};
 ghost use Rattle.grs_base.specs.Limits.{most_commands};
 ghost use Rattle.grs_node.specs.Change as change;
@@ -21,7 +22,7 @@ use qel_store::LinkedQueues;
 use queue_table::Table;
 use std::alloc::Global;
 use std::collections::VecDeque;
-use task_state::{Asked, Tasks};
+use task_state::{Asked, Showing, Tasks};
 
 /// Whether a lock entry is one of these.
 fn is_among(entries: &List<u32>, entry: u32) -> bool
@@ -147,31 +148,72 @@ fn rank_all(tasks: &mut Tasks, ranked: &[(Row, List<u64>)])
     }
 }
 
-/// A request that waited to be put into the message waits to be sent: of several looks the first.
-#[tactic(auto, using(crate::proofs::Kept::kept))]
-fn take_first_look(alloc: Global, tasks: &mut Tasks, req: &Req) -> Result<(), NoMemory>
-    requires { is_task tasks.old req.now.task ≡ true }
-    ensures step { OnOk result (tasks.new ≡ change.with_first_look tasks.old req.now.task req.now.want) }
-    ensures system { tasks.new.system ≡ tasks.old.system }
-    ensures count { length tasks.new.tasks ≡ length tasks.old.tasks }
+/// The line of looks, behind which more slices are left. There is no memory for more than 4,294,967,295.
+fn more_left(showing: Option<Showing>, count: u32) -> Result<Option<Showing>, NoMemory>
+    ensures { IfOk result (λ more. more ≡ option_map (change.more_left count) showing) }
 {
-    match &req.want {
+    let Some(Showing { verb, left }) = showing else {
+        return Ok(None);
+    };
+    match left.checked_add(count) {
+        Some(left) => Ok(Some(Showing { verb, left })),
+        None => Err(NoMemory),
+    }
+}
+
+/// Of looks at several slices the first, behind which the others are left.
+fn first_look(asked: Asked) -> Result<Asked, NoMemory>
+    ensures { IfOk result (λ first. first ≡ change.first_look asked asked.req.want) }
+{
+    let Asked { req, unit, showing } = asked;
+    let Req { task, want } = req;
+    match want {
         Want::Look {
             first,
             count,
             filter,
         } => {
             let want = Want::Look {
-                first: *first,
-                count: (*count).min(1),
-                filter: filter.copy(alloc)?,
+                first,
+                count: count.min(1),
+                filter,
             };
-            let task = req.task;
-            let asked = Asked {
+            Ok(Asked {
                 req: Req { task, want },
-                unit: None,
-            };
-            tasks.set_outstanding(task, Some(asked));
+                unit,
+                showing: more_left(showing, count.saturating_sub(1))?,
+            })
+        }
+        want => Ok(Asked {
+            req: Req { task, want },
+            unit,
+            showing,
+        }),
+    }
+}
+
+/// The same of what a task asks for, if it asks for anything.
+fn first_of(asked: Option<Asked>) -> Result<Option<Asked>, NoMemory>
+    ensures { IfOk result (λ first. first ≡ option_map (λ a. change.first_look a a.req.want) asked) }
+{
+    match asked {
+        None => Ok(None),
+        Some(asked) => Ok(Some(first_look(asked)?)),
+    }
+}
+
+/// A request that waited to be put into the message waits to be sent: of several looks the first.
+#[tactic(auto, using(crate::proofs::Kept::kept, crate::proofs::Kept::asked_again))]
+fn take_first_look(tasks: &mut Tasks, req: &Req) -> Result<(), NoMemory>
+    requires { is_task tasks.old req.now.task ≡ true }
+    ensures step { OnOk result (tasks.new ≡ change.with_first_look tasks.old req.now.task req.now.want) }
+    ensures system { tasks.new.system ≡ tasks.old.system }
+    ensures count { length tasks.new.tasks ≡ length tasks.old.tasks }
+{
+    match &req.want {
+        Want::Look { .. } => {
+            let first = first_of(tasks.take_outstanding(req.task))?;
+            tasks.set_outstanding(req.task, first);
             Ok(())
         }
         Want::Enq { .. } | Want::Deq { .. } | Want::Release { .. } => Ok(()),
@@ -180,7 +222,7 @@ fn take_first_look(alloc: Global, tasks: &mut Tasks, req: &Req) -> Result<(), No
 
 /// The same of all requests of an outbox.
 #[tactic(auto, using(crate::proofs::Kept::kept))]
-fn take_first_looks(alloc: Global, tasks: &mut Tasks, reqs: &[Req]) -> Result<(), NoMemory>
+fn take_first_looks(tasks: &mut Tasks, reqs: &[Req]) -> Result<(), NoMemory>
     requires { are_of_system tasks.old.system (length tasks.old.tasks) reqs.now ≡ true }
     ensures step { OnOk result (tasks.new ≡ change.one_by_one tasks.old reqs.now) }
     ensures system { tasks.new.system ≡ tasks.old.system }
@@ -188,7 +230,7 @@ fn take_first_looks(alloc: Global, tasks: &mut Tasks, reqs: &[Req]) -> Result<()
 {
     let mut rest = reqs;
     while let Some((req, tail)) = rest.split_first() {
-        take_first_look(alloc, tasks, req)?;
+        take_first_look(tasks, req)?;
         rest = tail;
     }
     Ok(())
@@ -208,7 +250,7 @@ impl NodeState {
         let roles = roles_of(alloc, &self.shared, deck.entries, system)?;
         let part = StarPart::by_roles(alloc, system, deck.entries, &roles)?;
         let waiting = std::mem::replace(&mut self.outbox, List::new(alloc));
-        take_first_looks(alloc, &mut self.tasks, waiting.as_slice())?;
+        take_first_looks(&mut self.tasks, waiting.as_slice())?;
         rank_all(&mut self.tasks, roles.ranked.as_slice());
         self.shared = Table::new(alloc, LinkedQueues::new(alloc));
         self.star = Some(part);

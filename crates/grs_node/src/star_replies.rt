@@ -1,6 +1,7 @@
 //! What the events of star mode come to: what a system decides as a manager, and what the replies to its calls do to its
 //! tasks and its part.
 ghost use Rattle.std.specs.Prelude.{◌≡◌, ◌≢◌, ◌<◌, ◌==◌, [], Some, true, false, length, drop, IfOk, IfSome, IfNone, OnOk};
+ghost use Rattle.std.specs.List.{list_all};
 ghost use Rattle.std.specs.Option.{option_copied};
 ghost use Rattle.contention_mgr.specs.Manager.{after_request, items_of, managed_at};
 ghost use Rattle.grs_node.specs.Node as steps;
@@ -17,13 +18,38 @@ use super::scripts::is_of_deck;
 use super::star::{StarPart, request_of};
 use super::state::asked_alone;
 use contention_mgr::Manager;
-use grs_base::{List, NoMemory, TaskId};
-use grs_wire::{Choice, Deck, Fixed, Mail, Reply, Req};
+use grs_base::{List, NoMemory, Row, TaskId};
+use grs_wire::{Answer, Choice, Deck, Fixed, Mail, Reply, Req};
 use queue_table::Outcome;
 use ring_mode::res_of;
 use star_client::{on_mail, tell_answer_ranked};
 use std::alloc::Global;
 use task_state::{Asked, Phase, Tasks, tell_new};
+
+/// Whether the tasks in the list of a row are of the deck.
+fn has_deck_tasks(deck: &Deck, row: &Row) -> bool
+    ensures { result ≡ steps.has_deck_tasks deck.now row.now }
+{
+    let elems = row.elems.as_slice();
+    elems.iter().all(|elem| is_of_deck(deck, elem.task))
+}
+
+/// The same of each of these rows.
+fn have_deck_tasks(deck: &Deck, rows: &[Row]) -> bool
+    ensures { result ≡ list_all (steps.has_deck_tasks deck.now) rows.now }
+{
+    rows.iter().all(|row| has_deck_tasks(deck, row))
+}
+
+/// Whether the tasks that an answer names are of the deck. A code names none.
+fn names_of_deck(deck: &Deck, answer: &Answer) -> bool
+    ensures { result ≡ steps.names_of_deck deck.now answer.now }
+{
+    match answer {
+        Answer::Coded(_) => true,
+        Answer::Rows(rows) => have_deck_tasks(deck, rows.as_slice()),
+    }
+}
 
 /// Whether the tasks and systems that a mail names are of the deck.
 fn is_for_deck(deck: &Deck, mail: &Mail) -> bool
@@ -33,7 +59,10 @@ fn is_for_deck(deck: &Deck, mail: &Mail) -> bool
         Mail::Request { from, req, .. } => {
             (from.0 as usize) < deck.systems.len() && is_of_deck(deck, req.task)
         }
-        Mail::Answered { task, .. } | Mail::Granted { task, .. } => is_of_deck(deck, *task),
+        Mail::Answered { task, answer, .. } => {
+            is_of_deck(deck, *task) && names_of_deck(deck, answer)
+        }
+        Mail::Granted { task, .. } => is_of_deck(deck, *task),
     }
 }
 

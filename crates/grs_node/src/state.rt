@@ -1,6 +1,6 @@
 //! A system without its deck: its tasks, its lists and its outbox, and what each event does to them. Each step
 //! gives what it fixed.
-ghost use Rattle.std.specs.Prelude.{◌≡◌, ◌<◌, ◌≤◌, ◌≢◌, None, ◌∷◌, [], true, map, length, sum, option_copied, IfOk, IfSome, OnOk};
+ghost use Rattle.std.specs.Prelude.{◌≡◌, ◌<◌, ◌≤◌, ◌≢◌, ◌-◌, None, ◌∷◌, [], true, map, length, sum, option_copied, IfOk, IfSome, OnOk};
 ghost use Rattle.grs_base.specs.Limits.{most_lines};
 ghost use Rattle.task_state.specs.View.{new_tasks, is_task, state_of, record_of};
 ghost use Rattle.grs_legal.specs.Asks.{meaning_of, meanings, scripts_of};
@@ -16,8 +16,8 @@ ghost use Rattle.task_state.specs.Replies as replies;
 use super::lines::meaning_at;
 use super::scripts::{Script, lines_among};
 use super::star::StarPart;
-use grs_base::{Code, Line, List, NoMemory, Res, SysId, TaskId};
-use grs_legal::Meaning;
+use grs_base::{Code, Filter, Line, List, NoMemory, Res, SysId, TaskId};
+use grs_legal::{Display, Meaning};
 use grs_wire::{Choice, Deck, Fixed, Req, ToldLine, Verb, Want};
 use local_queue::Local;
 use qel_store::LinkedQueues;
@@ -26,7 +26,7 @@ use ring_mode::{is_for_all, res_of};
 use scope_resolve::Resolver;
 use std::alloc::Global;
 use std::marker::Model;
-use task_state::{Asked, Phase, Tasks, replied, tell_code, tell_new};
+use task_state::{Asked, Phase, Showing, Tasks, replied, tell_code, tell_new, tell_rows};
 
 /// A system.
 #[derive(Drop)]
@@ -49,7 +49,7 @@ impl Model for NodeState {
 
     ghost view = { λ a. record { tasks = a.tasks; own = a.local.elements; shared = a.shared.elements; outbox = a.outbox; star = a.star; known = a.known; done = a.done } };
 
-    ghost invariant = { λ a. are_of_system a.tasks.system (length a.tasks.tasks) a.outbox ≡ true };
+    ghost invariant = { λ a. (are_of_system a.tasks.system (length a.tasks.tasks) a.outbox ≡ true) × (a.local.system.0 ≡ a.tasks.system) };
 }
 
 /// A request that was fixed.
@@ -58,6 +58,15 @@ pub(crate) fn asked_alone(alloc: Global, req: Req) -> Result<List<Fixed>, NoMemo
 {
     let mut fixed = List::with_room(alloc, 1)?;
     fixed.push(Fixed::Asked(req))?;
+    Ok(fixed)
+}
+
+/// A look at a system's own lists that was fixed.
+fn looked_alone(alloc: Global, task: TaskId, filter: Filter) -> Result<List<Fixed>, NoMemory>
+    ensures { IfOk result (λ fixed. fixed ≡ fixes.LocalLook task filter ∷ []) }
+{
+    let mut fixed = List::with_room(alloc, 1)?;
+    fixed.push(Fixed::LocalLook { task, filter })?;
     Ok(fixed)
 }
 
@@ -178,8 +187,22 @@ impl NodeState {
         }
     }
 
-    /// A request that waits to be put into the message, or, in star mode, to be sent.
-    #[tactic(auto, using(crate::proofs::Kept::kept), unfolding(crate::specs::Node::post))]
+    /// What a task asks for waits to be put into the message, or, in star mode, to be sent.
+    #[tactic(auto, using(crate::proofs::Kept::kept))]
+    fn post_asked(&mut self, alloc: Global, task: TaskId, asked: Asked) -> Result<(), NoMemory>
+        requires task { is_task self.old.tasks task ≡ true }
+        requires own { asked.req.task ≡ task }
+        ensures step { OnOk result (self.new ≡ steps.posted self.old task asked) }
+        ensures system { self.new.tasks.system ≡ self.old.tasks.system }
+    {
+        self.put_out(alloc, &asked.req)?;
+        self.tasks.set_phase(task, Phase::ToSend);
+        self.tasks.set_outstanding(task, Some(asked));
+        Ok(())
+    }
+
+    /// The same of a request that is for a resource.
+    #[tactic(auto, unfolding(crate::specs::Node::post))]
     fn post(
         &mut self,
         alloc: Global,
@@ -191,10 +214,12 @@ impl NodeState {
         ensures step { IfOk result (λ fixed. stepped self.new fixed ≡ steps.post self.old task want unit) }
         ensures system { self.new.tasks.system ≡ self.old.tasks.system }
     {
-        let req = Req { task, want };
-        self.put_out(alloc, &req)?;
-        self.tasks.set_phase(task, Phase::ToSend);
-        self.tasks.set_outstanding(task, Some(Asked { req, unit }));
+        let asked = Asked {
+            req: Req { task, want },
+            unit,
+            showing: None,
+        };
+        self.post_asked(alloc, task, asked)?;
         Ok(List::new(alloc))
     }
 
@@ -224,6 +249,84 @@ impl NodeState {
         ensures { result ≡ steps.has_most limit self.now.tasks task }
     {
         limit as usize <= self.tasks.state(task).records.len()
+    }
+
+    /// A line that shows lists looks at its system's own at once, if it looks at those: what was fixed.
+    #[tactic(auto, using(crate::proofs::Kept::kept, crate::proofs::Kept::own_look))]
+    fn look_home(
+        &mut self,
+        alloc: Global,
+        task: TaskId,
+        display: &Display,
+    ) -> Result<List<Fixed>, NoMemory>
+        requires { is_task self.old.tasks task ≡ true }
+        ensures step { IfOk result (λ fixed. stepped self.new fixed ≡ steps.look_home self.old task display.now display.now.home) }
+        ensures system { self.new.tasks.system ≡ self.old.tasks.system }
+        ensures count { length self.new.tasks.tasks ≡ length self.old.tasks.tasks }
+    {
+        if display.home.is_none() {
+            return Ok(List::new(alloc));
+        }
+        let rows = self.local.look(&display.filter)?;
+        self.tasks.add_rows(task, rows)?;
+        let filter = display.filter.copy(alloc)?;
+        looked_alone(alloc, task, filter)
+    }
+
+    /// What a line asks for slices that shows lists: for all at once in ring mode, for the first in star mode.
+    fn looks_asked(&self, task: TaskId, display: Display) -> Asked
+        requires { display.count ≢ 0 }
+        ensures { result ≡ steps.looks_asked task display (display.count - 1) self.now.star }
+    {
+        let (count, left) = if self.star.is_some() {
+            (1, display.count - 1)
+        } else {
+            (display.count, 0)
+        };
+        let want = Want::Look {
+            first: display.first,
+            count,
+            filter: display.filter,
+        };
+        Asked {
+            req: Req { task, want },
+            unit: None,
+            showing: Some(Showing {
+                verb: display.verb,
+                left,
+            }),
+        }
+    }
+
+    /// It asks for its slices; where there are none, its task is told all rows.
+    #[tactic(auto, using(crate::proofs::Kept::kept))]
+    fn look_around(&mut self, alloc: Global, task: TaskId, display: Display) -> Result<(), NoMemory>
+        requires { is_task self.old.tasks task ≡ true }
+        ensures step { OnOk result (self.new ≡ steps.look_around self.old task display display.count) }
+        ensures system { self.new.tasks.system ≡ self.old.tasks.system }
+    {
+        if display.count == 0 {
+            return tell_rows(&mut self.tasks, task, display.verb);
+        }
+        let asked = self.looks_asked(task, display);
+        self.post_asked(alloc, task, asked)
+    }
+
+    /// A line that shows lists.
+    #[tactic(auto, unfolding(crate::specs::Node::show))]
+    fn show(
+        &mut self,
+        alloc: Global,
+        task: TaskId,
+        display: Display,
+    ) -> Result<List<Fixed>, NoMemory>
+        requires { is_task self.old.tasks task ≡ true }
+        ensures step { IfOk result (λ fixed. stepped self.new fixed ≡ steps.show self.old task display) }
+        ensures system { self.new.tasks.system ≡ self.old.tasks.system }
+    {
+        let fixed = self.look_home(alloc, task, &display)?;
+        self.look_around(alloc, task, display)?;
+        Ok(fixed)
     }
 
     /// A line that was taken, by what it means.
@@ -260,6 +363,7 @@ impl NodeState {
                 wait(&mut self.tasks, task, res)?;
                 Ok(List::new(alloc))
             }
+            Meaning::Shows(display) => self.show(alloc, task, display),
             Meaning::Nothing => Ok(List::new(alloc)),
         }
     }

@@ -15,6 +15,7 @@ pub mod Ring
 pub mod Tasks
 pub mod RingRun
 pub mod Homes
+pub mod AsAsked
 pub mod AtEnd
 pub mod RingEnd
 pub mod Held
@@ -31,5 +32,7 @@ pub mod Switching
 pub mod StarRun
 pub mod StarEnd
 pub mod Full
+pub mod KeptUp
 pub mod Units
+pub mod Passing
 pub mod End

@@ -15,6 +15,7 @@ pub mod Runs
 pub mod Desks
 pub mod InRing
 pub mod Changing
+pub mod Fixing
 pub mod Purges
 pub mod Removals
 pub mod Purging
@@ -24,3 +25,4 @@ pub mod Behind
 pub mod Sound
 pub mod Fronts
 pub mod Messages
+pub mod Silent

@@ -2,8 +2,10 @@
 pub mod LapsSamples
 pub mod TablesSamples
 pub mod Samples
+pub mod ShowSamples
 pub mod AgreeSamples
 pub mod StarSamples
 pub mod SwitchSamples
 pub mod RestSamples
+pub mod RankSamples
 pub mod RemovalSamples

@@ -6,6 +6,8 @@ pub mod Tasks
 pub mod Events
 pub mod Runs
 pub mod Ghosts
+pub mod Shown
+pub mod Named
 pub mod Ranked
 pub mod Answering
 pub mod Systems

@@ -88,10 +88,10 @@ abbrev pub TaskAgrees : Deck → Moment → SysId → TaskId → ToldLine → Ty
 TaskAgrees deck m s t line =
     (s ≡ t.system) × AgreesOf deck.limit (lines_of deck t) m.history (lines_of_told m.before) line
 
--- a line that event e of system s tells agrees; a code is that of its whole line, part 0, and no display is shown yet
+-- a line that event e of system s tells agrees; a code is that of its whole line, part 0
 abbrev pub AgreesBy : Deck → Moment → ℕ → SysId → ToldLine → Type 0
 AgreesBy deck m e s (Coded t k part verb code) = (part ≡ 0) × TaskAgrees deck m s t (Coded t k part verb code)
-AgreesBy deck m e s (Shown t k verb code rows) = ⊥
+AgreesBy deck m e s (Shown t k verb code rows) = TaskAgrees deck m s t (Shown t k verb code rows)
 AgreesBy deck m e s (Post t k) = TaskAgrees deck m s t (Post t k)
 AgreesBy deck m e s (Ended t code) = TaskAgrees deck m s t (Ended t code)
 AgreesBy deck m e s (Desk k said) = DeskAgrees deck m e s k said
@@ -108,11 +108,15 @@ fixed_in deck es e = drop (length (run deck (take (e - 1) es)).fixed) (run deck 
 abbrev pub moment : Deck → List Event → ℕ → List Told → Moment
 moment deck es e before = record { history = hist deck (take e es); fixed = fixed_in deck es e; before = before }
 
--- each of these agrees at its moment, the first behind what was told before
+-- each of these lines agrees at its moment, the first behind what was told before
+abbrev pub AgreeAt : Deck → (ℕ → List Told → Moment) → List Told → List Told → Type 0
+AgreeAt deck moments before [] = Unit {0}
+AgreeAt deck moments before (x ∷ xs) =
+    Agrees deck (moments x.event before) x × AgreeAt deck moments (before ++ x ∷ []) xs
+
+-- the same at the moments of a run
 abbrev pub AllAgree : Deck → List Event → List Told → List Told → Type 0
-AllAgree deck es before [] = Unit {0}
-AllAgree deck es before (x ∷ xs) =
-    Agrees deck (moment deck es x.event before) x × AllAgree deck es (before ++ x ∷ []) xs
+AllAgree deck es before xs = AgreeAt deck (moment deck es) before xs
 
 -- whether a command is to remove this system
 abbrev pub is_vary : SysId → Option Order → Bool

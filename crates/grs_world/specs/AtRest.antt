@@ -12,9 +12,10 @@ use Rattle.grs_base.specs.declared.resource.Elem.{Elem}
 use Rattle.grs_base.specs.declared.resource.Res.{Res}
 use Rattle.grs_base.specs.declared.resource.SysId.{SysId}
 use Rattle.grs_base.specs.declared.resource.TaskId.{TaskId}
-use Rattle.grs_known.specs.Told.{entry_of_line, queued_last, tells_control, is_code_of}
-use Rattle.grs_legal.specs.Asks.{asks_of, lines_of}
+use Rattle.grs_known.specs.Told.{entry_of_line, entries_of_line, queued_last, tells_control, is_code_of}
+use Rattle.grs_legal.specs.Asks.{asks_of, lines_of, looks_in}
 use Rattle.grs_legal.specs.Legal.{end_among, line_entries, entries_of, last_entry}
+use Rattle.grs_legal.specs.declared.meaning.Display.{Display}
 use Rattle.grs_legal.specs.declared.meaning.Meaning.{Meaning}
 use Rattle.grs_legal.specs.declared.meaning.Meaning.TheVariants as lines
 use Rattle.grs_wire.specs.History.{replay}
@@ -25,6 +26,7 @@ use Rattle.grs_wire.specs.declared.history.HistEntry.TheVariants.{Enq, Deq, Rele
 use Rattle.grs_wire.specs.declared.seen.TaskEnd.TheVariants.{Ended, Waits}
 use Rattle.grs_wire.specs.declared.told.ToldLine.{ToldLine}
 use Rattle.grs_world.specs.Agree.{lines_of_told}
+use Rattle.grs_world.specs.Passed.{PassedIsTold}
 use Rattle.grs_world.specs.Running.{is_live, at_rest, task_end, units_of}
 use Rattle.grs_world.specs.World.{run, hist, told}
 
@@ -61,6 +63,14 @@ abbrev pub RepliesAreTold : Deck → List Event → Type 0
 RepliesAreTold deck es =
     (t : TaskId) (ls : List Meaning) (k : ℕ) (h : HistEntry) → IsThere deck es t ls → 0 < k
     → entry_of_line ls (line_entries t (hist deck es)) k ≡ Some h → is_coded h ≡ true
+    → list_any (is_code_of t k) (lines_of_told (told deck es)) ≡ true
+
+-- each line that shows lists and whose looks all stand has its rows told
+abbrev pub DisplaysAreTold : Deck → List Event → Type 0
+DisplaysAreTold deck es =
+    (t : TaskId) (ls : List Meaning) (k : ℕ) (d : Display) → IsThere deck es t ls → 0 < k
+    → slice_get ls (k - 1) ≡ Some (lines.Shows d)
+    → length (entries_of_line ls (line_entries t (hist deck es)) k) ≡ length (looks_in d)
     → list_any (is_code_of t k) (lines_of_told (told deck es)) ≡ true
 
 -- whether an entry waits for control of a resource: an ENQ that was answered WAIT
@@ -159,10 +169,13 @@ UnitsAreReserved deck es = (s : SysId) (u : ℕ) → is_live (run deck es) s ≡
     → unit_count s u (units_of (run deck es).nodes)
     ≡ count_by (is_reserve deck (hist deck es) s u) (lists_after deck es)
 
--- Nothing is lost in a run: owners and replies are told, who hasn't ended waits, and units are reserved.
+-- Nothing is lost in a run: what is passed is told, as in every run; owners, replies and displays are told, who hasn't
+-- ended waits, and units are reserved.
 pub record NothingIsLost (deck : Deck) (es : List Event) : Type 0 where
+  pub passed : PassedIsTold deck es
   pub owners : OwnersAreTold deck es
   pub replies : RepliesAreTold deck es
+  pub displays : DisplaysAreTold deck es
   pub tasks : TasksWait deck es
   pub units : UnitsAreReserved deck es
 

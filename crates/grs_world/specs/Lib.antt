@@ -1,4 +1,5 @@
 pub mod World
+pub mod Fixing
 pub mod Decks
 pub mod Agree
 pub mod Laps
@@ -8,5 +9,6 @@ pub mod Running
 pub mod Done
 pub mod Interest
 pub mod Changing
+pub mod Passed
 pub mod AtRest
 pub mod Removing

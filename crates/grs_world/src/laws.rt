@@ -6,10 +6,12 @@ ghost use Rattle.grs_wire.specs.declared.deck.Event.{Event};
 ghost use Rattle.grs_world.specs.Agree.{Sound};
 ghost use Rattle.grs_world.specs.AtRest.{RestsInTheEnd};
 ghost use Rattle.grs_world.specs.Changing.{ChangesFixNothing};
+ghost use Rattle.grs_world.specs.Fixing.{EventFixes};
 ghost use Rattle.grs_world.specs.Interest.{WordsGoWithSystems};
 ghost use Rattle.grs_world.specs.Kept.{KeptArePlaces, ManagersKeepWell};
 ghost use Rattle.grs_world.specs.Laps.{ComesBackLast, ProcessedLast, AnsweredLast};
-ghost use Rattle.grs_world.specs.Removing.{RemovedAreInHistory, AnswersHaveCauses, RemovalsAreEntries, NoneFollows, RemovalsKeepOthers, MessageGoesOn};
+ghost use Rattle.grs_world.specs.Passed.{PassedIsTold};
+ghost use Rattle.grs_world.specs.Removing.{RemovedAreInHistory, AnswersHaveCauses, RemovalsAreEntries, NoneFollows, RemovedTellNothing, RemovalsKeepOthers, MessageGoesOn};
 ghost use Rattle.grs_world.specs.Tables.{TablesAreFronts};
 ghost use Rattle.grs_world.specs.Decks.{FitsStar, may_be_star};
 ghost use Rattle.grs_world.specs.World.{run};
@@ -34,6 +36,15 @@ pub fn kept_are_places()
 /// waiter's place changes by it.
 pub fn changes_fix_nothing()
     ensures { (deck : Deck) → (events : List Event) → (next : Event) → ChangesFixNothing deck events next }
+{}
+
+/// What an event fixes, by its choice and the reply to its call: a Turn the requests that it put in, a Send that found no manager
+/// what its task asks for, a Settle the request that was held first, a removal itself, and with any other reply nothing. Without
+/// a call a manager fixes what its own task asks for that waits to be sent, and a task that goes on one thing at most: a request
+/// of its own for a resource of its system alone, or its look at that system's lists. An event of a system that isn't there, or
+/// was removed, fixes nothing.
+pub fn what_events_fix()
+    ensures { (deck : Deck) → (events : List Event) → (next : Event) → EventFixes deck events next }
 {}
 
 /// In every run of such a deck the table that each live system keeps of the Systems resources, as long as it hasn't changed to
@@ -72,11 +83,18 @@ pub fn answers_come_last()
     ensures told { (deck : Deck) → deck.star ≡ false → (may_be_star deck ≡ true → FitsStar deck) → (events : List Event) (next : Event) → AnsweredLast deck events next }
 {}
 
+/// In every run of such a deck nothing that is passed is left untold, of whichever system and whatever the others do: each line
+/// that a task has passed has its code line, a WAIT and what waited too, or its rows; who has ended has its END line; and each
+/// line of a desk that is done is told there.
+pub fn passed_is_told()
+    ensures { (deck : Deck) → (may_be_star deck ≡ true → FitsStar deck) → AreOrders (length deck.systems) 0 deck.systems → (events : List Event) → PassedIsTold deck events }
+{}
+
 /// Where a run of a deck that can be read ends at rest, in ring mode or in star mode, whichever systems were removed, nothing is
 /// lost on the live ones: each of their tasks that owns a resource was told control of it, each of these tasks' ENQs and DEQs
-/// that wasn't answered WAIT has its code line, a task of theirs that hasn't ended is shown to wait and has an element that it
-/// doesn't own, for which its last entry waits or the WAIT line at which it stands, and each of their units is reserved as often
-/// as their tasks own a resource on which a RESERVE of the unit queued them.
+/// that wasn't answered WAIT has its code line, and each display whose looks all stand its rows; a task of theirs that hasn't
+/// ended is shown to wait and has an element that it doesn't own, for which its last entry waits or the WAIT line at which it
+/// stands; and each of their units is reserved as often as their tasks own a resource on which a RESERVE of the unit queued them.
 pub fn rests_in_the_end()
     ensures { (deck : Deck) → IsDeck deck → (events : List Event) → RestsInTheEnd deck events }
 {}
@@ -101,6 +119,11 @@ pub fn removals_are_entries()
 /// No entry of a task of the removed system stands behind the removal.
 pub fn none_follows_its_removal()
     ensures { (deck : Deck) → (may_be_star deck ≡ true → FitsStar deck) → AreOrders (length deck.systems) 0 deck.systems → (events : List Event) → NoneFollows deck events }
+{}
+
+/// No line is told by a system that was removed before that event, to a task or at its desk.
+pub fn removed_tell_nothing()
+    ensures { (deck : Deck) → (events : List Event) → RemovedTellNothing deck events }
 {}
 
 /// By a removal who owns and isn't of that system still owns, and who waits keeps the order: of each list of the whole complex

@@ -1,6 +1,6 @@
 -- Lists in the order in which they are shown.
 use Rattle.std.proofs.Common.{◌≡◌, ◌≢◌, ◌≤◌, ◌+◌, ℕ, zero, suc, Bool, true, false, cond, T, List, [], ◌∷◌, ◌&&◌, map}
-use Rattle.std.proofs.Common.{length, drop, Option, Some, None, refl, ap, sym, ◌∙◌, arith, nat_eq}
+use Rattle.std.proofs.Common.{length, drop, take, Option, Some, None, refl, ap, sym, ◌∙◌, arith, nat_eq, append-nil}
 use Rattle.std.proofs.Math.ListN.{drop_of_length-le}
 use Rattle.std.specs.Prelude.{slice_get, filter}
 use Rattle.std.specs.declared.cmp.Ordering.{Ordering}
@@ -26,7 +26,10 @@ use Rattle.grs_base.proofs.OrderLaws.{res_total, res_order-IsAntisymmetric, same
 use Rattle.queue_table.specs.declared.placed.Placed.{Placed}
 use Rattle.queue_table.specs.Names.{Numbers, queue_number, named, is_paired}
 use Rattle.queue_table.specs.Shown.{plain, with_list, with_lists, is_of, may_show, passes, shows}
+use Rattle.queue_table.specs.Classes.{class_of, last_place}
 use Rattle.queue_table.proofs.NameLemmas.{list_of-some}
+use Rattle.queue_table.proofs.ClassLemmas.{classes_of, visits, IsOnWay, next-is, visited-none, paired-visits}
+use Rattle.queue_table.proofs.ClassLemmas.{number-visited}
 
 -- an element before those behind it
 drop_at_get : {X : Type 0} (xs : List X) (i : ℕ) (x : X) → slice_get xs i ≡ Some x → drop i xs ≡ x ∷ drop (i + 1) xs
@@ -164,17 +167,26 @@ module _ (R : Res → Res → Ordering) (total : IsTotalOrder R) (exact : IsAnti
           passed (t e.0) refl (ap t same) (none_behind e es q p same)
       step false s = rw (other (t e.0)) refl
 
-  all-from : (t : Res → Bool) (es : Numbers) (hs : Held ℕ) → is_paired es ≡ true
-      → with_all t es hs [] ≡ where_key R t (from (named es hs) (named es hs))
-  all-from t es hs p =
-      same_entries R total exact (with_all t es hs []) (where_key R t (from (named es hs) (named es hs)))
-      (with_all-sorted t es hs [] tt) (is_sorted-where_key R t _ (from-sorted (named es hs) (named es hs)))
+  -- entries that name what all name, of the resources that pass
+  seen-from : (t : Res → Bool) (xs es : Numbers) (hs : Held ℕ) → is_paired xs ≡ true → is_paired es ≡ true
+      → ((q : Res) → t q ≡ true → queue_number xs q ≡ queue_number es q)
+      → with_all t xs hs [] ≡ where_key R t (from (named es hs) (named es hs))
+  seen-from t xs es hs apart p same =
+      same_entries R total exact (with_all t xs hs []) (where_key R t (from (named es hs) (named es hs)))
+      (with_all-sorted t xs hs [] tt) (is_sorted-where_key R t _ (from-sorted (named es hs) (named es hs)))
       (λ q.
-      find-with_all t es hs [] q p
+      find-with_all t xs hs [] q apart
+      ∙ by_test q (t q) refl
       ∙ ap (λ (l : List Elem). cond (t q) (found l None) None) (list_of-some es hs q (queue_number es q) p refl)
       ∙ ap (λ (o : Option (List Elem)). cond (t q) o None)
       (found-shown (list_of (named es hs) q) ∙ sym (find-from (named es hs) (named es hs) q))
       ∙ sym (find-where_key R t q (λ x tied. ap t (sym (exact q x tied))) (from (named es hs) (named es hs))))
+    where
+      by_test : (q : Res) (b : Bool) → t q ≡ b
+          → cond b (found (list_at_some hs (queue_number xs q)) None) None
+          ≡ cond b (found (list_at_some hs (queue_number es q)) None) None
+      by_test q true f = ap (λ o. found (list_at_some hs o) None) (same q f)
+      by_test q false f = refl
 
 with_list-with : (r : Res) (xs : List Elem) (m : Lists)
     → with_list r xs m ≡ with res_order res_total res_order-IsAntisymmetric same_res-tie r xs m
@@ -199,13 +211,18 @@ lists_from-from : (s hs : State)
 lists_from-from s [] = refl
 lists_from-from s (h ∷ hs) = ap (put res_order h.0 (list_of s h.0)) (lists_from-from s hs)
 
--- the lists of all numbers that pass are those of the resources that they name
+-- the lists of entries that name what all name, of the resources that pass, are those of the resources that pass
+pub with_lists-seen : (t : Res → Bool) (xs es : Numbers) (hs : Held ℕ) → is_paired xs ≡ true → is_paired es ≡ true
+    → ((q : Res) → t q ≡ true → queue_number xs q ≡ queue_number es q)
+    → with_lists t xs hs [] ≡ filter (λ e. t e.0) (lists_of (named es hs))
+with_lists-seen t xs es hs apart p same =
+    with_lists-all t xs hs []
+    ∙ seen-from res_order res_total res_order-IsAntisymmetric same_res-tie t xs es hs apart p same
+    ∙ ap (filter (λ (e : Res × List Elem). t e.0)) (sym (lists_from-from (named es hs) (named es hs)))
+
 pub with_lists-named : (t : Res → Bool) (es : Numbers) (hs : Held ℕ) → is_paired es ≡ true
     → with_lists t es hs [] ≡ filter (λ e. t e.0) (lists_of (named es hs))
-with_lists-named t es hs p =
-    with_lists-all t es hs []
-    ∙ all-from res_order res_total res_order-IsAntisymmetric same_res-tie t es hs p
-    ∙ ap (filter (λ (e : Res × List Elem). t e.0)) (sym (lists_from-from (named es hs) (named es hs)))
+with_lists-named t es hs p = with_lists-seen t es es hs p p (λ q f. refl)
 
 -- the list of one number more
 pub with_lists-more : (t : Res → Bool) (es : Numbers) (i : ℕ) (e : Res × ℕ) (hs : Held ℕ) (m more all : Lists)
@@ -215,6 +232,60 @@ with_lists-more t es i e hs m more all at so_far is =
     ap (with_lists t (drop (i + 1) es) hs) is
     ∙ ap (λ (l : Numbers). with_lists t l hs m) (sym (drop_at_get es i e at))
     ∙ so_far
+
+-- ---- the lists of a class, gathered from its last entry to its first
+-- What is still to be gathered: with it these lists are those of all entries of the class.
+pub record Gathers (t : Res → Bool) (c : ℕ) (es : Numbers) (hs : Held ℕ) (m : Lists) (next : Option ℕ) : Type 0 where
+  pub way : IsOnWay c es next
+  pub so_far : with_lists t (visits c way.front) hs m ≡ with_lists t (visits c es) hs []
+
+pub gathers-begins : (t : Res → Bool) (c : ℕ) (es : Numbers) (hs : Held ℕ) (m : Lists) (next : Option ℕ) → m ≡ []
+    → next ≡ last_place c (classes_of es) → Gathers t c es hs m next
+gathers-begins t c es hs m next none is = record {
+  way = record { front = es; back = []; parts = sym (append-nil es); next = is };
+  so_far = ap (with_lists t (visits c es) hs) none;
+}
+
+pub gathers-next :
+    (t : Res → Bool) (c : ℕ) (es : Numbers) (hs : Held ℕ) (m more : Lists) (p : ℕ) (next : Option ℕ) (e : Res × ℕ)
+    → Gathers t c es hs m (Some p) → slice_get es p ≡ Some e
+    → more ≡ cond (t e.0) (with_list e.0 (list_at nat_eq hs e.1) m) m →
+    next ≡ last_place c (take p (classes_of es)) → Gathers t c es hs more next
+gathers-next t c es hs m more p next e g at is behind =
+    let n = next-is c es p g.way in
+    let w = n.way next behind in
+    let same : n.last.entry ≡ e = let z : Some n.last.entry ≡ Some e = sym n.at ∙ at in cc in
+    record {
+      way = w.0;
+      so_far = ap (λ l. with_lists t (visits c l) hs more) w.1 ∙ ap (with_lists t (visits c n.last.front) hs) is
+          ∙ ap (λ (x : Res × ℕ).
+          with_lists t (visits c n.last.front) hs (cond (t x.0) (with_list x.0 (list_at nat_eq hs x.1) m) m))
+          (sym same)
+          ∙ ap (λ l. with_lists t l hs m) (sym n.last.visited) ∙ g.so_far;
+    }
+
+pub gathers-ends : (t : Res → Bool) (c : ℕ) (es : Numbers) (hs : Held ℕ) (m : Lists) → is_paired es ≡ true
+    → ((q : Res) → t q ≡ true → class_of q ≡ c) → Gathers t c es hs m None
+    → m ≡ filter (λ e. t e.0) (lists_of (named es hs))
+gathers-ends t c es hs m p own g =
+    ap (λ l. with_lists t l hs m) (sym (visited-none c g.way.front (sym g.way.next))) ∙ g.so_far
+    ∙ with_lists-seen t (visits c es) es hs (paired-visits c es p) p (λ q f. number-visited c es q p (own q f))
+
+-- an entry of its class stands at the next place
+pub gathers-class : (t : Res → Bool) (c : ℕ) (es : Numbers) (hs : Held ℕ) (m : Lists) (p : ℕ)
+    → Gathers t c es hs m (Some p) → slice_get (classes_of es) p ≡ Some c
+gathers-class t c es hs m p g = (next-is c es p g.way).class
+
+pub gathers-there : (t : Res → Bool) (c : ℕ) (es : Numbers) (hs : Held ℕ) (m : Lists) (p : ℕ)
+    → Gathers t c es hs m (Some p) → length es ≤ p → ⊥
+gathers-there t c es hs m p g h =
+    let z : None ≡ Some (next-is c es p g.way).last.entry = sym (slice_get_past es p h) ∙ (next-is c es p g.way).at in
+    cc
+  where
+    slice_get_past : (xs : Numbers) (n : ℕ) → length xs ≤ n → slice_get xs n ≡ None
+    slice_get_past [] n k = refl
+    slice_get_past (x ∷ xs) zero k = absurd (omega (arith, k))
+    slice_get_past (x ∷ xs) (suc n) k = slice_get_past xs n (omega (arith, k))
 
 -- what is put in of a list that isn't empty
 pub with_list-some : (r x : Res) (xs ys : List Elem) (old new : List (Placed × List Elem)) → x ≡ r → ys ≡ xs

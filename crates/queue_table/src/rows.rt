@@ -1,6 +1,6 @@
 //! The lists of a table as they are shown: with their resources, in order, and with their numbers of owners;
 //! all of them, or those of a place that pass a filter.
-ghost use Rattle.std.specs.Prelude.{◌≡◌, ◌++◌, ◌∷◌, [], true, cond, filter, map, nat_eq, IfOk, OnOk};
+ghost use Rattle.std.specs.Prelude.{◌≡◌, ◌++◌, ◌∷◌, [], true, cond, filter, map, nat_eq, Some, IfOk, OnOk};
 ghost use Rattle.grs_base.specs.Lists.{is_apart};
 ghost use Rattle.grs_base.specs.State.{list_at, list_of};
 ghost use Rattle.grs_base.specs.Rows.{lists_of, row_of, rows_of};
@@ -10,9 +10,9 @@ ghost use Rattle.queue_table.specs.Shown.{plain, with_list, may_show, passes, sh
 
 use super::parts::number;
 use super::placed::Placed;
+use super::resources::Resources;
 use gqscan::{is_of_place, matches_filter};
 use grs_base::{Elem, Filter, List, NoMemory, Place, Queues, Res, Row};
-use indexmap::IndexMap;
 use ret_codes::owners_among;
 use std::alloc::Global;
 use std::collections::BTreeMap;
@@ -20,7 +20,7 @@ use std::collections::BTreeMap;
 /// The elements of a resource.
 pub(crate) fn list_in<Q: Queues>(
     alloc: Global,
-    numbers: &IndexMap<Res, u32>,
+    numbers: &Resources,
     queues: &Q,
     res: &Res,
 ) -> Result<List<Elem>, NoMemory>
@@ -88,7 +88,7 @@ fn add_list_shown<Q: Queues>(
 /// The lists that aren't empty and may be shown, in order.
 fn lists_in<Q: Queues>(
     alloc: Global,
-    numbers: &IndexMap<Res, u32>,
+    numbers: &Resources,
     queues: &Q,
     place: Option<Place>,
     chosen: &Filter,
@@ -98,15 +98,58 @@ fn lists_in<Q: Queues>(
 {
     let mut lists = BTreeMap::new(alloc);
     for i in 0..numbers.len() {
-        match numbers.get_index(i) {
+        match numbers.entry(i) {
             Some((res, queue)) => {
                 let shown = may_be_shown(place, chosen, res);
-                add_list_shown(alloc, queues, shown, res, *queue, &mut lists)?
+                add_list_shown(alloc, queues, shown, res, queue, &mut lists)?
             }
             None => unreachable!(),
         }
     }
     Ok(lists)
+}
+
+/// The same of a place, whose resources are gone through alone, or nearly so.
+fn lists_at<Q: Queues>(
+    alloc: Global,
+    numbers: &Resources,
+    queues: &Q,
+    place: Place,
+    chosen: &Filter,
+) -> Result<BTreeMap<Placed, List<Elem>>, NoMemory>
+    requires table { IsTable numbers.now.entries (Q.elements queues.now) (Q.is_live queues.now) }
+    ensures { IfOk result (λ lists. plain lists.entries ≡ filter (λ e. may_show (Some place) chosen.now e.0) (lists_of (named numbers.now.entries (Q.elements queues.now)))) }
+{
+    let mut lists = BTreeMap::new(alloc);
+    let mut next = numbers.last_of(place);
+    'places: while let Some(at) = next {
+        match numbers.entry(at) {
+            Some((res, queue)) => {
+                let shown = may_be_shown(Some(place), chosen, res);
+                add_list_shown(alloc, queues, shown, res, queue, &mut lists)?
+            }
+            None => unreachable!(),
+        }
+        next = numbers.before(at, place);
+    }
+    Ok(lists)
+}
+
+/// The lists that aren't empty and may be shown, of a place or of all.
+fn lists_shown<Q: Queues>(
+    alloc: Global,
+    numbers: &Resources,
+    queues: &Q,
+    place: Option<Place>,
+    chosen: &Filter,
+) -> Result<BTreeMap<Placed, List<Elem>>, NoMemory>
+    requires table { IsTable numbers.now.entries (Q.elements queues.now) (Q.is_live queues.now) }
+    ensures { IfOk result (λ lists. plain lists.entries ≡ filter (λ e. may_show place chosen.now e.0) (lists_of (named numbers.now.entries (Q.elements queues.now)))) }
+{
+    match place {
+        Some(place) => lists_at(alloc, numbers, queues, place, chosen),
+        None => lists_in(alloc, numbers, queues, None, chosen),
+    }
 }
 
 /// A list with its resource and its number of owners.
@@ -149,7 +192,7 @@ fn rows_from(
 /// What is shown of the lists of a place, or of all.
 fn shown_in<Q: Queues>(
     alloc: Global,
-    numbers: &IndexMap<Res, u32>,
+    numbers: &Resources,
     queues: &Q,
     place: Option<Place>,
     chosen: &Filter,
@@ -157,7 +200,7 @@ fn shown_in<Q: Queues>(
     requires table { IsTable numbers.now.entries (Q.elements queues.now) (Q.is_live queues.now) }
     ensures { IfOk result (λ rows. rows ≡ filter (shows place chosen.now) (rows_of (named numbers.now.entries (Q.elements queues.now)))) }
 {
-    let lists = lists_in(alloc, numbers, queues, place, chosen)?;
+    let lists = lists_shown(alloc, numbers, queues, place, chosen)?;
     rows_from(alloc, lists, chosen)
 }
 
@@ -165,7 +208,7 @@ fn shown_in<Q: Queues>(
 #[tactic(auto, using(crate::proofs::RowLemmas::all_shown))]
 pub(crate) fn rows_in<Q: Queues>(
     alloc: Global,
-    numbers: &IndexMap<Res, u32>,
+    numbers: &Resources,
     queues: &Q,
 ) -> Result<List<Row>, NoMemory>
     requires table { IsTable numbers.now.entries (Q.elements queues.now) (Q.is_live queues.now) }
@@ -177,7 +220,7 @@ pub(crate) fn rows_in<Q: Queues>(
 /// What a look at a place shows.
 pub(crate) fn look_in<Q: Queues>(
     alloc: Global,
-    numbers: &IndexMap<Res, u32>,
+    numbers: &Resources,
     queues: &Q,
     place: Place,
     chosen: &Filter,

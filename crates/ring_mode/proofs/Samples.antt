@@ -41,7 +41,7 @@ abbrev deq : Want
 deq = Deq res false
 
 abbrev outstanding : Want → Option Asked
-outstanding w = Some (record { req = asks (task 0) w; unit = None })
+outstanding w = Some (record { req = asks (task 0) w; unit = None; showing = None })
 
 -- system 0, whose task has taken one line
 abbrev one : Phase → List Rec → Option Asked → TasksView

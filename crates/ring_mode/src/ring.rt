@@ -53,8 +53,8 @@ fn answer_own(alloc: Global, tasks: &mut Tasks, req: &Req, answer: &Answer) -> R
     }
 }
 
-/// Processes a request.
-#[tactic(auto, unfolding(crate::specs::Ring::process))]
+/// Processes a request. Looks change nothing, so those of another system's task are passed over.
+#[tactic(auto, unfolding(crate::specs::Ring::process, crate::specs::Ring::answer_own, task_state::specs::Replies::tell_new))]
 fn process<Q: Queues>(
     alloc: Global,
     table: &mut Table<Q>,
@@ -65,6 +65,11 @@ fn process<Q: Queues>(
     ensures system { tasks.new.system ≡ tasks.old.system }
     ensures count { length tasks.new.tasks ≡ length tasks.old.tasks }
 {
+    if let Want::Look { .. } = &req.want {
+        if !is_awaited(tasks, req) {
+            return Ok(());
+        }
+    }
     let outcome = table.carry_out(alloc, req)?;
     answer_own(alloc, tasks, req, &outcome.answer)?;
     tell_new(tasks, res_of(&req.want), outcome.owners.as_slice())

@@ -16,9 +16,10 @@ use Rattle.grs_wire.specs.declared.told.ToldLine.TheVariants as told
 use Rattle.grs_wire.specs.declared.told.Verb.TheVariants as verbs
 use Rattle.star_client.specs.Client.{can_get, tell_answer_ranked, after_mail}
 use Rattle.task_state.specs.Replies.{tell_code, record_enq, after_code, replied, tell_line, tell_untold, tell_control}
-use Rattle.task_state.specs.Replies.{recalled, tell_answer}
+use Rattle.task_state.specs.Replies.{recalled, tell_rows, goes_on_looking, tell_answer}
 use Rattle.task_state.specs.View.{TasksView, state_of, with_state, with_phase, with_outstanding, with_record}
-use Rattle.task_state.specs.View.{without_record, with_told, with_exclusive, with_rank, telling}
+use Rattle.task_state.specs.View.{without_record, with_told, with_exclusive, with_rank, with_rows, without_rows}
+use Rattle.task_state.specs.View.{telling}
 use Rattle.task_state.specs.declared.state.Asked.{Asked}
 use Rattle.task_state.specs.declared.state.Phase.{Phase}
 use Rattle.task_state.specs.declared.state.Phase.TheVariants as phases
@@ -106,7 +107,7 @@ task = record { system = record { 0 = 0 }; job = 0; task = 0 }
 
 abbrev asks : Option Want → Option Asked
 asks None = None
-asks (Some w) = Some (record { req = record { task = task; want = w }; unit = None })
+asks (Some w) = Some (record { req = record { task = task; want = w }; unit = None; showing = None })
 
 abbrev having : List Rec → Phase → Option Want → TasksView
 having recs phase want = record {
@@ -305,3 +306,45 @@ keeps_rank : after_mail (having (untold ∷ []) phases.Sent (Some (Deq res true)
 unfolding state_of with_state with_phase with_outstanding with_rank telling tell_code after_code replied recalled
     tell_answer tell_answer_ranked after_mail
 keeps_rank = refl
+
+-- ---- looks: a task of system 0 whose first line is a GQSCAN, of which so many slices are left
+abbrev showing : ℕ → ℕ → Phase → List Row → TasksView
+showing first left phase rows = record {
+  system = 0;
+  tasks =
+      record {
+        line = 1;
+        phase = phase;
+        code = 0;
+        records = [];
+        outstanding =
+            Some (record {
+              req = record { task = task; want = Look first 1 All };
+              unit = None;
+              showing = Some (record { verb = verbs.Gqscan; left = left });
+            });
+        rows = rows;
+      }
+      ∷ [];
+  told = [];
+}
+
+-- the rows of a slice, and the look at the next one waits to be sent
+looks_on : after_mail (showing 52 1 phases.Sent []) (Answered task (Rows (row_of res 1 ∷ [])) 0)
+    ≡ showing 53 0 phases.ToSend (row_of res 1 ∷ [])
+unfolding state_of with_state with_phase with_outstanding with_rows with_rank recalled goes_on_looking tell_answer
+    tell_answer_ranked after_mail
+looks_on = refl
+
+-- behind the last slice the line is told all rows, and that there are none where there are none
+shows : after_mail (showing 53 0 phases.Sent (row_of res 1 ∷ [])) (Answered task (Rows []) 0)
+    ≡ record (having [] phases.Ready None) { told = told.Shown task 1 verbs.Gqscan C00 (row_of res 1 ∷ []) ∷ [] }
+unfolding state_of with_state with_phase with_outstanding with_rows without_rows with_rank telling tell_rows recalled
+    goes_on_looking tell_answer tell_answer_ranked after_mail
+shows = refl
+
+shows_none : after_mail (showing 53 0 phases.Sent []) (Answered task (Rows []) 0)
+    ≡ record (having [] phases.Ready None) { told = told.Shown task 1 verbs.Gqscan C04 [] ∷ [] }
+unfolding state_of with_state with_phase with_outstanding with_rows without_rows with_rank telling tell_rows recalled
+    goes_on_looking tell_answer tell_answer_ranked after_mail
+shows_none = refl

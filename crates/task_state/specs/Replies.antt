@@ -1,13 +1,16 @@
 -- What an answer, or control that another's request gave, does to a task, and what the task is told.
-use Rattle.std.specs.Prelude.{ℕ, Bool, true, false, ◌&&◌, ◌==◌, List, [], ◌∷◌, cond, Option, Some, None}
+use Rattle.std.specs.Prelude.{ℕ, zero, suc, ◌+◌, Bool, true, false, ◌&&◌, ◌==◌, List, [], ◌∷◌, length, cond, Option}
+use Rattle.std.specs.Prelude.{Some, None}
 use Rattle.grs_base.specs.Same.{same_res}
 use Rattle.grs_base.specs.declared.resource.Res.{Res}
 use Rattle.grs_base.specs.declared.resource.Ctl.{Ctl}
 use Rattle.grs_base.specs.declared.resource.Ret.{Ret}
 use Rattle.grs_base.specs.declared.resource.Ret.TheVariants.{RetNone, RetUse, RetHave, RetChng, RetEcb}
+use Rattle.grs_base.specs.declared.resource.Row.{Row}
 use Rattle.grs_base.specs.declared.resource.TaskId.{TaskId}
 use Rattle.grs_base.specs.declared.decision.Code.{Code}
 use Rattle.grs_base.specs.declared.decision.Code.TheVariants.{C00, C04, Wait, End}
+use Rattle.gqscan.specs.Shown.{code_for}
 use Rattle.grs_wire.specs.declared.request.Want.{Want}
 use Rattle.grs_wire.specs.declared.request.Want.TheVariants.{Enq, Deq, Release, Look}
 use Rattle.grs_wire.specs.declared.request.Answer.{Answer}
@@ -17,10 +20,11 @@ use Rattle.grs_wire.specs.declared.told.Verb.{Verb}
 use Rattle.grs_wire.specs.declared.told.ToldLine.TheVariants as told
 use Rattle.task_state.specs.declared.state.Asked.{Asked}
 use Rattle.task_state.specs.declared.state.Rec.{Rec}
+use Rattle.task_state.specs.declared.state.Showing.{Showing}
 use Rattle.task_state.specs.declared.state.Phase.{Phase}
 use Rattle.task_state.specs.declared.state.Phase.TheVariants as phases
 use Rattle.task_state.specs.View.{TasksView, is_task, state_of, record_of, with_phase, with_outstanding, with_record}
-use Rattle.task_state.specs.View.{without_record, with_told, with_exclusive, telling}
+use Rattle.task_state.specs.View.{without_record, with_told, with_exclusive, with_rows, without_rows, telling}
 
 -- whether a code is 00
 abbrev pub is_granted : Code → Bool
@@ -75,7 +79,7 @@ after_code v t (Deq r have) unit code =
 after_code v t (Release r) unit code = without_record v t r
 after_code v t (Look first count filter) unit code = v
 
--- the same by the whole answer; no task asks for looks yet
+-- the same by the whole answer; looks aren't decided at once, so no rows come here
 unfoldable pub replied : TasksView → TaskId → Want → Option ℕ → Answer → TasksView
 replied v t w unit (Coded code) = after_code v t w unit code
 replied v t w unit (Rows rows) = v
@@ -148,9 +152,47 @@ phase_asking (Look first count filter) code = phases.Ready
 unfoldable pub recalled : TasksView → TaskId → Want → TasksView
 recalled v t w = with_outstanding (with_phase v t (phase_asking w (state_of v t).code)) t None
 
+-- A task is told the rows that its last line shows, all of them, and has none any more.
+unfoldable pub tell_rows : TasksView → TaskId → Verb → TasksView
+tell_rows v t verb =
+    let rows = (state_of v t).rows in
+    telling (without_rows v t) (told.Shown t (state_of v t).line verb (code_for (length rows)) rows)
+
+-- the look at the slice behind those of a request
+abbrev pub next_look : Want → Want
+next_look (Enq r c ret full) = Enq r c ret full
+next_look (Deq r have) = Deq r have
+next_look (Release r) = Release r
+next_look (Look first count filter) = Look (first + count) 1 filter
+
+-- the request for the next slice of a line of which so many are left behind it
+abbrev pub next_asked : TaskId → Asked → Verb → ℕ → Asked
+next_asked t a verb left = record {
+  req = record { task = t; want = next_look a.req.want };
+  unit = a.unit;
+  showing = Some (record { verb = verb; left = left });
+}
+
+-- A task that was shown what it looked at is told all rows of its line where nothing of it is left; else it looks at
+-- the next slice.
+unfoldable pub goes_on_looking : TasksView → TaskId → Asked → Verb → ℕ → TasksView
+goes_on_looking v t a verb zero = tell_rows v t verb
+goes_on_looking v t a verb (suc left) =
+    with_outstanding (with_phase v t phases.ToSend) t (Some (next_asked t a verb left))
+
+-- a task whose looks show these rows, which come behind those of its line so far
+abbrev pub looked : TasksView → TaskId → Asked → List Row → Option Showing → TasksView
+looked v t a rows None = v
+looked v t a rows (Some s) = goes_on_looking (with_rows v t rows) t a s.verb s.left
+
+-- a task whose request, which isn't outstanding any more, was answered
+abbrev pub answered : TasksView → TaskId → Asked → Answer → TasksView
+answered v t a (Coded code) = replied v t a.req.want a.unit (Coded code)
+answered v t a (Rows rows) = looked v t a rows a.showing
+
 -- a task whose outstanding request was answered
 unfoldable pub tell_answer : TasksView → TaskId → Asked → Answer → TasksView
-tell_answer v t a answer = replied (recalled v t a.req.want) t a.req.want a.unit answer
+tell_answer v t a answer = answered (recalled v t a.req.want) t a answer
 
 -- the same where a task has one
 unfoldable pub tell_answer_any : TasksView → TaskId → Answer → Option Asked → TasksView

@@ -11,6 +11,6 @@ mod tasks;
 mod units;
 
 pub use records::Records;
-pub use replies::{replied, tell_answer, tell_code, tell_new};
-pub use state::{Asked, Phase, Rec, TaskState};
+pub use replies::{replied, tell_answer, tell_code, tell_new, tell_rows};
+pub use state::{Asked, Phase, Rec, Showing, TaskState};
 pub use tasks::Tasks;

@@ -1,6 +1,7 @@
 //! What the tasks of a system are told: the answers to their own requests, and control that another's
 //! request gave them. Only the tasks change here, never the lists.
-ghost use Rattle.std.specs.Prelude.{◌≡◌, true, cond, length, option_copied, OnOk};
+ghost use Rattle.std.specs.Prelude.{◌≡◌, true, cond, length, option_copied, IfOk, OnOk};
+ghost use Rattle.gqscan.specs.Shown.{code_for};
 ghost use Rattle.task_state.specs.View.{is_task, state_of, without_record, with_told};
 ghost use Rattle.task_state.specs.Replies as steps;
 ghost use Rattle.task_state.specs.Replies.{tell_line};
@@ -8,10 +9,11 @@ ghost use Rattle.task_state.specs.Replies.{tell_line};
 use super::codes::{
     is_changed, is_granted, is_held, is_held_for, is_leaving, is_queued, phase_after, phase_asking,
 };
-use super::state::{Asked, Phase, Rec};
+use super::state::{Asked, Phase, Rec, Showing};
 use super::tasks::Tasks;
-use grs_base::{Code, Ctl, NoMemory, Res, Ret, TaskId};
-use grs_wire::{Answer, ToldLine, Verb, Want};
+use gqscan::code_of;
+use grs_base::{Code, Ctl, List, NoMemory, Res, Ret, Row, TaskId, copy_all};
+use grs_wire::{Answer, Req, ToldLine, Verb, Want};
 use std::alloc::Global;
 
 /// Tells the code of a task's last line; WAIT isn't told.
@@ -119,7 +121,7 @@ fn after_code(
     }
 }
 
-/// The same by the whole answer. No task asks for looks yet.
+/// The same by the whole answer of a request that was decided at once. Looks aren't.
 #[tactic(auto, using(crate::proofs::Keeps::keeps), unfolding(crate::specs::Replies::replied))]
 pub fn replied(
     alloc: Global,
@@ -258,6 +260,133 @@ pub fn tell_new(tasks: &mut Tasks, res: Option<&Res>, owners: &[TaskId]) -> Resu
     }
 }
 
+/// The code of a display that shows these rows. There is no memory for more than 4,294,967,295.
+fn code_of_rows(rows: &List<Row>) -> Result<Code, NoMemory>
+    ensures { IfOk result (λ code. code ≡ code_for (length rows.now)) }
+{
+    match u32::try_from(rows.len()) {
+        Ok(count) => Ok(code_of(count)),
+        Err(_) => Err(NoMemory),
+    }
+}
+
+/// Tells a task the rows that its last line shows, all of them, and leaves none.
+#[tactic(auto, using(crate::proofs::Keeps::keeps), unfolding(crate::specs::Replies::tell_rows))]
+pub fn tell_rows(tasks: &mut Tasks, task: TaskId, verb: Verb) -> Result<(), NoMemory>
+    requires { is_task tasks.old task ≡ true }
+    ensures step { OnOk result (tasks.new ≡ steps.tell_rows tasks.old task verb) }
+    ensures system { tasks.new.system ≡ tasks.old.system }
+    ensures count { length tasks.new.tasks ≡ length tasks.old.tasks }
+{
+    let k = tasks.line(task);
+    let rows = tasks.take_rows(task);
+    let code = code_of_rows(&rows)?;
+    tasks.tell(ToldLine::Shown {
+        task,
+        k,
+        verb,
+        code,
+        rows,
+    })
+}
+
+/// The look at the slice behind those of a request. There is no memory for one past the last number.
+fn next_look(want: Want) -> Result<Want, NoMemory>
+    ensures { IfOk result (λ next. next ≡ steps.next_look want) }
+{
+    match want {
+        Want::Look {
+            first,
+            count,
+            filter,
+        } => match first.checked_add(count) {
+            Some(first) => Ok(Want::Look {
+                first,
+                count: 1,
+                filter,
+            }),
+            None => Err(NoMemory),
+        },
+        want => Ok(want),
+    }
+}
+
+/// A task that was shown what this request looked at is told all rows of its line where nothing of it is left; else it
+/// waits to send the look at the next slice.
+#[tactic(auto, using(crate::proofs::Keeps::keeps), unfolding(crate::specs::Replies::goes_on_looking))]
+fn go_on_looking(
+    tasks: &mut Tasks,
+    task: TaskId,
+    asked: Asked,
+    showing: Showing,
+) -> Result<(), NoMemory>
+    requires { is_task tasks.old task ≡ true }
+    ensures step { OnOk result (tasks.new ≡ steps.goes_on_looking tasks.old task asked showing.verb showing.left) }
+    ensures system { tasks.new.system ≡ tasks.old.system }
+    ensures count { length tasks.new.tasks ≡ length tasks.old.tasks }
+{
+    if showing.left == 0 {
+        return tell_rows(tasks, task, showing.verb);
+    }
+    let Asked { req, unit, .. } = asked;
+    let want = next_look(req.want)?;
+    let next = Asked {
+        req: Req { task, want },
+        unit,
+        showing: Some(Showing {
+            verb: showing.verb,
+            left: showing.left - 1,
+        }),
+    };
+    tasks.set_phase(task, Phase::ToSend);
+    tasks.set_outstanding(task, Some(next));
+    Ok(())
+}
+
+/// A task whose looks show these rows.
+#[tactic(auto, using(crate::proofs::Keeps::keeps))]
+fn looked(
+    alloc: Global,
+    tasks: &mut Tasks,
+    task: TaskId,
+    asked: Asked,
+    rows: &List<Row>,
+) -> Result<(), NoMemory>
+    requires { is_task tasks.old task ≡ true }
+    ensures step { OnOk result (tasks.new ≡ steps.looked tasks.old task asked rows.now asked.showing) }
+    ensures system { tasks.new.system ≡ tasks.old.system }
+    ensures count { length tasks.new.tasks ≡ length tasks.old.tasks }
+{
+    let Some(showing) = asked.showing else {
+        return Ok(());
+    };
+    tasks.add_rows(task, copy_all(alloc, rows.as_slice())?)?;
+    go_on_looking(tasks, task, asked, showing)
+}
+
+/// The request of a task, which isn't outstanding any more, is answered.
+#[tactic(auto, using(crate::proofs::Keeps::keeps))]
+fn answer_asked(
+    alloc: Global,
+    tasks: &mut Tasks,
+    task: TaskId,
+    asked: Asked,
+    answer: &Answer,
+) -> Result<(), NoMemory>
+    requires { is_task tasks.old task ≡ true }
+    ensures step { OnOk result (tasks.new ≡ steps.answered tasks.old task asked answer.now) }
+    ensures system { tasks.new.system ≡ tasks.old.system }
+    ensures count { length tasks.new.tasks ≡ length tasks.old.tasks }
+{
+    match answer {
+        Answer::Coded(_) => {
+            let Asked { req, unit, .. } = asked;
+            replied(alloc, tasks, task, &req.want, unit, answer)
+        }
+        Answer::Rows(rows) => looked(alloc, tasks, task, asked, rows),
+    }
+}
+
 /// Answers the request of a task that isn't answered yet, if it has one.
 #[tactic(auto, using(crate::proofs::Keeps::keeps, crate::proofs::ViewLaws::still_asked), unfolding(crate::specs::Replies::tell_answer_any, crate::specs::Replies::tell_answer, crate::specs::Replies::recalled))]
 pub fn tell_answer(
@@ -279,6 +408,5 @@ pub fn tell_answer(
     let Some(asked) = tasks.take_outstanding(task) else {
         return Ok(());
     };
-    let Asked { req, unit } = asked;
-    replied(alloc, tasks, task, &req.want, unit, answer)
+    answer_asked(alloc, tasks, task, asked, answer)
 }

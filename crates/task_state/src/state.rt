@@ -4,7 +4,7 @@ ghost use Rattle.task_state.specs.View.{is_sent};
 
 use super::records::Records;
 use grs_base::{Ctl, List, Res, Row};
-use grs_wire::Req;
+use grs_wire::{Req, Verb};
 
 /// A request of a task that stands in the list of a resource. `told` tells whether the task was told
 /// control, `rank` its place among all requests of a lock entry (0 where nothing is ranked), `unit` the
@@ -46,11 +46,20 @@ impl Phase {
     }
 }
 
-/// A request that isn't answered yet, and the device that its record will reserve, if it is to.
+/// What line asks for looks: its kind, and how many slices of it are still to be looked at behind them.
+#[derive(Clone, Copy, Debug, PartialEq, Eq)]
+pub struct Showing {
+    pub verb: Verb,
+    pub left: u32,
+}
+
+/// A request that isn't answered yet: the device that its record will reserve, if it is to, and of looks the line that
+/// asks for them.
 #[derive(Drop)]
 pub struct Asked {
     pub req: Req,
     pub unit: Option<u16>,
+    pub showing: Option<Showing>,
 }
 
 /// A task: the number of lines that it has taken, its phase, its end code (0 at first), its requests on

@@ -1,7 +1,7 @@
--- The history of a run as items: each is a request of a task of the deck, with the entry that the lists give it, or the
--- removal of a system; and it is legal where it stands.
-use Rattle.std.proofs.Common.{◌≡◌, zero, suc, Bool, cond, true, false, not, ◌&&◌, ◌||◌, List, [], ◌∷◌, ◌++◌, Some, refl}
-use Rattle.std.proofs.Common.{ap, sym, ◌∙◌, subst, append-nil, append_assoc}
+-- The history of a run as items: each is a request of a task of the deck or its look at the lists of its system, with
+-- the entries that the lists give it, or the removal of a system; and it is legal where it stands.
+use Rattle.std.proofs.Common.{◌≡◌, zero, suc, Bool, cond, true, false, not, ◌&&◌, ◌||◌, List, [], ◌∷◌, ◌++◌, Option}
+use Rattle.std.proofs.Common.{Some, None, refl, ap, sym, ◌∙◌, subst, append-nil, append_assoc}
 use Rattle.std.specs.Prelude.{ℕ, is_some, length, ◌==◌}
 use Rattle.std.specs.List.{list_all, list_any}
 use Rattle.std.proofs.lemmas.Option.{same_Some}
@@ -15,7 +15,7 @@ use Rattle.grs_base.specs.declared.resource.Res.{Res}
 use Rattle.grs_base.specs.declared.resource.SysId.{SysId}
 use Rattle.grs_base.specs.declared.resource.TaskId.{TaskId}
 use Rattle.grs_legal.specs.Asks.{lines_of}
-use Rattle.grs_legal.specs.Legal.{Legal, LegalFrom, MayStand, MayRemove}
+use Rattle.grs_legal.specs.Legal.{Legal, LegalFrom, MayRemove}
 use Rattle.grs_wire.specs.History.{removes, replay, after_fixed, look_entries, entries_for, fixed_entries}
 use Rattle.grs_wire.specs.Decks.{AreOrders}
 use Rattle.grs_wire.specs.Wants.{after_want, res_wanted}
@@ -36,18 +36,22 @@ use Rattle.grs_known.proofs.lists.Truths.{eqb-flip}
 use Rattle.grs_known.proofs.known.ItemLaws.{lists-push, lists_are_replayed}
 use Rattle.grs_known.proofs.known.Pasts.{history-append}
 
--- An item is a request of a task of the deck, for a resource of the whole complex or of the task's system.
+-- whether a task may ask for a resource: it is one of the whole complex or of the task's system; looks ask for none
+abbrev pub AsksHere : TaskId → Option Res → Type 0
+AsksHere t None = Unit {0}
+AsksHere t (Some r) = (is_systems r || is_res_of t.system.0 r) ≡ true
+
+-- An item is a request of a task of the deck.
 pub record IsAsk (deck : Deck) (x : RunItem) : Type 0 where
   pub req : Req
-  pub res : Res
   pub asked : x.fixed ≡ Asked req
-  pub wanted : res_wanted req.want ≡ Some res
   pub known : is_some (lines_of deck req.task) ≡ true
-  pub place : (is_systems res || is_res_of req.task.system.0 res) ≡ true
+  pub place : AsksHere req.task (res_wanted req.want)
 
--- Or it removes a system.
+-- Or it is a look of such a task at the lists of its system, or removes a system.
 pub data AsksOrRemoves (deck : Deck) (x : RunItem) : Type 0 where
   an_ask : IsAsk deck x → AsksOrRemoves deck x
+  a_look : (t : TaskId) (f : Filter) → x.fixed ≡ LocalLook t f → is_some (lines_of deck t) ≡ true → AsksOrRemoves deck x
   a_removal : (target : SysId) → x.fixed ≡ Purged target → AsksOrRemoves deck x
 
 abbrev pub AllAsk : Deck → List RunItem → Type 0
@@ -79,15 +83,22 @@ pub record IsHistory (deck : Deck) (T : List RunItem) : Type 0 where
 abbrev pub IsLive : TaskId → List RunItem → Type 0
 IsLive t T = list_any (λ x. removes_system_of t x.fixed) T ≡ false
 
--- An item may stand behind these items.
+-- A request may stand behind these items, each of its entries behind those before it.
 pub record MayFollow (deck : Deck) (T : List RunItem) (x : RunItem) : Type 0 where
   pub ask : IsAsk deck x
   pub live : IsLive ask.req.task T
   pub made : Made T x
   pub counts : Counts deck.limit (lists T) x.fixed
-  pub entry : HistEntry
-  pub one : x.entries ≡ entry ∷ []
-  pub stands : MayStand deck (history T) entry
+  pub stands : LegalFrom deck (history T) x.entries
+
+-- A look of a task at the lists of its system may stand behind these items.
+pub record MayLook (deck : Deck) (T : List RunItem) (x : RunItem) : Type 0 where
+  pub task : TaskId
+  pub filter : Filter
+  pub looks : x.fixed ≡ LocalLook task filter
+  pub known : is_some (lines_of deck task) ≡ true
+  pub made : Made T x
+  pub stands : LegalFrom deck (history T) x.entries
 
 -- A removal may stand behind these items.
 pub record MayPurge (deck : Deck) (T : List RunItem) (x : RunItem) : Type 0 where
@@ -115,7 +126,7 @@ count-push limit F (y ∷ T) x a c = (
       (subst (λ U. Counts limit (lists U) x.fixed) (sym (append_assoc F (y ∷ []) T)) c),
 )
 
-asks-push : (deck : Deck) (T : List RunItem) (x : RunItem) → AllAsk deck T → AsksOrRemoves deck x
+pub asks-push : (deck : Deck) (T : List RunItem) (x : RunItem) → AllAsk deck T → AsksOrRemoves deck x
     → AllAsk deck (T ++ x ∷ [])
 asks-push deck [] x a i = (i, tt)
 asks-push deck (y ∷ T) x a i = (a.0, asks-push deck T x a.1 i)
@@ -128,9 +139,8 @@ legal-append deck P (h ∷ hs) gs a b = (
   legal-append deck (P ++ h ∷ []) hs gs a.1 (subst (λ Q. LegalFrom deck Q gs) (sym (append_assoc P (h ∷ []) hs)) b),
 )
 
-history-push : (T : List RunItem) (x : RunItem) (h : HistEntry) → x.entries ≡ h ∷ []
-    → history (T ++ x ∷ []) ≡ history T ++ h ∷ []
-history-push T x h one = history-append T (x ∷ []) ∙ ap (λ hs. history T ++ hs) (append-nil x.entries ∙ one)
+history-push : (T : List RunItem) (x : RunItem) → history (T ++ x ∷ []) ≡ history T ++ x.entries
+history-push T x = history-append T (x ∷ []) ∙ ap (λ hs. history T ++ hs) (append-nil x.entries)
 
 -- who may stand, behind one item more
 any-push : (T : List RunItem) (x : RunItem) (f : Fixed) → x.fixed ≡ f → (t : TaskId)
@@ -158,6 +168,19 @@ stand-ask T x q asked live all =
     same r t =
         ap (λ b. not (is_systems r && b))
         (any-push T x (Asked q) asked t ∙ or-false (list_any (λ y. removes_system_of t y.fixed) T))
+
+stand-look : (T : List RunItem) (x : RunItem) (t : TaskId) (f : Filter) → x.fixed ≡ LocalLook t f → AllStand T
+    → AllStand (T ++ x ∷ [])
+stand-look T x t f looks all =
+    subst (λ s. list_all (λ h. may_stand (T ++ x ∷ []) h.0 h.1.task) s ≡ true)
+    (sym (lists-push T x ∙ ap (after_fixed (lists T)) looks))
+    (all-kept (λ h. may_stand T h.0 h.1.task) (λ h. may_stand (T ++ x ∷ []) h.0 h.1.task)
+    (λ h may. same h.0 h.1.task ∙ may) (lists T) all)
+  where
+    same : (r : Res) (u : TaskId) → may_stand (T ++ x ∷ []) r u ≡ may_stand T r u
+    same r u =
+        ap (λ b. not (is_systems r && b))
+        (any-push T x (LocalLook t f) looks u ∙ or-false (list_any (λ y. removes_system_of u y.fixed) T))
 
 stand-purge : (T : List RunItem) (x : RunItem) (target : SysId) → x.fixed ≡ Purged target → AllStand T
     → AllStand (T ++ x ∷ [])
@@ -200,8 +223,21 @@ follows deck T x g m = record {
   asks = asks-push deck T x g.asks (an_ask m.ask);
   stand = stand-ask T x m.ask.req m.ask.asked m.live g.stand;
   legal = λ fit.
-      subst (LegalFrom deck []) (sym (history-push T x m.entry m.one))
-      (legal-append deck [] (history T) (m.entry ∷ []) (g.legal fit) (m.stands, tt));
+      subst (LegalFrom deck []) (sym (history-push T x))
+      (legal-append deck [] (history T) x.entries (g.legal fit) m.stands);
+}
+
+-- and a look at a system's own lists
+pub follows-look : (deck : Deck) (T : List RunItem) (x : RunItem) → IsHistory deck T → MayLook deck T x
+    → IsHistory deck (T ++ x ∷ [])
+follows-look deck T x g m = record {
+  made = made-push [] T x g.made m.made;
+  count = count-push deck.limit [] T x g.count (subst (Counts deck.limit (lists T)) (sym m.looks) tt);
+  asks = asks-push deck T x g.asks (a_look m.task m.filter m.looks m.known);
+  stand = stand-look T x m.task m.filter m.looks g.stand;
+  legal = λ fit.
+      subst (LegalFrom deck []) (sym (history-push T x))
+      (legal-append deck [] (history T) x.entries (g.legal fit) m.stands);
 }
 
 -- and a removal
@@ -213,7 +249,7 @@ follows-purge deck T x g m = record {
   asks = asks-push deck T x g.asks (a_removal m.target m.purged);
   stand = stand-purge T x m.target m.purged g.stand;
   legal = λ fit.
-      subst (LegalFrom deck []) (sym (history-push T x (Remove x.by m.target) entry))
+      subst (LegalFrom deck []) (sym (history-push T x ∙ ap (λ hs. history T ++ hs) entry))
       (legal-append deck [] (history T) (Remove x.by m.target ∷ []) (g.legal fit) (m.stands fit, tt));
 }
   where
@@ -250,8 +286,19 @@ wants-round (wants.Deq q have) r e = ap is_systems (same_Some q r e)
 wants-round (wants.Release q) r e = ap is_systems (same_Some q r e)
 wants-round (wants.Look first count f) r e = absurd (cc)
 
-pub goes-ask : (deck : Deck) (x : RunItem) (a : IsAsk deck x) → goes_round x.fixed ≡ is_systems a.res
-goes-ask deck x a = ap goes_round a.asked ∙ wants-round a.req.want a.res a.wanted
+pub wants-looks : (w : Want) → res_wanted w ≡ None → wants_round w ≡ true
+wants-looks (wants.Enq q c ret full) e = absurd (cc)
+wants-looks (wants.Deq q have) e = absurd (cc)
+wants-looks (wants.Release q) e = absurd (cc)
+wants-looks (wants.Look first count f) e = refl
+
+pub goes-ask : (deck : Deck) (x : RunItem) (a : IsAsk deck x) (r : Res) → res_wanted a.req.want ≡ Some r
+    → goes_round x.fixed ≡ is_systems r
+goes-ask deck x a r wanted = ap goes_round a.asked ∙ wants-round a.req.want r wanted
+
+pub goes-looks : (deck : Deck) (x : RunItem) (a : IsAsk deck x) → res_wanted a.req.want ≡ None
+    → goes_round x.fixed ≡ true
+goes-looks deck x a none = ap goes_round a.asked ∙ wants-looks a.req.want none
 
 pub stays-ask : (deck : Deck) (t : TaskId) (x : RunItem) → IsAsk deck x → removes_system_of t x.fixed ≡ false
 stays-ask deck t x a = ap (removes_system_of t) a.asked
@@ -317,11 +364,11 @@ elements-ask deck s (x ∷ xs) a h = elements-ask deck (after_fixed s x.fixed) x
         subst (λ f. list_all (λ h. may_have deck h.0 h.1.task) (after_fixed s f) ≡ true) (sym is)
         (all-filter (λ h. may_have deck h.0 h.1.task) (λ h. not (is_systems h.0 && (target.0 == h.1.task.system.0))) s
         h)
+    by_item (a_look t f is known) =
+        subst (λ z. list_all (λ h. may_have deck h.0 h.1.task) (after_fixed s z) ≡ true) (sym is) h
     by_item (an_ask i) = subst (λ f. list_all (λ h. may_have deck h.0 h.1.task) (after_fixed s f) ≡ true) (sym i.asked)
-        (all-want (may_have deck) s i.req.task i.req.want (λ r e.
-        and_from _ _ i.known (subst (λ q. (is_systems q || is_res_of i.req.task.system.0 q) ≡ true)
-        (same_Some i.res r (sym i.wanted ∙ e)) i.place))
-        h)
+        (all-want (may_have deck) s i.req.task i.req.want
+        (λ r e. and_from _ _ i.known (subst (AsksHere i.req.task) e i.place)) h)
 
 -- who has an element may have it, and so may an owner
 pub has-may : (deck : Deck) (T : List RunItem) (r : Res) (t : TaskId) → AllAsk deck T

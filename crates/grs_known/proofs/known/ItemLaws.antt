@@ -49,7 +49,7 @@ pub items_are_history : ItemsAreHistory
 items_are_history fixed = (history-items_from [] fixed, made-items_from [] [] fixed refl)
 
 -- ---- replies
-rows-looks : (s : State) (t : TaskId) (first count : ℕ) (f : Filter)
+pub rows-looks : (s : State) (t : TaskId) (first count : ℕ) (f : Filter)
     → rows_in (look_entries s t first count f) ≡ looks s first count f
 rows-looks s t first zero f = refl
 rows-looks s t first (suc count) f = ap (λ rows. look s (Slice first) f ++ rows) (rows-looks s t (suc first) count f)

@@ -11,6 +11,7 @@ use Rattle.grs_base.specs.declared.resource.Res.{Res}
 use Rattle.grs_base.specs.declared.resource.TaskId.{TaskId}
 use Rattle.grs_base.proofs.SameLaws.{same_res-exact}
 use Rattle.grs_wire.specs.declared.history.HistEntry.{HistEntry}
+use Rattle.grs_wire.specs.declared.history.HistEntry.TheVariants.{Enq, Deq, Release, Look, Remove}
 use Rattle.grs_known.specs.Items.{RunItem, is_of, removes_system_of, gives_back, mine, took, gave, owns_told}
 use Rattle.grs_known.specs.Items.{owns_after, tells, lists, Made}
 use Rattle.grs_known.specs.Known.{Known, all_but_last, last_of, learned, outstanding, Still, Given, IsRight}
@@ -96,7 +97,18 @@ learned-longer t k T x e = go k.behind e
     go true f = last_of-is (mine t T) x f
     go false f = cc
 
--- what is owned after entries was owned and not taken, or was given
+-- what is owned after an entry was owned and not taken, or was given; and so after several
+owns_told-is : (r : Res) (f : Res → Bool) (h : HistEntry) → owns_told h f r ≡ ((f r && not (took r h)) || gave r h)
+owns_told-is r f (Enq u q c ret code) = refl
+owns_told-is r f (Deq u q have code) = refl
+owns_told-is r f (Release u q) = refl
+owns_told-is r f (Look u place filter rows) = go (f r)
+  where
+    go : (b : Bool) → b ≡ ((b && true) || false)
+    go true = refl
+    go false = refl
+owns_told-is r f (Remove by target) = refl
+
 owns_after-kept : (r : Res) (f : Res → Bool) (hs : List HistEntry) → owns_after f hs r ≡ true
     → ((f r && not (list_any (took r) hs)) || list_any (gave r) hs) ≡ true
 owns_after-kept r f [] h = go (f r) h
@@ -106,7 +118,8 @@ owns_after-kept r f [] h = go (f r) h
     go false e = cc
 owns_after-kept r f (x ∷ hs) h =
     go (f r) (took r x) (gave r x) (list_any (took r) hs) (list_any (gave r) hs)
-    (owns_after-kept r (owns_told x f) hs h)
+    (ap (λ b. (b && not (list_any (took r) hs)) || list_any (gave r) hs) (sym (owns_told-is r f x))
+    ∙ owns_after-kept r (owns_told x f) hs h)
   where
     go : (a b c d e : Bool) → ((((a && not b) || c) && not d) || e) ≡ true → ((a && not (b || d)) || (c || e)) ≡ true
     go a b c d e h = grind (arith, h)

@@ -2,7 +2,7 @@
 -- it goes on.
 use Rattle.std.proofs.Common.{◌≡◌, true, false, List, [], ◌∷◌, ◌++◌, Option, Some, None, refl, ap, sym, ◌∙◌, subst}
 use Rattle.std.specs.Prelude.{is_some}
-use Rattle.std.specs.List.{list_any}
+use Rattle.std.specs.List.{list_all, list_any}
 use Rattle.std.proofs.lemmas.Bool.{or_left}
 use Rattle.grs_base.specs.Lists.{owns}
 use Rattle.grs_base.specs.State.{list_of}
@@ -16,6 +16,7 @@ use Rattle.task_state.specs.Replies.{is_leaving}
 use Rattle.grs_known.specs.Items.{RunItem, is_of, removes_system_of, gives_back, lists, Made, history, tells}
 use Rattle.grs_known.specs.Known.{Known, outstanding, Still, IsRight, falls_behind, learns_item, learns_control}
 use Rattle.grs_known.specs.Past.{Past, past_by, past_of, after_entry, after_entries, Fits, Speaks, SpeaksOf, may_leave}
+use Rattle.grs_known.proofs.lists.Shows.{is_look, looked, after-looks}
 use Rattle.grs_known.proofs.lists.Truths.{false_by, no_truth}
 use Rattle.grs_known.proofs.known.Fitting.{reply_fits}
 use Rattle.grs_known.proofs.known.Histories.{IsHistory, IsLive, live-push}
@@ -130,6 +131,38 @@ entry-decided deck T x t k h g own made live right now one =
     subst (λ p. KnowsEntry (T ++ x ∷ []) t p h) (past-behind T x t k own now)
     (entry-learned deck (T ++ x ∷ []) x t (falls_behind k) h g live (right-own t T x own k now made right)
     (outstanding-own t T x own k) one)
+
+-- ---- looks are learned
+-- What is known of a task once the item of these looks is learned; p was its past before.
+pub record KnowsLooks (T : List RunItem) (t : TaskId) (p : Past) (hs : List HistEntry) : Type 0 where
+  pub known : Known
+  pub knows : Knows T t None known
+  pub past : past_of t known T ≡ looked hs p
+
+pub looks-learned : (T : List RunItem) (x : RunItem) (t : TaskId) (k : Known) → IsLive t T → IsRight t k T
+    → outstanding t k T ≡ Some x → list_all is_look x.entries ≡ true → KnowsLooks T t (past_of t k T) x.entries
+looks-learned T x t k live right is looks = record {
+  known = learns_item k x;
+  knows = record { right = right-answer t k T x is right; request = tt; live = live };
+  past = past_grows t k T x is ∙ after-looks x.entries looks (past_of t k T);
+}
+
+-- and those that its system sees at once
+pub looks-decided : (T : List RunItem) (x : RunItem) (t : TaskId) (k : Known) → is_of t x.fixed ≡ true → Made T x
+    → IsLive t (T ++ x ∷ []) → IsRight t k T → k.behind ≡ false → list_all is_look x.entries ≡ true
+    → KnowsLooks (T ++ x ∷ []) t (past_of t k T) x.entries
+looks-decided T x t k own made live right now looks =
+    subst (λ p. KnowsLooks (T ++ x ∷ []) t p x.entries) (past-behind T x t k own now)
+    (looks-learned (T ++ x ∷ []) x t (falls_behind k) live (right-own t T x own k now made right)
+    (outstanding-own t T x own k) looks)
+
+-- a task that knows all may have a request
+pub knows-asks : (T : List RunItem) (t : TaskId) (k : Known) (o : Option Asked) → Knows T t None k → Knows T t o k
+knows-asks T t k o h = record {
+  right = h.right;
+  request = subst (IsOutstanding o) (sym (knows-closed T t None k refl h)) tt;
+  live = h.live;
+}
 
 -- ---- control is learned
 pub knows-control : (T : List RunItem) (t : TaskId) (r : Res) (o : Option Asked) (k : Known) → Knows T t o k

@@ -1,19 +1,24 @@
 -- States that have the same lists, whatever the order of elements of different resources: a request is answered alike
 -- by them, and leaves them so.
-use Rattle.std.proofs.Common.{◌≡◌, Bool, true, false, cond, [], ◌∷◌, Some, List, refl, ap, sym, ◌∙◌, subst}
+use Rattle.std.proofs.Common.{◌≡◌, ℕ, zero, suc, Bool, true, false, cond, [], ◌∷◌, ◌++◌, Some, List, refl, ap, sym, ◌∙◌}
+use Rattle.std.proofs.Common.{subst}
 use Rattle.grs_base.specs.Same.{same_res}
 use Rattle.grs_base.specs.Lists.{list_after, list_without, decide_enq, deq_code, is_owner, standing_of}
+use Rattle.grs_base.specs.Looks.{look}
 use Rattle.grs_base.specs.State.{State, list_of, without}
+use Rattle.grs_base.specs.declared.look.Filter.{Filter}
+use Rattle.grs_base.specs.declared.look.Place.TheVariants.{Slice}
 use Rattle.grs_base.specs.declared.resource.Elem.{Elem}
 use Rattle.grs_base.specs.declared.resource.Res.{Res}
 use Rattle.grs_base.specs.declared.resource.TaskId.{TaskId}
 use Rattle.grs_base.proofs.SameLaws.{same_res-itself}
 use Rattle.grs_base.proofs.StateLaws.{list_at-without, res_equality, list_of-effect}
-use Rattle.grs_wire.specs.Wants.{after_want, answer_to, became_owners, new_owners, res_wanted}
-use Rattle.grs_wire.specs.declared.request.Answer.TheVariants.{Coded}
+use Rattle.grs_wire.specs.Wants.{after_want, answer_to, became_owners, looks, new_owners, res_wanted}
+use Rattle.grs_wire.specs.declared.request.Answer.TheVariants.{Coded, Rows}
 use Rattle.grs_wire.specs.declared.request.Want.{Want}
 use Rattle.grs_wire.specs.declared.request.Want.TheVariants as wants
 use Rattle.grs_wire.proofs.WantLaws.{by_res, list_of-want_other}
+use Rattle.grs_known.proofs.lists.Shows.{look-alike}
 
 -- ---- what a request does to the list of its resource depends on that list alone, and other lists stay
 abbrev pub EditsOne : Res → (State → State) → Type 0
@@ -92,12 +97,17 @@ alike-want s z t (wants.Release q) h = record {
 alike-want s z t (wants.Look first count f) h = h
 
 -- it is answered alike, and the same tasks become owners
-pub answer-alike : (s z : State) (t : TaskId) (w : Want) (r : Res) → res_wanted w ≡ Some r → Alike s z
-    → answer_to s t w ≡ answer_to z t w
-answer-alike s z t (wants.Enq q c ret full) r is h = ap (λ es. Coded (decide_enq es t c ret full).code) (h.lists q)
-answer-alike s z t (wants.Deq q have) r is h = ap (λ es. Coded (deq_code (standing_of es t) have)) (h.lists q)
-answer-alike s z t (wants.Release q) r is h = refl
-answer-alike s z t (wants.Look first count f) r is h = absurd (cc)
+looks-alike : (s z : State) (first count : ℕ) (f : Filter) → Alike s z → looks s first count f ≡ looks z first count f
+looks-alike s z first zero f h = refl
+looks-alike s z first (suc count) f h =
+    ap (λ rows. rows ++ looks s (suc first) count f) (look-alike (Slice first) f s z (λ q e. h.lists q))
+    ∙ ap (λ rows. look z (Slice first) f ++ rows) (looks-alike s z (suc first) count f h)
+
+pub answer-alike : (s z : State) (t : TaskId) (w : Want) → Alike s z → answer_to s t w ≡ answer_to z t w
+answer-alike s z t (wants.Enq q c ret full) h = ap (λ es. Coded (decide_enq es t c ret full).code) (h.lists q)
+answer-alike s z t (wants.Deq q have) h = ap (λ es. Coded (deq_code (standing_of es t) have)) (h.lists q)
+answer-alike s z t (wants.Release q) h = refl
+answer-alike s z t (wants.Look first count f) h = ap Rows (looks-alike s z first count f h)
 
 owners-by : (s z s' z' : State) (t : TaskId) (r : Res) → Alike s z → Alike s' z'
     → became_owners (list_of s r) (list_of s' r) t ≡ became_owners (list_of z r) (list_of z' r) t

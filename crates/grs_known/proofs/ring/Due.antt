@@ -28,16 +28,15 @@ use Rattle.grs_known.specs.Known.{Known, all_but_last, last_of, outstanding, Sti
 use Rattle.grs_known.specs.Reading.{gives_among, Keeps, all_known, all_but}
 use Rattle.grs_known.proofs.lists.Facts.{filter-cons_kept, filter-cons_left}
 use Rattle.grs_known.proofs.lists.Owners.{is_among}
-use Rattle.grs_known.proofs.lists.Parts.{answer_to-part}
 use Rattle.grs_known.proofs.lists.Truths.{false_by, no_truth}
 use Rattle.grs_known.proofs.known.Fitting.{made-behind}
 use Rattle.grs_known.proofs.known.Fronts.{pushed}
-use Rattle.grs_known.proofs.known.Histories.{AllAsk, IsHistory, IsLive, asks-front, live-behind, owns-may}
+use Rattle.grs_known.proofs.known.Histories.{AllAsk, IsHistory, IsLive, asks-front, live-behind, owns-may, wants-round}
 use Rattle.grs_known.proofs.known.ItemLaws.{lists-push}
 use Rattle.grs_known.proofs.ring.Parts.{list_of-systems, part-remove}
 use Rattle.grs_known.proofs.known.Knowing.{last_of-is, one, one-none, one-some}
 use Rattle.grs_known.proofs.known.Knows.{known-all}
-use Rattle.grs_known.proofs.ring.Reading.{table-is, owner-behind, owners_stay_on}
+use Rattle.grs_known.proofs.ring.Reading.{answer-systems, table-is, owner-behind, owners_stay_on}
 
 -- ---- the last item of a task, and those that went with the message
 filter-swap : (p q : RunItem → Bool) (xs : List RunItem) → filter p (filter q xs) ≡ filter q (filter p xs)
@@ -200,24 +199,22 @@ owner_stays deck T before x later r u g s wide own = (
     made : AllMade s.front (x ∷ s.rest)
     made = made-behind [] s.front (x ∷ s.rest) (subst (AllMade []) s.whole g.made)
 
--- A request that is processed by the table of what was processed before: its entry is by some lists, the answer is that
--- in the entry, and who becomes an owner is one still.
-pub record ReadBy (deck : Deck) (T before : List RunItem) (x : RunItem) (later : List RunItem) (q : Req) (r : Res) :
-    Type 0 where
+-- A request of the message that is processed by the table of what was processed before: its entries are by some lists,
+-- the answer is that in the entries, and who becomes an owner of its resource is one still.
+pub record ReadBy (deck : Deck) (T before : List RunItem) (x : RunItem) (later : List RunItem) (q : Req) : Type 0 where
   pub at : State
   pub made : x.entries ≡ entries_for at q.task q.want
   pub answer : answer_to (lists before) q.task q.want ≡ answer_to at q.task q.want
-  pub owners : (u : TaskId) → is_among u (new_owners (lists before) q.task q.want) ≡ true →
+  pub owners : (r : Res) → res_wanted q.want ≡ Some r → (u : TaskId)
+      → is_among u (new_owners (lists before) q.task q.want) ≡ true →
       (is_some (lines_of deck u) ≡ true) × StillBy T later r u
 
-pub read_by : (deck : Deck) (T before : List RunItem) (x : RunItem) (later : List RunItem) (q : Req) (r : Res)
-    → IsHistory deck T → rounds T ≡ before ++ x ∷ later → x.fixed ≡ Asked q → res_wanted q.want ≡ Some r
-    → is_systems r ≡ true → ReadBy deck T before x later q r
-read_by deck T before x later q r g whole asked wanted wide = record {
+pub read_by : (deck : Deck) (T before : List RunItem) (x : RunItem) (later : List RunItem) (q : Req) → IsHistory deck T
+    → rounds T ≡ before ++ x ∷ later → x.fixed ≡ Asked q → wants_round q.want ≡ true → ReadBy deck T before x later q
+read_by deck T before x later q g whole asked round = record {
   at = lists s.front;
   made = made.0 ∙ ap (fixed_entries (lists s.front) x.by) asked;
-  answer =
-      ap (λ z. answer_to z q.task q.want) table ∙ answer_to-part is_systems (lists s.front) q.task q.want r wanted wide;
+  answer = ap (λ z. answer_to z q.task q.want) table ∙ answer-systems (lists s.front) q.task q.want round;
   owners = owners;
 }
   where
@@ -230,15 +227,13 @@ read_by deck T before x later q r g whole asked wanted wide = record {
     table : lists before ≡ systems_part (lists s.front)
     table = ap lists (sym s.seen) ∙ table-is s.front
 
-    owns_now : (u : TaskId) → is_among u (new_owners (lists before) q.task q.want) ≡ true
-        → owns (list_of (lists (s.front ++ x ∷ [])) r) u ≡ true
-    owns_now u e =
-        owner-behind is_systems s.front x q r u asked wanted wide
-        (ap (λ z. is_among u (new_owners z q.task q.want)) (sym table) ∙ e)
-
-    owners : (u : TaskId) → is_among u (new_owners (lists before) q.task q.want) ≡ true
+    owners : (r : Res) → res_wanted q.want ≡ Some r → (u : TaskId)
+        → is_among u (new_owners (lists before) q.task q.want) ≡ true
         → (is_some (lines_of deck u) ≡ true) × StillBy T later r u
-    owners u e = owner_stays deck T before x later r u g s wide (owns_now u e)
+    owners r wanted u e =
+        let wide : is_systems r ≡ true = sym (wants-round q.want r wanted) ∙ round in
+        owner_stays deck T before x later r u g s wide (owner-behind is_systems s.front x q r u asked wanted wide
+        (ap (λ z. is_among u (new_owners z q.task q.want)) (sym table) ∙ e))
 
 -- A removal is processed by that table: who owns by what it leaves is one still.
 pub owns_left :

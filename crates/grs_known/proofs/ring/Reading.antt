@@ -1,19 +1,23 @@
 -- What a system in the ring learns by its table is right.
-use Rattle.std.proofs.Common.{◌≡◌, Bool, true, false, cond, ◌&&◌, List, [], ◌∷◌, ◌++◌, Some, None, refl, ap, sym, ◌∙◌}
-use Rattle.std.proofs.Common.{subst, append_assoc, append-nil}
+use Rattle.std.proofs.Common.{◌≡◌, Bool, true, false, cond, ◌&&◌, List, [], ◌∷◌, ◌++◌, Some, None, Option, refl, ap}
+use Rattle.std.proofs.Common.{sym, ◌∙◌, subst, append_assoc, append-nil}
 use Rattle.std.specs.List.{list_any}
 use Rattle.std.proofs.lemmas.List.Elements.{filter-append}
 use Rattle.std.proofs.lemmas.Bool.{or_parts}
 use Rattle.grs_base.specs.Same.{same_task}
 use Rattle.grs_base.specs.Lists.{owns}
-use Rattle.grs_base.specs.State.{list_of, is_systems}
+use Rattle.grs_base.specs.State.{State, list_of, is_systems}
 use Rattle.grs_base.specs.declared.resource.Res.{Res}
 use Rattle.grs_base.specs.declared.resource.TaskId.{TaskId}
 use Rattle.grs_wire.specs.History.{after_fixed, fixed_entries}
 use Rattle.grs_wire.specs.Wants.{answer_to, res_wanted, new_owners}
 use Rattle.grs_wire.specs.declared.request.Fixed.TheVariants.{Asked}
+use Rattle.grs_wire.specs.declared.request.Answer.TheVariants.{Rows}
 use Rattle.grs_wire.specs.declared.request.Req.{Req}
-use Rattle.grs_known.specs.Items.{RunItem, is_of, removes_system_of, gives_back, mine, rounds, reply_in, lists, AllMade}
+use Rattle.grs_wire.specs.declared.request.Want.{Want}
+use Rattle.grs_wire.specs.declared.request.Want.TheVariants as wants
+use Rattle.grs_known.specs.Items.{RunItem, is_of, removes_system_of, gives_back, wants_round, mine, rounds, reply_in}
+use Rattle.grs_known.specs.Items.{lists, AllMade}
 use Rattle.grs_known.specs.Known.{Known, last_of, outstanding, Still, IsRight, learns_item}
 use Rattle.grs_known.specs.Parts.{systems_part}
 use Rattle.grs_known.specs.Reading.{gives_among, all_known, all_but, learns_mine, gained, learns_gained, TableAnswers}
@@ -21,8 +25,10 @@ use Rattle.grs_known.specs.Reading.{OwnersStayOn, ReadingIsRight}
 use Rattle.grs_known.proofs.lists.Facts.{filter-cons_kept}
 use Rattle.grs_known.proofs.lists.Owners.{is_among, is_among-any, new-owns}
 use Rattle.grs_known.proofs.lists.Parts.{part, answer_to-part, new_owners-part}
+use Rattle.grs_known.proofs.lists.Shows.{looks-systems}
 use Rattle.grs_known.proofs.known.Control.{owns-other, still-own}
 use Rattle.grs_known.proofs.known.Fronts.{pushed, still-rest}
+use Rattle.grs_known.proofs.known.Histories.{wants-round}
 use Rattle.grs_known.proofs.known.ItemLaws.{lists-push, replies_are_answers}
 use Rattle.grs_known.proofs.known.Knowing.{last_of-push, right-answer, right-control}
 use Rattle.grs_known.proofs.ring.Parts.{part-items}
@@ -87,10 +93,17 @@ owners_stay_on t r k front rest made live (all_but mid x behind e none own last)
 pub table-is : (front : List RunItem) → lists (rounds front) ≡ systems_part (lists front)
 table-is front = part-items [] front
 
+-- it answers what goes with the message as all lists do
+pub answer-systems : (s : State) (t : TaskId) (w : Want) → wants_round w ≡ true
+    → answer_to (systems_part s) t w ≡ answer_to s t w
+answer-systems s t (wants.Enq r c ret full) wide = answer_to-part is_systems s t (wants.Enq r c ret full) r refl wide
+answer-systems s t (wants.Deq r have) wide = answer_to-part is_systems s t (wants.Deq r have) r refl wide
+answer-systems s t (wants.Release r) wide = refl
+answer-systems s t (wants.Look first count f) wide = ap Rows (looks-systems s first count f)
+
 pub table_answers : TableAnswers
-table_answers front x q r asked wanted wide made =
-    ap (λ z. answer_to z q.task q.want) (table-is front)
-    ∙ answer_to-part is_systems (lists front) q.task q.want r wanted wide
+table_answers front x q asked wide made =
+    ap (λ z. answer_to z q.task q.want) (table-is front) ∙ answer-systems (lists front) q.task q.want wide
     ∙ sym (replies_are_answers (lists front) q.task q.want)
     ∙ ap reply_in (sym (made ∙ ap (fixed_entries (lists front) x.by) asked))
 
@@ -115,9 +128,9 @@ gained-owns t front x q r asked wanted wide e =
     ∙ e)
 
 pub reading_is_right : ReadingIsRight
-reading_is_right t k front x rest q r asked wanted wide made live mine_is keeps right =
+reading_is_right t k front x rest q asked wide made live mine_is keeps right =
     subst (λ f. IsRight t (learns_gained (learns_mine t k x) (gained t (lists (rounds front)) f)) T) (sym asked)
-    (go (list_any (same_task t) (new_owners (lists (rounds front)) q.task q.want)) refl)
+    (by_owners (list_any (same_task t) (new_owners (lists (rounds front)) q.task q.want)) refl (res_wanted q.want) refl)
   where
     T : List RunItem
     T = front ++ x ∷ rest
@@ -129,12 +142,11 @@ reading_is_right t k front x rest q r asked wanted wide made live mine_is keeps 
         by_own true e = right-answer t k T x (mine_is e) right
         by_own false e = right
 
-    go : (b : Bool) → list_any (same_task t) (new_owners (lists (rounds front)) q.task q.want) ≡ b
-        → IsRight t (learns_gained (learns_mine t k x) (cond b (res_wanted q.want) None)) T
-    go false e = learned
-    go true e =
-        subst (λ o. IsRight t (learns_gained (learns_mine t k x) o) T)
-        (sym wanted) (right-control t (learns_mine t k x) T r learned
+    by_owners : (b : Bool) → list_any (same_task t) (new_owners (lists (rounds front)) q.task q.want) ≡ b
+        → (o : Option Res) → res_wanted q.want ≡ o → IsRight t (learns_gained (learns_mine t k x) (cond b o None)) T
+    by_owners false e o wanted = learned
+    by_owners true e None wanted = learned
+    by_owners true e (Some r) wanted = right-control t (learns_mine t k x) T r learned
         (subst (λ U. Still r t U (outstanding t (learns_mine t k x) U)) (sym (pushed front x rest))
-        (owners_stay_on t r (learns_mine t k x) (front ++ x ∷ []) rest made.1 live keeps
-        (gained-owns t front x q r asked wanted wide e))))
+        (owners_stay_on t r (learns_mine t k x) (front ++ x ∷ []) rest made.1 live (keeps r wanted)
+        (gained-owns t front x q r asked wanted (sym (wants-round q.want r wanted) ∙ wide) e)))

@@ -1,48 +1,61 @@
 -- A task whose request is outstanding is seen as one that hasn't asked yet.
-use Rattle.std.proofs.Common.{◌≡◌, ◌<◌, ◌-◌, ℕ, Bool, true, false, not, ◌||◌, List, [], ◌∷◌, map, length, Option, Some}
-use Rattle.std.proofs.Common.{None, refl, ap, sym, ◌∙◌, subst, arith}
+use Rattle.std.proofs.Common.{◌≡◌, ◌<◌, ◌≤◌, ◌-◌, ◌+◌, ℕ, Bool, true, false, not, ◌||◌, List, [], ◌∷◌, map, length}
+use Rattle.std.proofs.Common.{take, Option, Some, None, refl, ap, sym, ◌∙◌, subst, arith}
 use Rattle.std.specs.Prelude.{slice_get, nat_le}
 use Rattle.std.specs.List.{list_all}
 use Rattle.std.proofs.lemmas.Bool.{cases_Bool}
 use Rattle.grs_base.specs.Same.{same_res, same_task}
 use Rattle.grs_base.specs.State.{is_systems}
+use Rattle.grs_base.specs.declared.look.Filter.{Filter}
 use Rattle.grs_base.specs.declared.resource.Res.{Res}
+use Rattle.grs_base.specs.declared.resource.Row.{Row}
 use Rattle.grs_base.specs.declared.resource.TaskId.{TaskId}
 use Rattle.grs_base.proofs.SameLaws.{same_res-exact}
+use Rattle.grs_legal.specs.Asks.{asks_of}
+use Rattle.grs_legal.specs.declared.meaning.Display.{Display}
 use Rattle.grs_legal.specs.declared.meaning.Meaning.{Meaning}
 use Rattle.grs_legal.specs.declared.meaning.Meaning.TheVariants as lines
+use Rattle.grs_wire.specs.declared.history.HistEntry.{HistEntry}
 use Rattle.grs_wire.specs.declared.request.Req.{Req}
 use Rattle.grs_wire.specs.declared.request.Want.{Want}
 use Rattle.grs_wire.specs.declared.request.Want.TheVariants.{Enq, Deq, Release, Look}
 use Rattle.grs_wire.specs.declared.told.ToldLine.{ToldLine}
 use Rattle.task_state.specs.declared.state.Asked.{Asked}
 use Rattle.task_state.specs.declared.state.Rec.{Rec}
+use Rattle.task_state.specs.declared.state.Showing.{Showing}
 use Rattle.task_state.specs.declared.state.Phase.{Phase}
 use Rattle.task_state.specs.declared.state.Phase.TheVariants as phases
 use Rattle.task_state.specs.declared.state.TaskState.{TaskState}
 use Rattle.task_state.specs.View.{on_record, is_sent}
-use Rattle.task_state.specs.Replies.{gives_up, is_leaving, is_held, phase_asking}
+use Rattle.task_state.specs.Replies.{gives_up, is_leaving, is_held}
 use Rattle.task_state.proofs.ViewLaws.{length-on_record}
 use Rattle.grs_known.proofs.lists.Owners.{is_among}
 use Rattle.grs_known.proofs.tasks.Invariant.{IsTask, is_unsent}
 use Rattle.grs_known.specs.Items.{RunItem}
 use Rattle.grs_known.specs.Past.{Past, may_leave}
+use Rattle.grs_known.proofs.known.Following.{AsksLooks, asks-looks}
 use Rattle.grs_known.proofs.known.Knows.{IsOutstanding, stays-asked}
 use Rattle.grs_known.proofs.lists.Truths.{false_by, no_truth}
 use Rattle.grs_known.proofs.system.Says.{askers}
 
--- the line at which a task is seen that has asked this at line n
+-- the line at which a task is seen that has asked this at line n, and its phase
 abbrev pub line_asked : Want → ℕ → ℕ
 line_asked (Enq r c ret full) n = n - 1
 line_asked (Deq r have) n = n - 1
 line_asked (Release r) n = n
 line_asked (Look first count f) n = n
 
+abbrev pub phase_seen : Want → ℕ → Phase
+phase_seen (Enq r c ret full) code = phases.Ready
+phase_seen (Deq r have) code = phases.Ready
+phase_seen (Release r) code = phases.Ending code
+phase_seen (Look first count f) code = phases.ToSend
+
 abbrev pub unasked_by : Option Asked → TaskState → TaskState
 unasked_by None x = x
-unasked_by (Some a) x = record x { line = line_asked a.req.want x.line; phase = phase_asking a.req.want x.code }
+unasked_by (Some a) x = record x { line = line_asked a.req.want x.line; phase = phase_seen a.req.want x.code }
 
--- a task as it was before it asked what is outstanding
+-- A task as it was before it asked what is outstanding. One that looks goes on looking.
 abbrev pub unasked : TaskState → TaskState
 unasked x = unasked_by x.outstanding x
 
@@ -75,7 +88,8 @@ IsAtLines (phases.Ending c) code = code ≡ c
 IsAtLines phases.Ended code = Unit {0}
 
 -- what an outstanding request has to do with its task: it is what the last line means, or, of an ending task,
--- the release of its first resource on record; and it is for a resource of the whole complex
+-- the release of its first resource on record; and it is for a resource of the whole complex. What looks have to do
+-- with their line is `IsLooks`.
 abbrev pub IsAskedFor : ℕ → List Meaning → ℕ → List Rec → Want → Option ℕ → Type 0
 IsAskedFor limit ls n xs (Enq r c ret full) unit =
     (0 < n) × (slice_get ls (n - 1) ≡ Some (lines.Enq r c ret unit)) × (is_systems r ≡ true)
@@ -83,7 +97,7 @@ IsAskedFor limit ls n xs (Enq r c ret full) unit =
 IsAskedFor limit ls n xs (Deq r have) unit =
     (0 < n) × (slice_get ls (n - 1) ≡ Some (lines.Deq r have)) × (is_systems r ≡ true)
 IsAskedFor limit ls n xs (Release r) unit = (slice_get (map (λ y. y.res) xs) 0 ≡ Some r) × (is_systems r ≡ true)
-IsAskedFor limit ls n xs (Look first count f) unit = ⊥
+IsAskedFor limit ls n xs (Look first count f) unit = Unit {0}
 
 abbrev pub IsOpenBy : ℕ → List Meaning → TaskId → TaskState → Option Asked → Type 0
 IsOpenBy limit ls t x None = IsAtLines x.phase x.code
@@ -94,6 +108,64 @@ IsOpenBy limit ls t x (Some a) =
 abbrev pub IsOpen : ℕ → List Meaning → TaskId → TaskState → Type 0
 IsOpen limit ls t x = IsOpenBy limit ls t x x.outstanding
 
+-- ---- looks
+-- Looks are outstanding of the line of a task with these entries: at slices of the line's display, behind those at
+-- which it looked, and with so many left behind them.
+pub record AreLooks (ls : List Meaning) (E : List HistEntry) (line first count : ℕ) (f : Filter)
+    (showing : Option Showing) :
+    Type 0 where
+  pub display : Display
+  pub at : slice_get ls (line - 1) ≡ Some (lines.Shows display)
+  pub left : ℕ
+  pub is : showing ≡ Some (record { verb = display.verb; left = left })
+  pub filter : f ≡ display.filter
+  pub some : 0 < count
+  pub from : display.first ≤ first
+  pub to : first + count + left ≡ display.first + display.count
+  pub all : length E + count + left ≡ length (asks_of (take line ls))
+
+abbrev pub IsLooksBy : List Meaning → List HistEntry → ℕ → Want → Option Showing → Type 0
+IsLooksBy ls E line (Enq r c ret full) showing = Unit {0}
+IsLooksBy ls E line (Deq r have) showing = Unit {0}
+IsLooksBy ls E line (Release r) showing = Unit {0}
+IsLooksBy ls E line (Look first count f) showing = AreLooks ls E line first count f showing
+
+abbrev pub IsLooks : List Meaning → List HistEntry → ℕ → Option Asked → Type 0
+IsLooks ls E line None = Unit {0}
+IsLooks ls E line (Some a) = IsLooksBy ls E line a.req.want a.showing
+
+-- they are what the task asks next
+pub looks-asked :
+    (ls : List Meaning) (p : Past) (T : List ToldLine) (leaving : Res → Bool) (t : TaskId) (line code : ℕ)
+    (xs : List Rec) (o : Option Asked) (ws : List Row)
+    →
+    IsTask ls p T leaving t
+    (record { line = line; phase = phases.ToSend; code = code; records = xs; outstanding = o; rows = ws })
+    → (first count : ℕ) (f : Filter) (showing : Option Showing) →
+    AreLooks ls p.asked line first count f showing → AsksLooks ls p first count f
+looks-asked ls p T leaving t line code xs o ws k first count f showing a =
+    subst (AsksLooks ls p first count) (sym a.filter)
+    (asks-looks ls p line a.display first count a.left k.phase.begun a.at k.phase.going.no_code k.phase.free
+    k.phase.passed a.some a.from a.to a.all)
+
+-- and they are so where only the first is asked for, and the others are left behind it
+pub first-looks :
+    (ls : List Meaning) (E : List HistEntry) (line first count : ℕ) (f : Filter) (showing : Option Showing)
+    → (a : AreLooks ls E line first count f showing) →
+    AreLooks ls E line first 1 f (Some (record { verb = a.display.verb; left = a.left + (count - 1) }))
+first-looks ls E line first count f showing a = record {
+  display = a.display;
+  at = a.at;
+  left = a.left + (count - 1);
+  is = refl;
+  filter = a.filter;
+  some = omega arith;
+  from = a.from;
+  to = omega (arith, a.some, a.to);
+  all = omega (arith, a.some, a.all);
+}
+
+-- ---- control is told
 same-res : (r : Res) (xs : List Rec)
     → map (λ (y : Rec). y.res) (on_record r (λ z. record z { told = true }) xs) ≡ map (λ (y : Rec). y.res) xs
 same-res r [] = refl
@@ -130,7 +202,7 @@ pub unheld : (limit : ℕ) (ls : List Meaning) (t : TaskId) (x : TaskState) → 
     → is_held (unasked x).phase ≡ true → x.outstanding ≡ None
 unheld limit ls t x h e = go x.outstanding h e
   where
-    asks : (w : Want) (code : ℕ) → is_held (phase_asking w code) ≡ false
+    asks : (w : Want) (code : ℕ) → is_held (phase_seen w code) ≡ false
     asks (Enq r c ret full) code = refl
     asks (Deq r have) code = refl
     asks (Release r) code = refl
@@ -222,5 +294,6 @@ task-open ls p T leaving t x o k = record {
   codes = k.codes;
   posts = k.posts;
   phase = k.phase;
+  shown = k.shown;
   emptied = k.emptied;
 }

@@ -2,6 +2,7 @@
 use Rattle.std.proofs.Common.{◌≡◌, ◌⊎◌, inl, inr, Bool, true, false, cond, not, ◌||◌, List, [], ◌∷◌, ◌++◌, map, Some}
 use Rattle.std.proofs.Common.{None, refl, ap, sym, ◌∙◌, subst}
 use Rattle.std.specs.Prelude.{filter}
+use Rattle.std.specs.List.{list_all}
 use Rattle.std.proofs.lemmas.Bool.{or_left, or_right}
 use Rattle.grs_base.specs.Same.{same_res}
 use Rattle.grs_base.specs.Lists.{has_task}
@@ -17,6 +18,7 @@ use Rattle.grs_legal.specs.declared.meaning.Meaning.{Meaning}
 use Rattle.grs_wire.specs.History.{entries_for}
 use Rattle.grs_wire.specs.Wants.{res_wanted}
 use Rattle.grs_wire.specs.declared.deck.Deck.{Deck}
+use Rattle.grs_wire.specs.declared.history.HistEntry.{HistEntry}
 use Rattle.grs_wire.specs.declared.request.Want.{Want}
 use Rattle.grs_wire.specs.declared.request.Want.TheVariants.{Enq, Deq, Release, Look}
 use Rattle.grs_wire.specs.declared.told.ToldLine.{ToldLine}
@@ -30,6 +32,7 @@ use Rattle.grs_known.proofs.known.Histories.{IsHistory}
 use Rattle.grs_known.proofs.known.Knows.{speaks-known}
 use Rattle.grs_known.proofs.known.Pasts.{past_grows, elements_are_of_items}
 use Rattle.grs_known.proofs.lists.Own.{has_task-own}
+use Rattle.grs_known.proofs.lists.Shows.{is_look, looked, after-looks}
 use Rattle.grs_known.proofs.tasks.Invariant.{has_res, key}
 use Rattle.grs_known.proofs.tasks.Keys.{has_res-own}
 use Rattle.grs_known.proofs.system.Asking.{Opens, records-unasked}
@@ -93,16 +96,20 @@ module _ (deck : Deck) (os : Opens) (T : List RunItem) (right : IsHistory deck T
   recorded h =
       has_res-own r x.records (past_of t k.known T).own (ap (map key) (sym (records-unasked x)) ∙ k.task.keys) ∙ h
 
+  all-own : (y : RunItem) → outstanding t k.known T ≡ Some y → has_task (list_of (lists T) r) t ≡ true
+      → has_own r (after_entries y.entries (past_of t k.known T)).own ≡ true
+  all-own y is h =
+      sym (ap (λ (p : Past). has_own r p.own) (past_grows t k.known T y is))
+      ∙ (sym (ap (has_own r) (elements_are_of_items t T right.made k.knows.live))
+      ∙ (sym (has_task-own (lists T) t r) ∙ h))
+
   by_item : (y : RunItem) (S : State) (w : Want) → outstanding t k.known T ≡ Some y → y.entries ≡ entries_for S t w
       → (q : Res) → res_wanted w ≡ Some q → has_task (list_of (lists T) r) t ≡ true
       → (has_own r (past_of t k.known T).own ≡ true) ⊎ (q ≡ r)
   by_item y S w is made q wanted h = by_want w made wanted
     where
       all : has_own r (after_entries y.entries (past_of t k.known T)).own ≡ true
-      all =
-          sym (ap (λ (p : Past). has_own r p.own) (past_grows t k.known T y is))
-          ∙ (sym (ap (has_own r) (elements_are_of_items t T right.made k.knows.live))
-          ∙ (sym (has_task-own (lists T) t r) ∙ h))
+      all = all-own y is h
 
       by_want : (v : Want) → y.entries ≡ entries_for S t v → res_wanted v ≡ Some q
           → (has_own r (past_of t k.known T).own ≡ true) ⊎ (q ≡ r)
@@ -143,3 +150,15 @@ module _ (deck : Deck) (os : Opens) (T : List RunItem) (right : IsHistory deck T
       go : (has_own r (past_of t k.known T).own ≡ true) ⊎ (q ≡ r) → (has_res r x.records ≡ true) ⊎ (q ≡ r)
       go (inl z) = inl (recorded z)
       go (inr z) = inr z
+
+  -- one that is, with looks
+  pub busy-looks : (y : RunItem) → outstanding t k.known T ≡ Some y → list_all is_look y.entries ≡ true
+      → has_task (list_of (lists T) r) t ≡ true → has_res r x.records ≡ true
+  busy-looks y out looks h =
+      recorded (sym (ap (λ (p : Past). has_own r p.own) (after-looks y.entries looks (past_of t k.known T))
+      ∙ ap (has_own r) (own-looked y.entries))
+      ∙ all-own y out h)
+    where
+      own-looked : (hs : List HistEntry) → (looked hs (past_of t k.known T)).own ≡ (past_of t k.known T).own
+      own-looked [] = refl
+      own-looked (e ∷ es) = refl

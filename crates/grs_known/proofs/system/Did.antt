@@ -1,28 +1,30 @@
 -- What the words of an event do to its task, to the others and to what was told.
-use Rattle.std.proofs.Common.{◌≡◌, ◌+◌, ℕ, suc, Bool, true, false, cond, List, [], ◌∷◌, ◌++◌, Option, refl, ap, ◌∙◌}
-use Rattle.std.proofs.Common.{subst, add-one}
+use Rattle.std.proofs.Common.{◌≡◌, ◌+◌, ℕ, suc, Bool, true, false, cond, List, [], ◌∷◌, ◌++◌, length, Option, refl, ap}
+use Rattle.std.proofs.Common.{◌∙◌, subst, add-one}
 use Rattle.grs_base.specs.declared.resource.Res.{Res}
 use Rattle.grs_base.specs.declared.resource.Ctl.{Ctl}
 use Rattle.grs_base.specs.declared.resource.Ctl.TheVariants as ctls
 use Rattle.grs_base.specs.declared.resource.Ret.{Ret}
+use Rattle.grs_base.specs.declared.resource.Row.{Row}
 use Rattle.grs_base.specs.declared.resource.TaskId.{TaskId}
 use Rattle.grs_base.specs.declared.decision.Code.{Code}
 use Rattle.grs_base.specs.declared.decision.Code.TheVariants.{C00, C04, C08, C14, C18, Wait, End}
+use Rattle.gqscan.specs.Shown.{code_for}
 use Rattle.task_state.specs.declared.state.Asked.{Asked}
 use Rattle.grs_wire.specs.declared.request.Want.TheVariants.{Enq, Deq, Release}
 use Rattle.grs_wire.specs.declared.told.Verb.{Verb}
 use Rattle.grs_wire.specs.declared.told.Verb.TheVariants as verbs
 use Rattle.grs_wire.specs.declared.told.ToldLine.{ToldLine}
-use Rattle.grs_wire.specs.declared.told.ToldLine.TheVariants.{Coded}
+use Rattle.grs_wire.specs.declared.told.ToldLine.TheVariants.{Coded, Shown}
 use Rattle.task_state.specs.declared.state.Rec.{Rec}
 use Rattle.task_state.specs.declared.state.Phase.{Phase}
 use Rattle.task_state.specs.declared.state.TaskState.{TaskState}
 use Rattle.task_state.specs.View.{TasksView, is_task, state_of, with_state, with_line, with_phase, with_outstanding}
-use Rattle.task_state.specs.View.{with_record, without_record, with_exclusive, telling, on_record, with_last}
-use Rattle.task_state.specs.View.{without_first, code_in}
+use Rattle.task_state.specs.View.{with_record, without_record, with_exclusive, with_rows, without_rows, telling}
+use Rattle.task_state.specs.View.{on_record, with_last, without_first, code_in}
 use Rattle.task_state.proofs.ViewLaws.{state_of-same, told-state, state_of-telling, told-telling}
-use Rattle.task_state.specs.Replies.{is_queued, is_changed, is_granted, phase_after, tell_code, record_enq, after_code}
-use Rattle.task_state.specs.Replies.{new_record}
+use Rattle.task_state.specs.Replies.{is_queued, is_changed, is_granted, phase_after, tell_code, tell_rows, record_enq}
+use Rattle.task_state.specs.Replies.{after_code, new_record}
 use Rattle.grs_known.proofs.system.Ours.{IsChanged, changed-state, changed-telling, changed-then, changed-none}
 use Rattle.grs_known.proofs.tasks.Asked.{told_after}
 use Rattle.grs_known.proofs.tasks.Decided.{enq_records}
@@ -75,6 +77,25 @@ module _ (v w : TasksView) (t : TaskId) (x : TaskState) (T : List ToldLine) (her
   pub did-without : (r : Res) → Did v (without_record w t r) t (record x { records = without_first x.records r }) T
   unfolding without_record
   did-without r = did-state v w t x T (λ y. record y { records = without_first y.records r }) here d
+
+  pub did-rows : (rs : List Row) → Did v (with_rows w t rs) t (record x { rows = x.rows ++ rs }) T
+  unfolding with_rows
+  did-rows rs = did-state v w t x T (λ y. record y { rows = y.rows ++ rs }) here d
+
+  did-no_rows : Did v (without_rows w t) t (record x { rows = [] }) T
+  unfolding without_rows
+  did-no_rows = did-state v w t x T (λ y. record y { rows = [] }) here d
+
+  -- all rows of the task's last line are told
+  pub did-shown : (verb : Verb)
+      → Did v (tell_rows w t verb) t (record x { rows = [] })
+      (T ++ Shown t x.line verb (code_for (length x.rows)) x.rows ∷ [])
+  unfolding tell_rows
+  did-shown verb =
+      subst (λ (y : TaskState).
+      Did v (tell_rows w t verb) t (record x { rows = [] })
+      (T ++ Shown t y.line verb (code_for (length y.rows)) y.rows ∷ []))
+      d.state (did-telling v (without_rows w t) t (record x { rows = [] }) T _ did-no_rows)
 
   pub did-exclusive : (r : Res)
       → Did v (with_exclusive w t r) t (record x { records = on_record r (λ z. record z { ctl = ctls.E }) x.records }) T

@@ -1,11 +1,15 @@
 -- A request of a task of the system, decided: the system stays good, and what it tells agrees.
-use Rattle.std.proofs.Common.{◌≡◌, ℕ, suc, Bool, true, false, cond, List, [], ◌∷◌, ◌++◌, Option, Some, None, refl, ap}
-use Rattle.std.proofs.Common.{sym, ◌∙◌, subst, arith}
-use Rattle.std.specs.Prelude.{is_some, ◌==◌}
+use Rattle.std.proofs.Common.{◌≡◌, ◌-◌, ℕ, zero, suc, Bool, true, false, cond, List, [], ◌∷◌, ◌++◌, map, length, take}
+use Rattle.std.proofs.Common.{Option, Some, None, refl, ap, sym, ◌∙◌, subst, arith}
+use Rattle.std.specs.Prelude.{is_some, ◌==◌, slice_get}
 use Rattle.std.proofs.lemmas.Bool.{and_from, or_right}
+use Rattle.std.proofs.lemmas.Option.{same_Some}
 use Rattle.grs_base.specs.Same.{same_res, same_task}
 use Rattle.grs_base.specs.Lists.{owns}
 use Rattle.grs_base.specs.State.{list_of}
+use Rattle.grs_base.specs.declared.line.Line.{Line}
+use Rattle.grs_base.specs.declared.line.Line.TheVariants as written
+use Rattle.grs_base.specs.declared.look.Filter.{Filter}
 use Rattle.grs_base.specs.declared.resource.Res.{Res}
 use Rattle.grs_base.specs.declared.resource.Ctl.{Ctl}
 use Rattle.grs_base.specs.declared.resource.Ret.{Ret}
@@ -13,41 +17,51 @@ use Rattle.grs_base.specs.declared.resource.Row.{Row}
 use Rattle.grs_base.specs.declared.resource.TaskId.{TaskId}
 use Rattle.grs_base.specs.declared.decision.Code.{Code}
 use Rattle.grs_base.specs.declared.decision.Code.TheVariants.{C00, C04, C08, C14, C18, Wait, End}
-use Rattle.grs_legal.specs.Asks.{AsksEnq, AsksDeq, lines_of}
+use Rattle.gqscan.specs.Shown.{code_for}
+use Rattle.grs_legal.specs.Asks.{AsksEnq, AsksDeq, asks_of, lines_in, lines_of, meaning_of, meanings, scripts_of}
+use Rattle.grs_legal.specs.declared.meaning.Display.{Display}
 use Rattle.grs_legal.specs.declared.meaning.Meaning.{Meaning}
+use Rattle.grs_legal.specs.declared.meaning.Meaning.TheVariants as lines
 use Rattle.grs_base.proofs.SameLaws.{same_res-itself}
 use Rattle.grs_wire.specs.declared.deck.Deck.{Deck}
 use Rattle.grs_wire.specs.declared.history.HistEntry.{HistEntry}
 use Rattle.grs_wire.specs.declared.history.HistEntry.TheVariants as entries
 use Rattle.grs_wire.specs.declared.request.Answer.TheVariants as answers
 use Rattle.grs_wire.specs.declared.request.Req.{Req}
-use Rattle.grs_wire.specs.declared.request.Want.TheVariants.{Enq, Deq, Release}
+use Rattle.grs_wire.specs.declared.request.Want.TheVariants.{Enq, Deq, Release, Look}
 use Rattle.grs_wire.specs.declared.told.Verb.{Verb}
 use Rattle.grs_wire.specs.declared.told.Verb.TheVariants as verbs
 use Rattle.grs_wire.specs.declared.told.ToldLine.{ToldLine}
-use Rattle.grs_wire.specs.declared.told.ToldLine.TheVariants.{Coded}
+use Rattle.grs_wire.specs.declared.told.ToldLine.TheVariants.{Coded, Shown}
 use Rattle.grs_wire.specs.History.{replay}
+use Rattle.task_state.specs.declared.state.Asked.{Asked}
 use Rattle.task_state.specs.declared.state.Rec.{Rec}
+use Rattle.task_state.specs.declared.state.Showing.{Showing}
 use Rattle.task_state.specs.declared.state.Phase.TheVariants as phases
 use Rattle.task_state.specs.declared.state.TaskState.{TaskState}
-use Rattle.task_state.specs.View.{TasksView, state_of, without_first, code_in}
-use Rattle.task_state.specs.Replies.{tell_all, tell_new, replied, phase_after, is_granted, is_leaving}
+use Rattle.task_state.specs.View.{TasksView, state_of, with_outstanding, with_phase, without_first, code_in}
+use Rattle.task_state.specs.Replies.{tell_all, tell_new, tell_rows, replied, phase_after, is_granted, is_leaving}
 use Rattle.grs_known.specs.Items.{RunItem, mine, history}
-use Rattle.grs_known.specs.Known.{outstanding}
+use Rattle.grs_known.specs.Known.{Known, outstanding}
 use Rattle.grs_known.specs.Past.{Past, past_of, after_entry, Speaks}
-use Rattle.grs_known.specs.Told.{AgreesOf, told_as, gets_control, TellsEnq, entry_of_line, TellsDeq}
+use Rattle.grs_known.specs.Told.{AgreesOf, is_same_verb, told_as, gets_control, TellsEnq, entry_of_line, TellsDeq}
 use Rattle.grs_known.proofs.known.Knowing.{one}
 use Rattle.grs_known.proofs.known.Histories.{IsHistory, replayed}
-use Rattle.grs_known.proofs.known.Knows.{Knows, KnowsEntry, knows-closed, speaks-known}
+use Rattle.grs_known.proofs.known.Knows.{Knows, KnowsEntry, KnowsLooks, knows-asks, knows-closed, speaks-known}
 use Rattle.grs_known.proofs.lists.Owners.{is_among}
+use Rattle.grs_known.proofs.lists.Shows.{looked}
 use Rattle.grs_known.proofs.lists.Truths.{no_truth}
 use Rattle.grs_known.proofs.tasks.Asked.{told_after, Asks, of_new_line, by_code}
 use Rattle.grs_known.proofs.tasks.Decided.{enq_records, task-enq, task-deq}
 use Rattle.grs_known.proofs.tasks.Invariant.{IsTask, with_control}
+use Rattle.grs_known.proofs.tasks.Looks.{task-shown}
+use Rattle.grs_known.proofs.tasks.Others.{task-told}
 use Rattle.grs_known.proofs.tasks.Speaking.{speaks-control}
 use Rattle.grs_known.proofs.tasks.Steps.{task-released}
-use Rattle.grs_known.proofs.system.Asking.{unasked, unasked-none, Opens, IsAtLines, IsOpenBy, asked-absent, sent-absent}
-use Rattle.grs_known.proofs.system.Did.{Did, did-after_code_enq, did-after_code_deq, did-after_code_release}
+use Rattle.grs_known.proofs.system.Asking.{unasked, unasked-none, Opens, IsAtLines, IsOpenBy, AreLooks, IsLooks}
+use Rattle.grs_known.proofs.system.Asking.{IsAskedBy, asked-absent, sent-absent, task-open}
+use Rattle.grs_known.proofs.system.Did.{Did, did-phase, did-outstanding, did-shown, did-after_code_enq}
+use Rattle.grs_known.proofs.system.Did.{did-after_code_deq, did-after_code_release}
 use Rattle.grs_known.proofs.system.Good.{IsGood, Untold, home-ours, task-told_after}
 use Rattle.grs_known.proofs.system.Ours.{IsOurs, IsHere, holds-changed, ours-line, agrees-ours}
 use Rattle.grs_known.proofs.system.Says.{askers, ToldBy, none, more}
@@ -102,6 +116,49 @@ pub record Decides (deck : Deck) (os os' : Opens) (P P' : List RunItem) (t : Tas
   pub away_out : is_among t (askers os'.out) ≡ false
   pub owners : Owners deck os' P' r ts
 
+-- a line that shows lists is a GQSCAN or a DISPLAY
+display-verb : (deck : Deck) (t : TaskId) (ls : List Meaning) → lines_of deck t ≡ Some ls → (n : ℕ) (d : Display)
+    → slice_get ls n ≡ Some (lines.Shows d) → is_same_verb d.verb d.verb ≡ true
+display-verb deck t ls h n d at = of_task (lines_in (scripts_of deck t.system.0) t) h
+  where
+    of_display : (e : Display) → is_same_verb e.verb e.verb ≡ true → lines.Shows e ≡ lines.Shows d
+        → is_same_verb d.verb d.verb ≡ true
+    of_display e kind is = let same : e ≡ d = cc in subst (λ (z : Display). is_same_verb z.verb z.verb ≡ true) same kind
+
+    of_line : (l : Line) → meaning_of deck.lists t l ≡ lines.Shows d → is_same_verb d.verb d.verb ≡ true
+    of_line (written.Enq [] ret rnl) e = absurd (cc)
+    of_line (written.Enq (i ∷ is) ret rnl) e = absurd (cc)
+    of_line (written.Reserve q r ctl unit ret rnl) e = absurd (cc)
+    of_line (written.Deq q r scope have unit rnl) e = absurd (cc)
+    of_line (written.Wait q r scope rnl) e = absurd (cc)
+    of_line (written.Gqscan true filter) e = of_display _ refl e
+    of_line (written.Gqscan false filter) e = of_display _ refl e
+    of_line written.DisplayC e = of_display _ refl e
+    of_line (written.DisplayRes q r) e = of_display _ refl e
+
+    of_place : (zs : List Line) (m : ℕ) → slice_get (map (meaning_of deck.lists t) zs) m ≡ Some (lines.Shows d)
+        → is_same_verb d.verb d.verb ≡ true
+    of_place [] m e = absurd (cc)
+    of_place (z ∷ zs) zero e = of_line z (same_Some (meaning_of deck.lists t z) (lines.Shows d) e)
+    of_place (z ∷ zs) (suc m) e = of_place zs m e
+
+    of_task : (o : Option (List Line)) → meanings deck.lists t o ≡ Some ls → is_same_verb d.verb d.verb ≡ true
+    of_task None e = absurd (cc)
+    of_task (Some zs) e =
+        of_place zs n (subst (λ ms. slice_get ms n ≡ Some (lines.Shows d))
+        (sym (same_Some (map (meaning_of deck.lists t) zs) ls e)) at)
+
+one_display : (d e : Display) → Some (lines.Shows d) ≡ Some (lines.Shows e) → d ≡ e
+one_display d e h = cc
+
+-- Task t of ours, with past p, looked: these are the entries of looks that it has learned.
+pub record Looks (deck : Deck) (os os' : Opens) (P P' : List RunItem) (t : TaskId) (p : Past) (hs : List HistEntry) :
+    Type 0 where
+  pub right : IsHistory deck P'
+  pub learns : KnowsLooks P' t p hs
+  pub due : mine t os'.later ≡ []
+  pub leaves : Leaves deck os os' P P' t
+
 -- lines told after a code agree where the code does
 agreed-code :
     (deck : Deck) (s : ℕ) (opens : List Req) (P : List HistEntry) (T : List ToldLine) (t : TaskId) (k : ℕ) (verb : Verb)
@@ -123,6 +180,46 @@ after-at_lines Wait code = tt
 after-at_lines (End m) code = refl
 
 module _ (deck : Deck) (s : ℕ) (os os' : Opens) (P P' : List RunItem) (v : TasksView) (good : IsGood deck s os P v)
+    (t : TaskId) (ls : List Meaning) (ours : IsOurs deck s v t ls) where
+  -- the task alone changes, and lines are told to it
+  changed-good : Leaves deck os os' P P' t → (v1 : TasksView) (x : TaskState) (T1 : List ToldLine) → Did v v1 t x T1
+      → ((u : TaskId) (ms : List Meaning) → same_task u t ≡ false → Untold v.told T1 u ms)
+      → IsHere deck os' P' T1 t ls x →
+      ToldBy deck s os'.all (history P') v.told T1 → StaysGood deck s os' P' v.told v1
+  changed-good leaves v1 x T1 did told here agreed = record {
+    good = record {
+      tasks =
+          holds-changed deck s os os' P P' v v1 t ls good.tasks did.changed ours
+          (λ u ms o apart k.
+          leaves u ms v.told v1.told (state_of v u) apart
+          (subst (λ T. Untold v.told T u ms) (sym did.told) (told u ms apart)) k)
+          (subst (λ T. IsHere deck os' P' T t ls (state_of v1 t)) (sym did.told)
+          (subst (λ y. IsHere deck os' P' T1 t ls y) (sym did.state) here));
+      here = λ u g. did.changed.here u ∙ good.here u g;
+      system = did.changed.system ∙ good.system;
+    };
+    told = subst (λ T. ToldBy deck s os'.all (history P') v.told T) (sym did.told) agreed;
+  }
+
+  -- one that has learned its item, and has nothing outstanding
+  closed-here : (known : Known) (q : Past) → Knows P' t None known → past_of t known P' ≡ q → mine t os'.later ≡ []
+      → is_among t (askers os'.all) ≡ false → is_among t (askers os'.out) ≡ false →
+      (T1 : List ToldLine) (x : TaskState) → x.outstanding ≡ None → IsAtLines x.phase x.code
+      → IsTask ls q T1 (λ z. false) t x → IsHere deck os' P' T1 t ls x
+  closed-here known q knows past due away away_out T1 x closed at_lines task = record {
+    known = known;
+    knows = subst (λ o. Knows P' t o known) (sym closed) knows;
+    due = due ∙ ap one (sym (knows-closed P' t None known refl knows));
+    task =
+        task-closed ls (past_of t known P') T1 t x closed
+        (subst (λ y. IsTask ls y T1 (λ z. false) t x) (sym past) task);
+    opened = subst (λ o. IsOpenBy deck.limit ls t x o) (sym closed) at_lines;
+    looks = subst (λ o. IsLooks ls (past_of t known P').asked x.line o) (sym closed) tt;
+    asked = asked-absent t x.outstanding os'.all away;
+    sent = sent-absent t x.phase os'.out away_out;
+  }
+
+module _ (deck : Deck) (s : ℕ) (os os' : Opens) (P P' : List RunItem) (v : TasksView) (good : IsGood deck s os P v)
     (t : TaskId) (ls : List Meaning) (ours : IsOurs deck s v t ls) (p : Past) (r : Res) (ts : List TaskId) where
   -- x is the task, and T1 what was told, after its answer
   module _ (h : HistEntry) (d : Decides deck os os' P P' t p h r ts) where
@@ -138,31 +235,13 @@ module _ (deck : Deck) (s : ℕ) (os os' : Opens) (P P' : List RunItem) (v : Tas
         → IsAtLines x.phase x.code → IsTask ls (after_entry h p) T1 (λ q. false) t x →
         ((u : TaskId) (ms : List Meaning) → same_task u t ≡ false → Untold v.told T1 u ms)
         → ToldBy deck s os'.all (history P') v.told T1 → StaysGood deck s os' P' v.told (tell_all v1 r ts)
-    decided-good v1 x T1 did closed at_lines task told agreed = tells_good deck s os' P' d.right v.told v1 (record {
-      tasks =
-          holds-changed deck s os os' P P' v v1 t ls good.tasks did.changed ours
-          (λ u ms o apart k.
-          d.leaves u ms v.told v1.told (state_of v u) apart
-          (subst (λ T. Untold v.told T u ms) (sym did.told) (told u ms apart)) k)
-          own;
-      here = λ u g. did.changed.here u ∙ good.here u g;
-      system = did.changed.system ∙ good.system;
-    }) (subst (λ T. ToldBy deck s os'.all (history P') v.told T) (sym did.told) agreed) r ts d.owners
-      where
-        own : IsHere deck os' P' v1.told t ls (state_of v1 t)
-        own =
-            subst (λ T. IsHere deck os' P' T t ls (state_of v1 t))
-            (sym did.told) (subst (λ y. IsHere deck os' P' T1 t ls y) (sym did.state) (record {
-              known = d.learns.known;
-              knows = subst (λ o. Knows P' t o d.learns.known) (sym closed) d.learns.knows;
-              due = d.due ∙ ap one (sym none_open);
-              task =
-                  task-closed ls (past_of t d.learns.known P') T1 t x closed
-                  (subst (λ q. IsTask ls q T1 (λ z. false) t x) (sym d.learns.past) task);
-              opened = subst (λ o. IsOpenBy deck.limit ls t x o) (sym closed) at_lines;
-              asked = asked-absent t x.outstanding os'.all d.away;
-              sent = sent-absent t x.phase os'.out d.away_out;
-            }))
+    decided-good v1 x T1 did closed at_lines task told agreed =
+        let m =
+        changed-good deck s os os' P P' v good t ls ours d.leaves v1 x T1 did told
+        (closed-here deck s os os' P P' v good t ls ours d.learns.known (after_entry h p) d.learns.knows d.learns.past
+        d.due d.away d.away_out T1 x closed at_lines task)
+        agreed in
+        tells_good deck s os' P' d.right v.told v1 m.good m.told r ts d.owners
 
   -- The task is seen ready at line n, and its next line is decided. v0 are the tasks when it has taken that line.
   module _ (n code0 : ℕ) (xs : List Rec) (ws : List Row) (v0 : TasksView)
@@ -304,3 +383,86 @@ module _ (deck : Deck) (s : ℕ) (os os' : Opens) (P P' : List RunItem) (v : Tas
       })
       v.told did refl coded
       (task-released ls p v.told leaving t n c code0 xs None ws r others k) (λ u ms apart q hold y j. j) none
+
+module _ (deck : Deck) (s : ℕ) (os os' : Opens) (P P' : List RunItem) (v : TasksView) (good : IsGood deck s os P v)
+    (t : TaskId) (ls : List Meaning) (ours : IsOurs deck s v t ls) (p : Past) where
+  -- The task was shown what it looked at, or begins a display: it is seen looking at line n, with these rows. v1 are
+  -- the tasks when it has them.
+  module _ (hs : List HistEntry) (d : Looks deck os os' P P' t p hs) (n code : ℕ) (xs : List Rec) (ws : List Row)
+      (v1 : TasksView) (did :
+      Did v v1 t (record { line = n; phase = phases.Ready; code = code; records = xs; outstanding = None; rows = ws })
+      v.told)
+      (k :
+      IsTask ls (looked hs p) v.told (λ q. false) t
+      (record { line = n; phase = phases.ToSend; code = code; records = xs; outstanding = None; rows = ws })) where
+    none_looked : outstanding t d.learns.known P' ≡ None
+    none_looked = knows-closed P' t None d.learns.known refl d.learns.knows
+
+    looked-speaks : Speaks deck.limit t (looked hs p) (history P')
+    looked-speaks =
+        subst (λ q. Speaks deck.limit t q (history P')) d.learns.past
+        (speaks-known deck P' t d.learns.known d.right d.learns.knows.live d.learns.knows.right none_looked)
+
+    -- where all looks of the line stand it is told their rows
+    pub shown-good : is_among t (askers os'.all) ≡ false → is_among t (askers os'.out) ≡ false → (e : Display)
+        → slice_get ls (n - 1) ≡ Some (lines.Shows e) → length (looked hs p).asked ≡ length (asks_of (take n ls))
+        → StaysGood deck s os' P' v.told (tell_rows v1 t e.verb)
+    shown-good away away_out e at all =
+        let same : k.phase.display ≡ e = one_display k.phase.display e (sym k.phase.at ∙ at) in
+        let l : ToldLine = Shown t n k.phase.display.verb (code_for (length ws)) ws in
+        let both =
+        task-shown ls v.told (λ q. false) t code xs None (looked hs p) n ws k all
+        (display-verb deck t ls ours.lines (n - 1) k.phase.display k.phase.at) in
+        subst (λ (z : Display). StaysGood deck s os' P' v.told (tell_rows v1 t z.verb)) same
+        (changed-good deck s os os' P P' v good t ls ours d.leaves (tell_rows v1 t k.phase.display.verb)
+        (record { line = n; phase = phases.Ready; code = code; records = xs; outstanding = None; rows = [] })
+        (v.told ++ l ∷ [])
+        (did-shown v v1 t
+        (record { line = n; phase = phases.Ready; code = code; records = xs; outstanding = None; rows = ws }) v.told
+        ours.here did k.phase.display.verb)
+        (λ u ms apart q leaving y j. task-told ms q v.told leaving u y l apart j)
+        (closed-here deck s os os' P P' v good t ls ours d.learns.known (looked hs p) d.learns.knows d.learns.past d.due
+        away away_out (v.told ++ l ∷ []) _ refl tt both.0)
+        (more v.told l none (ours-line deck s v t ls ours)
+        (agrees-ours deck t ls (history P') v.told l ours.lines (both.1 deck.limit (history P') looked-speaks)) away))
+
+    -- else it asks for more
+    pub looks-good : (first count : ℕ) (f : Filter) (unit : Option ℕ) (showing : Option Showing)
+        → AreLooks ls (looked hs p).asked n first count f showing →
+        IsAskedBy t (Some
+        (record { req = record { task = t; want = Look first count f }; unit = unit; showing = showing }))
+        os'.all
+        → is_among t (askers os'.out) ≡ false →
+        StaysGood deck s os' P' v.told (with_outstanding (with_phase v1 t phases.ToSend) t
+        (Some (record { req = record { task = t; want = Look first count f }; unit = unit; showing = showing })))
+    looks-good first count f unit showing looks asked away_out =
+        let a :
+        Asked = record { req = record { task = t; want = Look first count f }; unit = unit; showing = showing } in
+        let x :
+        TaskState = record {
+          line = n;
+          phase = phases.ToSend;
+          code = code;
+          records = xs;
+          outstanding = Some a;
+          rows = ws;
+        } in
+        changed-good deck s os os' P P' v good t ls ours d.leaves
+        (with_outstanding (with_phase v1 t phases.ToSend) t (Some a)) x v.told
+        (did-outstanding v (with_phase v1 t phases.ToSend) t _ v.told ours.here
+        (did-phase v v1 t _ v.told ours.here did phases.ToSend) (Some a))
+        (λ u ms apart q leaving y j. j)
+        (record {
+          known = d.learns.known;
+          knows = knows-asks P' t d.learns.known (Some a) d.learns.knows;
+          due = d.due ∙ ap one (sym none_looked);
+          task =
+              subst (λ q. IsTask ls q v.told (λ r. is_leaving r (Some a)) t (unasked x)) (sym d.learns.past)
+              (task-open ls (looked hs p) v.told (λ r. is_leaving r (Some a)) t
+              (record { line = n; phase = phases.ToSend; code = code; records = xs; outstanding = None; rows = ws })
+              (Some a) k);
+          opened = (refl, refl, tt);
+          looks = subst (λ (q : Past). AreLooks ls q.asked n first count f showing) (sym d.learns.past) looks;
+          asked = asked;
+          sent = sent-absent t phases.ToSend os'.out away_out;
+        }) none

@@ -23,7 +23,7 @@ use Rattle.grs_known.proofs.lists.Facts.{some_of}
 use Rattle.grs_known.proofs.tasks.Asked.{told_after, by_code}
 use Rattle.grs_known.proofs.tasks.Invariant.{IsTask}
 use Rattle.grs_known.proofs.tasks.Others.{task-told}
-use Rattle.grs_known.proofs.system.Asking.{unasked, Opens, IsAskedBy, are_sent}
+use Rattle.grs_known.proofs.system.Asking.{unasked, IsLooks, Opens, IsAskedBy, are_sent}
 use Rattle.grs_known.proofs.system.Ours.{IsOurs, Holds, IsHere}
 use Rattle.grs_known.proofs.system.Says.{is_home_at}
 use Rattle.grs_known.proofs.system.Telling.{IsHome}
@@ -75,6 +75,7 @@ here-kept deck os os' P T T' u ls x due asked sent told k = record {
   due = due ∙ k.due;
   task = told (past_of u k.known P) (λ r. is_leaving r x.outstanding) (unasked x) k.task;
   opened = k.opened;
+  looks = k.looks;
   asked = asked k.asked;
   sent = sent k.sent;
 }
@@ -93,6 +94,7 @@ here-other deck os P z T u ls x apart live k = record {
       subst (λ p. IsTask ls p T (λ r. is_leaving r x.outstanding) u (unasked x)) (sym (past-other P z u k.known apart))
       k.task;
   opened = k.opened;
+  looks = subst (λ (p : Past). IsLooks ls p.asked x.line x.outstanding) (sym (past-other P z u k.known apart)) k.looks;
   asked = k.asked;
   sent = k.sent;
 }

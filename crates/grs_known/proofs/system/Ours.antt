@@ -18,7 +18,7 @@ use Rattle.task_state.proofs.ViewLaws.{state_of-other, is_task-state, state_of-t
 use Rattle.task_state.proofs.Stays.{system-state, system-telling}
 use Rattle.grs_known.specs.Told.{AgreesOf, LineAgrees}
 use Rattle.grs_known.proofs.tasks.Invariant.{IsTask}
-use Rattle.grs_known.proofs.system.Asking.{unasked, IsOpen, Opens, IsAskedBy, are_sent}
+use Rattle.grs_known.proofs.system.Asking.{unasked, IsOpen, IsLooks, Opens, IsAskedBy, are_sent}
 use Rattle.task_state.specs.Replies.{is_leaving}
 use Rattle.grs_known.specs.Items.{RunItem, mine}
 use Rattle.grs_known.specs.Known.{Known, outstanding}
@@ -33,7 +33,8 @@ pub record IsOurs (deck : Deck) (s : ℕ) (v : TasksView) (t : TaskId) (ls : Lis
   pub here : is_task v t ≡ true
 
 -- What holds of a task of the system, where the run has these items: what is known of it is right, its system has still
--- to process just its outstanding item, and it stands as it should by its past.
+-- to process just its outstanding item, and it stands as it should by its past, as do the looks that it has
+-- outstanding.
 pub record IsHere (deck : Deck) (os : Opens) (P : List RunItem) (T : List ToldLine) (t : TaskId) (ls : List Meaning)
     (x : TaskState) :
     Type 0 where
@@ -42,6 +43,7 @@ pub record IsHere (deck : Deck) (os : Opens) (P : List RunItem) (T : List ToldLi
   pub due : mine t os.later ≡ one (outstanding t known P)
   pub task : IsTask ls (past_of t known P) T (λ r. is_leaving r x.outstanding) t (unasked x)
   pub opened : IsOpen deck.limit ls t x
+  pub looks : IsLooks ls (past_of t known P).asked x.line x.outstanding
   pub asked : IsAskedBy t x.outstanding os.all
   pub sent : are_sent t x.phase os.out ≡ true
 

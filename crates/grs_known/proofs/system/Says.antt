@@ -42,7 +42,8 @@ own_requests s (x ∷ xs) = own_asked s x.fixed ++ own_requests s xs
 abbrev pub AgreesBehind : Deck → List HistEntry → List ToldLine → ToldLine → Type 0
 AgreesBehind deck P T (told.Coded t k part verb code) =
     (part ≡ 0) × AgreesOf deck.limit (lines_of deck t) P T (told.Coded t k part verb code)
-AgreesBehind deck P T (told.Shown t k verb code rows) = ⊥
+AgreesBehind deck P T (told.Shown t k verb code rows) =
+    AgreesOf deck.limit (lines_of deck t) P T (told.Shown t k verb code rows)
 AgreesBehind deck P T (told.Post t k) = AgreesOf deck.limit (lines_of deck t) P T (told.Post t k)
 AgreesBehind deck P T (told.Ended t code) = AgreesOf deck.limit (lines_of deck t) P T (told.Ended t code)
 AgreesBehind deck P T (told.Desk k said) = ⊥

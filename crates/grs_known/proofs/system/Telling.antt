@@ -97,6 +97,7 @@ learned-holds deck s os P T0 t ls v w h ours m = holds-changed deck s os os P P 
           m.others u ms (past_of u k.known P) (λ r. is_leaving r (state_of v u).outstanding) (unasked (state_of v u))
           apart k.task;
       opened = k.opened;
+      looks = k.looks;
       asked = k.asked;
       sent = k.sent;
     })
@@ -230,6 +231,7 @@ module _ (deck : Deck) (s : ℕ) (os : Opens) (P : List RunItem) (right : IsHist
                 subst (λ y. IsTask ls p (T ++ l ∷ []) (λ q. is_leaving q x.outstanding) t y)
                 (sym (unasked-none z none_open)) both.0;
             opened = subst (λ o. IsOpenBy deck.limit ls t z o) (sym none_open) tt;
+            looks = k.looks;
             asked = k.asked;
             sent =
                 sent-kept t x.phase phases.Ready os.out
@@ -269,6 +271,7 @@ module _ (deck : Deck) (s : ℕ) (os : Opens) (P : List RunItem) (right : IsHist
                     (sym (unasked-told x r told_rec))
                     (task-marked ls p v.told (λ q. is_leaving q x.outstanding) t r (unasked x) leaves has k.task);
                 opened = open-told deck.limit ls t r x k.opened;
+                looks = k.looks;
                 asked = k.asked;
                 sent = k.sent;
               }));
@@ -331,6 +334,7 @@ module _ (deck : Deck) (s : ℕ) (os : Opens) (P : List RunItem) (right : IsHist
                 subst (λ y. IsTask ls (with_control r p) (v.told ++ l ∷ []) (λ q. is_leaving q x.outstanding) t y)
                 (sym (unasked-none z none_open)) both.0;
             opened = subst (λ o. IsOpenBy deck.limit ls t z o) (sym none_open) tt;
+            looks = k.looks;
             asked = k.asked;
             sent =
                 sent-kept t x.phase phases.Ready os.out
@@ -360,6 +364,7 @@ module _ (deck : Deck) (s : ℕ) (os : Opens) (P : List RunItem) (right : IsHist
                 subst (λ y. IsTask ls (with_control r p) (v.told ++ l ∷ []) (λ q. is_leaving q x.outstanding) t y)
                 (sym (unasked-told x r told_rec)) both.0;
             opened = open-told deck.limit ls t r x k.opened;
+            looks = k.looks;
             asked = k.asked;
             sent = k.sent;
           } in

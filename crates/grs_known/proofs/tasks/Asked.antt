@@ -35,8 +35,8 @@ use Rattle.grs_known.specs.Told.{tells_control, is_code_before, is_code_of, is_p
 use Rattle.grs_known.proofs.lists.Entries.{asked_at-grows, end_among-push}
 use Rattle.grs_known.proofs.lists.Lines.{asks-more, asks_of-at, passed-none, passed-stop}
 use Rattle.grs_known.proofs.tasks.Invariant.{Each, key, has_res, is_distinct, IsEntryOn, IsEcb, IsRec, WaitsFor}
-use Rattle.grs_known.proofs.tasks.Invariant.{may_pass, Passed, IsNext, IsInPhase, IsTask, is_post_before, has_ended}
-use Rattle.grs_known.proofs.tasks.Invariant.{code_bound}
+use Rattle.grs_known.proofs.tasks.Invariant.{may_pass, Passed, IsNext, IsShown, IsInPhase, IsTask, is_post_before}
+use Rattle.grs_known.proofs.tasks.Invariant.{has_ended, code_bound}
 use Rattle.grs_known.proofs.tasks.Granted.{codes_later, lt_suc}
 use Rattle.grs_known.proofs.tasks.Keys.{each-kept}
 use Rattle.grs_known.proofs.lists.Facts.{all-kept, any-kept, all-more, any-more, none-more, slice_get-end, take-more}
@@ -214,6 +214,34 @@ module _ (ls : List Meaning) (E : List HistEntry) (h : HistEntry) (t : TaskId) w
         unposted = unposted-after T t t k x.line verb c d.unposted;
       })
 
+  -- records that stood before, when the task looked at lists
+  pub recs-looked : (T : List ToldLine) (has leaving : Res → Bool) (n : ℕ) (ph : Phase) (xs : List Rec)
+      → ((r : Res) → queues r h ≡ false) → Each (IsRec ls E T has leaving t n ph) xs
+      → Each (IsRec ls (E ++ h ∷ []) T has leaving t n ph) xs
+  recs-looked T has leaving n ph xs none =
+      each-kept (IsRec ls E T has leaving t n ph) (IsRec ls (E ++ h ∷ []) T has leaving t n ph)
+      xs (λ x among e. record {
+        entry = grows-on x.res (entry_of_line ls E x.line) _ (grows-line x.line) e.entry;
+        latest = grows-latest x.res x.line (none x.res) e.latest;
+        low = e.low;
+        high = e.high;
+        known = e.known;
+        control = λ f stays.
+            any-kept (tells_control t ls E x.res) (tells_control t ls (E ++ h ∷ []) x.res)
+            (grows-tells x.res (none x.res))
+            T (e.control f stays);
+        due = λ f. still x (e.due f);
+      })
+    where
+      still : (x : Rec) → WaitsFor ls E T t n ph x → WaitsFor ls (E ++ h ∷ []) T t n ph x
+      still x (inl a) = inl a
+      still x (inr d) =
+          inr (record {
+            ecb = grows-ecb (entry_of_line ls E x.line) _ (grows-line x.line) d.ecb;
+            coded = d.coded;
+            unposted = d.unposted;
+          })
+
 -- a task's next line asks: what holds before, and which line it is
 pub record Asks (ls : List Meaning) (p : Past) (T : List ToldLine) (leaving : Res → Bool) (t : TaskId) (n code : ℕ)
     (xs : List Rec) (o : Option Asked) (ws : List Row) (l : Meaning) (a : Ask) :
@@ -352,6 +380,15 @@ module _ (ls : List Meaning) (p : Past) (T : List ToldLine) (leaving : Res → B
     not_ended_after C18 = refl
     not_ended_after (End c) = refl
 
+    shown_after : (c : Code) → IsShown ls (p.asked ++ h ∷ []) (suc n) ws (phase_after c)
+    shown_after Wait = k.before.shown
+    shown_after C00 = k.before.shown
+    shown_after C04 = k.before.shown
+    shown_after C08 = k.before.shown
+    shown_after C14 = k.before.shown
+    shown_after C18 = k.before.shown
+    shown_after (End c) = k.before.shown
+
     -- the task afterwards, given its records
     pub task-asked : (verb : Verb) (c : Code) (ys : List Rec) → code_of h ≡ c → map key ys ≡ ks
         → ((q : Res) → has q ≡ true → has_own q ks ≡ true) → is_distinct ys ≡ true →
@@ -377,5 +414,6 @@ module _ (ls : List Meaning) (p : Past) (T : List ToldLine) (leaving : Res → B
       codes = codes-after T t (suc n) verb c k.before.codes;
       posts = posts-after T t (suc n) (suc n) verb c k.before.posts;
       phase = phase_new verb c e;
+      shown = shown_after c;
       emptied = λ u. absurd (grind (arith, u, not_ended_after c));
     }

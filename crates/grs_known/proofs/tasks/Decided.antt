@@ -3,8 +3,7 @@ use Rattle.std.proofs.Common.{◌≡◌, ℕ, suc, Bool, true, false, cond, not,
 use Rattle.std.proofs.Common.{None, ◌||◌, refl, ap, sym, ◌∙◌, subst, arith, inl, inr}
 use Rattle.std.specs.Prelude.{filter, ◌⊎◌, slice_get}
 use Rattle.std.specs.List.{list_any, list_all}
-use Rattle.std.proofs.lemmas.Bool.{and_parts, and_from, cases_Bool, eq-eqb, and_right, or_left, or_right}
-use Rattle.std.proofs.lemmas.Bool.Decides.{nat_tests}
+use Rattle.std.proofs.lemmas.Bool.{and_parts, and_from, eq-eqb, and_right, or_left, or_right}
 use Rattle.std.proofs.Math.Bool.{and-true}
 use Rattle.grs_base.specs.Same.{same_res, same_task}
 use Rattle.grs_base.specs.declared.resource.Res.{Res}
@@ -24,7 +23,6 @@ use Rattle.grs_wire.specs.declared.history.HistEntry.TheVariants.{Enq, Deq}
 use Rattle.task_state.specs.declared.state.Asked.{Asked}
 use Rattle.grs_wire.specs.declared.told.Verb.TheVariants as verbs
 use Rattle.grs_wire.specs.declared.told.ToldLine.{ToldLine}
-use Rattle.grs_wire.specs.declared.told.ToldLine.TheVariants.{Coded, Shown, Post, Ended, Desk}
 use Rattle.grs_wire.proofs.WantLaws.{by_res}
 use Rattle.grs_legal.specs.Asks.{AsksEnq, AsksDeq}
 use Rattle.task_state.specs.declared.state.Rec.{Rec}

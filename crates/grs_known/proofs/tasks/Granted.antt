@@ -117,8 +117,8 @@ latest-on ls E T has leaving t r y line ph same rec =
 no_end-of : (ls : List Meaning) (p : Past) (T : List ToldLine) (t : TaskId) (n : ℕ) (ph : Phase) → has_ended ph ≡ false
     → IsInPhase ls p T t n ph → list_any (is_end_of t) T ≡ false
 no_end-of ls p T t n phases.Ready e h = h.going.no_end
-no_end-of ls p T t n phases.ToSend e h = h
-no_end-of ls p T t n phases.Sent e h = h
+no_end-of ls p T t n phases.ToSend e h = h.going.no_end
+no_end-of ls p T t n phases.Sent e h = h.going.no_end
 no_end-of ls p T t n phases.HeldAnswer e h = h.going.no_end
 no_end-of ls p T t n (phases.HeldLine r) e h = h.going.no_end
 no_end-of ls p T t n (phases.Ending c) e h = h.no_end
@@ -221,6 +221,7 @@ module _ (ls : List Meaning) (p : Past) (T : List ToldLine) (leaving : Res → B
                 (λ w. owns-on (also r p.owns) r (entry_of_line ls p.asked y.line) h.phase.last of_line on now_owns);
             passed = passed-control r p ls n h.phase.passed;
           };
+          shown = h.shown;
           emptied = λ e. absurd (cc);
         },
         λ limit P s. (
@@ -259,6 +260,7 @@ module _ (ls : List Meaning) (p : Past) (T : List ToldLine) (leaving : Res → B
               phase-told ls (with_control r p) T t x.line x.phase (Post t y.line) refl
               (λ e. held-apart ls p T t x.line y.line x.phase e h.phase due.ecb)
               (phase-control r p ls T t x.line x.phase h.phase);
+          shown = h.shown;
           emptied = λ e. absurd (grind (arith, e, going));
         },
         λ limit P s. (
@@ -289,6 +291,7 @@ task-marked ls p T leaving t r x leaves has h = record {
   codes = h.codes;
   posts = h.posts;
   phase = phase-control r p ls T t x.line x.phase h.phase;
+  shown = h.shown;
   emptied = λ e. ap (on_record r (λ z. record z { told = true })) (h.emptied e);
 }
 
@@ -326,6 +329,7 @@ wait_passes : (ls : List Meaning) (p : Past) (q : Res) (m : ℕ) (o : Option Mea
 wait_passes ls p q m None at w count own h = absurd w
 wait_passes ls p q m (Some (lines.Enq r c ret unit)) at w count own h = absurd w
 wait_passes ls p q m (Some (lines.Deq r have)) at w count own h = absurd w
+wait_passes ls p q m (Some (lines.Shows d)) at w count own h = absurd w
 wait_passes ls p q m (Some lines.Nothing) at w count own h = absurd w
 wait_passes ls p q m (Some (lines.Wait r)) at w count own h =
     passed-line ls p m (lines.Wait r) at refl (count ∙ ap length (asks-same ls m _ at refl))
@@ -338,6 +342,7 @@ tells_wait :
 tells_wait ls E T s t q None w own control = absurd w
 tells_wait ls E T s t q (Some (lines.Enq r c ret unit)) w own control = absurd w
 tells_wait ls E T s t q (Some (lines.Deq r have)) w own control = absurd w
+tells_wait ls E T s t q (Some (lines.Shows d)) w own control = absurd w
 tells_wait ls E T s t q (Some lines.Nothing) w own control = absurd w
 tells_wait ls E T s t q (Some (lines.Wait r)) w own control = (
   subst (λ z. owns (list_of s z) t ≡ true) (sym w) own,
@@ -381,6 +386,7 @@ task-passed ls p T leaving t q n code xs o ws h own control =
               subst (λ m. Passed ls p m) back (wait_passes ls p q (n - 1) _ refl h.phase.at
               (h.count refl ∙ ap (λ m. length (asks_of (take m ls))) (sym back)) own h.phase.passed);
         };
+        shown = h.shown;
         emptied = λ e. absurd (cc);
       },
       λ limit P s. (

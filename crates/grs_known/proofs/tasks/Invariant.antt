@@ -1,6 +1,6 @@
 -- What holds of each task after each event: the invariant of a run.
 use Rattle.std.proofs.Common.{◌≡◌, ◌<◌, ◌≤◌, ◌-◌, ℕ, suc, Bool, true, false, cond, not, ◌&&◌, ◌||◌, List, [], ◌∷◌, map}
-use Rattle.std.proofs.Common.{length, take, Option, Some, None}
+use Rattle.std.proofs.Common.{length, take, drop, Option, Some, None}
 use Rattle.std.specs.Prelude.{slice_get, ◌⊎◌, IfSome, is_some, unwrap_or, nat_lt}
 use Rattle.std.specs.List.{list_any, list_all}
 use Rattle.std.specs.Option.{option_or, option_map}
@@ -8,8 +8,10 @@ use Rattle.grs_base.specs.Same.{same_res, same_task}
 use Rattle.grs_base.specs.declared.resource.Res.{Res}
 use Rattle.grs_base.specs.declared.resource.Ctl.{Ctl}
 use Rattle.grs_base.specs.declared.resource.Ret.TheVariants.{RetEcb}
+use Rattle.grs_base.specs.declared.resource.Row.{Row}
 use Rattle.grs_base.specs.declared.resource.TaskId.{TaskId}
 use Rattle.grs_base.specs.declared.decision.Code.TheVariants.{C04, Wait}
+use Rattle.grs_legal.specs.declared.meaning.Display.{Display}
 use Rattle.grs_legal.specs.declared.meaning.Meaning.{Meaning}
 use Rattle.grs_legal.specs.declared.meaning.Meaning.TheVariants as lines
 use Rattle.grs_wire.specs.declared.history.HistEntry.{HistEntry}
@@ -19,6 +21,7 @@ use Rattle.grs_wire.specs.declared.told.ToldLine.TheVariants.{Coded, Shown, Post
 use Rattle.grs_wire.specs.History.{code_of}
 use Rattle.grs_legal.specs.Asks.{Ask, AsksRelease, asks_of}
 use Rattle.grs_legal.specs.Legal.{end_among, passed_behind}
+use Rattle.grs_known.specs.Items.{rows_in}
 use Rattle.grs_known.specs.Past.{has_own, Past}
 use Rattle.task_state.specs.declared.state.Rec.{Rec}
 use Rattle.task_state.specs.declared.state.Phase.{Phase}
@@ -132,6 +135,7 @@ abbrev pub may_pass : Past → Meaning → Bool
 may_pass p (lines.Enq r ctl ret unit) = true
 may_pass p (lines.Deq r have) = true
 may_pass p (lines.Wait r) = p.owns r || not (has_own r p.own)
+may_pass p (lines.Shows d) = true
 may_pass p lines.Nothing = true
 
 -- whether a task that owns this owns what an entry asked for
@@ -195,6 +199,7 @@ IsWaitFor r None = ⊥
 IsWaitFor r (Some (lines.Enq q ctl ret unit)) = ⊥
 IsWaitFor r (Some (lines.Deq q have)) = ⊥
 IsWaitFor r (Some (lines.Wait q)) = q ≡ r
+IsWaitFor r (Some (lines.Shows d)) = ⊥
 IsWaitFor r (Some lines.Nothing) = ⊥
 
 -- A task held at a WAIT line.
@@ -213,11 +218,36 @@ pub record IsEnding (ls : List Meaning) (p : Past) (T : List ToldLine) (t : Task
   pub free : IsFree p
   pub all_lines : end_among p.asked ≡ None → (line ≡ length ls) × Passed ls p line
 
+-- A task in the middle of a line that shows lists: its past has some of the line's looks, none or all.
+pub record IsLooking (ls : List Meaning) (p : Past) (T : List ToldLine) (t : TaskId) (line : ℕ) : Type 0 where
+  pub going : IsGoing p.asked T t
+  pub free : IsFree p
+  pub begun : 0 < line
+  pub display : Display
+  pub at : slice_get ls (line - 1) ≡ Some (lines.Shows display)
+  pub passed : Passed ls p (line - 1)
+  pub from : length (asks_of (take (line - 1) ls)) ≤ length p.asked
+  pub to : length p.asked ≤ length (asks_of (take line ls))
+
+-- the rows that a line's looks show, as far as these entries have them
+abbrev pub rows_shown : List Meaning → List HistEntry → ℕ → List Row
+rows_shown ls E line = rows_in (drop (length (asks_of (take (line - 1) ls))) E)
+
+-- what rows a task has: those of its line's looks so far, and none where it isn't looking
+abbrev pub IsShown : List Meaning → List HistEntry → ℕ → List Row → Phase → Type 0
+IsShown ls E line ws phases.Ready = ws ≡ []
+IsShown ls E line ws phases.ToSend = ws ≡ rows_shown ls E line
+IsShown ls E line ws phases.Sent = ws ≡ rows_shown ls E line
+IsShown ls E line ws phases.HeldAnswer = ws ≡ []
+IsShown ls E line ws (phases.HeldLine r) = ws ≡ []
+IsShown ls E line ws (phases.Ending c) = ws ≡ []
+IsShown ls E line ws phases.Ended = ws ≡ []
+
 -- what holds of a task by its phase
 abbrev pub IsInPhase : List Meaning → Past → List ToldLine → TaskId → ℕ → Phase → Type 0
 IsInPhase ls p T t line phases.Ready = IsReady ls p T t line
-IsInPhase ls p T t line phases.ToSend = list_any (is_end_of t) T ≡ false
-IsInPhase ls p T t line phases.Sent = list_any (is_end_of t) T ≡ false
+IsInPhase ls p T t line phases.ToSend = IsLooking ls p T t line
+IsInPhase ls p T t line phases.Sent = IsLooking ls p T t line
 IsInPhase ls p T t line phases.HeldAnswer = IsHeld ls p T t line
 IsInPhase ls p T t line (phases.HeldLine r) = IsHeldLine ls p T t line r
 IsInPhase ls p T t line (phases.Ending c) = IsEnding ls p T t line c
@@ -249,4 +279,5 @@ pub record IsTask (ls : List Meaning) (p : Past) (T : List ToldLine) (leaving : 
   pub codes : list_all (is_code_before t (code_bound x.phase x.line)) T ≡ true
   pub posts : list_all (is_post_before t (suc x.line)) T ≡ true
   pub phase : IsInPhase ls p T t x.line x.phase
+  pub shown : IsShown ls p.asked x.line x.rows x.phase
   pub emptied : has_ended x.phase ≡ true → x.records ≡ []

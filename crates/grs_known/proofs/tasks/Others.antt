@@ -23,7 +23,7 @@ use Rattle.task_state.specs.declared.state.Phase.TheVariants as phases
 use Rattle.task_state.specs.declared.state.TaskState.{TaskState}
 use Rattle.grs_known.specs.Told.{tells_control, is_code_before, is_code_of, is_post_of, is_end_of}
 use Rattle.grs_known.proofs.tasks.Invariant.{Each, has_res, IsRec, IsDue, WaitsFor, may_pass, owns_entry, with_control}
-use Rattle.grs_known.proofs.tasks.Invariant.{Passed, IsFree, IsInPhase, IsTask, is_post_before}
+use Rattle.grs_known.proofs.tasks.Invariant.{Passed, IsFree, IsLooking, IsInPhase, IsTask, is_post_before}
 use Rattle.grs_known.proofs.tasks.Keys.{each-kept}
 use Rattle.grs_known.proofs.lists.Facts.{all-kept, all-more, any-more, none-more}
 
@@ -37,6 +37,7 @@ module _ (r : Res) (p : Past) where
       more : (a b c : Bool) → (a || c) ≡ true → ((a || b) || c) ≡ true
       more true b c e = refl
       more false b c e = or_right b c e
+  pass-control (lines.Shows d) h = refl
   pass-control lines.Nothing h = refl
 
   pub passed-control : (ls : List Meaning) (n : ℕ) → Passed ls p n → Passed ls (with_control r p) n
@@ -53,12 +54,25 @@ module _ (r : Res) (p : Past) where
       owned (Look u place filter rows) e = e
       owned (Remove by target) e = e
 
+  looking-control : (ls : List Meaning) (T : List ToldLine) (t : TaskId) (line : ℕ) → IsLooking ls p T t line
+      → IsLooking ls (with_control r p) T t line
+  looking-control ls T t line h = record {
+    going = h.going;
+    free = free-control h.free;
+    begun = h.begun;
+    display = h.display;
+    at = h.at;
+    passed = passed-control ls (line - 1) h.passed;
+    from = h.from;
+    to = h.to;
+  }
+
   pub phase-control : (ls : List Meaning) (T : List ToldLine) (t : TaskId) (line : ℕ) (x : Phase)
       → IsInPhase ls p T t line x → IsInPhase ls (with_control r p) T t line x
   phase-control ls T t line phases.Ready
       h = record { going = h.going; free = free-control h.free; passed = passed-control ls line h.passed }
-  phase-control ls T t line phases.ToSend h = h
-  phase-control ls T t line phases.Sent h = h
+  phase-control ls T t line phases.ToSend h = looking-control ls T t line h
+  phase-control ls T t line phases.Sent h = looking-control ls T t line h
   phase-control ls T t line phases.HeldAnswer h = record {
     going = h.going;
     passed = passed-control ls line h.passed;
@@ -118,6 +132,7 @@ task-leaving ls p T leaving t x h = record {
   codes = h.codes;
   posts = h.posts;
   phase = h.phase;
+  shown = h.shown;
   emptied = h.emptied;
 }
 
@@ -150,6 +165,19 @@ other-end_of t (Ended u code) apart = apart
 other-end_of t (Shown u j verb code rows) apart = refl
 other-end_of t (Desk j said) apart = refl
 
+looking-told : (ls : List Meaning) (p : Past) (T : List ToldLine) (t : TaskId) (line : ℕ) (l : ToldLine)
+    → is_end_of t l ≡ false → IsLooking ls p T t line → IsLooking ls p (T ++ l ∷ []) t line
+looking-told ls p T t line l e h = record {
+  going = record { no_code = h.going.no_code; no_end = none-more (is_end_of t) T l h.going.no_end e };
+  free = h.free;
+  begun = h.begun;
+  display = h.display;
+  at = h.at;
+  passed = h.passed;
+  from = h.from;
+  to = h.to;
+}
+
 pub phase-told : (ls : List Meaning) (p : Past) (T : List ToldLine) (t : TaskId) (line : ℕ) (x : Phase) (l : ToldLine)
     → is_end_of t l ≡ false → (is_held x ≡ true → is_post_of t line l ≡ false) → IsInPhase ls p T t line x
     → IsInPhase ls p (T ++ l ∷ []) t line x
@@ -158,8 +186,8 @@ phase-told ls p T t line phases.Ready l e k h = record {
   free = h.free;
   passed = h.passed;
 }
-phase-told ls p T t line phases.ToSend l e k h = none-more (is_end_of t) T l h e
-phase-told ls p T t line phases.Sent l e k h = none-more (is_end_of t) T l h e
+phase-told ls p T t line phases.ToSend l e k h = looking-told ls p T t line l e h
+phase-told ls p T t line phases.Sent l e k h = looking-told ls p T t line l e h
 phase-told ls p T t line phases.HeldAnswer l e k h = record {
   going = record { no_code = h.going.no_code; no_end = none-more (is_end_of t) T l h.going.no_end e };
   passed = h.passed;
@@ -231,5 +259,6 @@ task-told ls p T leaving t x l apart h = record {
   codes = all-more (is_code_before t _) T l h.codes (other-code_before t _ l apart);
   posts = all-more (is_post_before t _) T l h.posts (other-post_before t _ l apart);
   phase = phase-told ls p T t x.line x.phase l (other-end_of t l apart) (λ e. other-post_of t x.line l apart) h.phase;
+  shown = h.shown;
   emptied = h.emptied;
 }

@@ -54,6 +54,7 @@ module _ (limit : ℕ) (t : TaskId) (p : Past) (P : List HistEntry) (s : Speaks 
           → (owns (list_of (replay limit P) r) t || not (has_own r p.own)) ≡ true
       owned true f e = ap (λ b. b || not (has_own r p.own)) (f refl)
       owned false f e = grind (arith, e)
+  pass-speaks (lines.Shows d) h = refl
   pass-speaks lines.Nothing h = refl
 
   -- a task that is free by its past is so

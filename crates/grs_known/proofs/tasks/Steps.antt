@@ -57,6 +57,7 @@ pass-released p t r (lines.Wait q) h = by_res q r _
     or_right (owns_told (Release t r) p.owns q) _
     (ap not (ap (λ z. has_own z (filter (λ k. not (same_res r k.0)) p.own)) same ∙ none-filtered r p.own)))
     (λ apart. rw (owned_still (p.owns q) (same_res q r) false apart refl, has_own-other q r p.own apart) h)
+pass-released p t r (lines.Shows d) h = refl
 pass-released p t r lines.Nothing h = refl
 
 -- an ending task that released a resource
@@ -100,11 +101,12 @@ task-released ls p T leaving t n c code xs o ws r others k = record {
           (passed_behind (length p.asked) (take n ls)) (k.phase.all_lines e).1,
     );
   };
+  shown = k.shown;
   emptied = λ e. absurd (cc);
 }
 
 -- records of a task that has taken one more line, which asked nothing
-recs-line :
+pub recs-line :
     (ls : List Meaning) (E : List HistEntry) (T : List ToldLine) (has leaving : Res → Bool) (t : TaskId) (n : ℕ)
     (ph : Phase) (xs : List Rec)
     → Each (IsRec ls E T has leaving t n phases.Ready) xs → Each (IsRec ls E T has leaving t (suc n) ph) xs
@@ -137,7 +139,7 @@ posts_later t n (Ended u code) e = refl
 posts_later t n (Shown u j verb code rows) e = refl
 posts_later t n (Desk j said) e = refl
 
-all-posts_later : (t : TaskId) (n : ℕ) (T : List ToldLine) → list_all (is_post_before t n) T ≡ true
+pub all-posts_later : (t : TaskId) (n : ℕ) (T : List ToldLine) → list_all (is_post_before t n) T ≡ true
     → list_all (is_post_before t (suc n)) T ≡ true
 all-posts_later t n T h = all-kept (is_post_before t n) (is_post_before t (suc n)) (posts_later t n) T h
 
@@ -169,6 +171,7 @@ module _ (ls : List Meaning) (p : Past) (T : List ToldLine) (leaving : Res → B
     codes = codes_later t (suc n) T k.codes;
     posts = all-posts_later t (suc n) T k.posts;
     phase = record { going = k.phase.going; free = k.phase.free; passed = passed_line lets };
+    shown = k.shown;
     emptied = λ e. absurd (cc);
   }
 
@@ -197,6 +200,7 @@ module _ (ls : List Meaning) (p : Past) (T : List ToldLine) (leaving : Res → B
       free = k.phase.free;
       passed = passed_line lets;
     };
+    shown = k.shown;
     emptied = λ e. absurd (cc);
   }
 
@@ -220,6 +224,7 @@ module _ (ls : List Meaning) (p : Past) (T : List ToldLine) (leaving : Res → B
       at = subst (IsWaitFor r) (sym (ap (slice_get ls) (omega (arith)) ∙ at)) waits;
       passed = subst (λ m. Passed ls p m) (omega (arith)) k.phase.passed;
     };
+    shown = k.shown;
     emptied = λ e. absurd (cc);
   }
 
@@ -248,6 +253,7 @@ task-ending ls p T leaving t n code xs o ws k past_end = record {
     free = k.phase.free;
     all_lines = λ e. (omega (arith, k.within, slice_get-past ls n past_end), k.phase.passed);
   };
+  shown = k.shown;
   emptied = λ e. absurd (cc);
 }
 
@@ -315,6 +321,7 @@ task-ended ls p T leaving t n c code o ws k = (
     codes = all-more (is_code_before t (suc n)) T _ k.codes refl;
     posts = all-more (is_post_before t (suc n)) T _ k.posts refl;
     phase = tt;
+    shown = k.shown;
     emptied = λ e. refl;
   },
   λ limit P s. (

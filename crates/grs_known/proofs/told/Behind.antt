@@ -109,6 +109,7 @@ tells_wait-behind :
 tells_wait-behind n s before after t ls entries code None lines home a = a
 tells_wait-behind n s before after t ls entries code (Some (meanings.Enq r c ret unit)) lines home a = a
 tells_wait-behind n s before after t ls entries code (Some (meanings.Deq r have)) lines home a = a
+tells_wait-behind n s before after t ls entries code (Some (meanings.Shows d)) lines home a = a
 tells_wait-behind n s before after t ls entries code (Some meanings.Nothing) lines home a = a
 tells_wait-behind n s before after t ls entries code (Some (meanings.Wait r)) lines home a = by_code code a
   where
@@ -158,7 +159,9 @@ agrees-behind limit n P before after (Some ls) (Post t k) lines home a =
     )
 agrees-behind limit n P before after (Some ls) (Ended t code) lines home
     a = (a.0, a.1, a.2, ended-told n before after t lines (eqb-true _ _ home) a.3)
-agrees-behind limit n P before after (Some ls) (Shown t k verb code rows) lines home a = a
+agrees-behind limit n P before after (Some ls) (Shown t k verb code rows) lines home a =
+    let at = eqb-true _ _ home in
+    (a.0, a.1, codes-told n before after t k lines at a.2, ended-told n before after t lines at a.3)
 agrees-behind limit n P before after (Some ls) (Desk k said) lines home a = a
 
 pub line-behind : (deck : Deck) (n : ℕ) (P : List HistEntry) (before after : List ToldLine) (l : ToldLine)
@@ -170,7 +173,9 @@ line-behind deck n P before after (Coded t k part verb code) home theirs
       agrees-behind deck.limit n P before after (lines_of deck t) (Coded t k part verb code)
           (record { theirs = theirs }) home a.1,
     )
-line-behind deck n P before after (Shown t k verb code rows) home theirs a = a
+line-behind deck n P before after (Shown t k verb code rows) home theirs a =
+    agrees-behind deck.limit n P before after (lines_of deck t) (Shown t k verb code rows) (record { theirs = theirs })
+    home a
 line-behind deck n P before after (Post t k) home theirs a =
     agrees-behind deck.limit n P before after (lines_of deck t) (Post t k) (record { theirs = theirs }) home a
 line-behind deck n P before after (Ended t code) home theirs a =

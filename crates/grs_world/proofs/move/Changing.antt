@@ -16,7 +16,7 @@ use Rattle.grs_world.proofs.run.Runs.{GoodMessage, by_node, seen_at}
 use Rattle.grs_world.proofs.star.Ghosts.{IsAt}
 use Rattle.grs_world.proofs.star.Systems.{IsSystem}
 use Rattle.grs_world.proofs.run.Reading.{ReadTo, read_all, reading}
-use Rattle.grs_world.proofs.system.AtNode.{Seen, seen-other}
+use Rattle.grs_world.proofs.system.AtNode.{Seen}
 use Rattle.grs_world.specs.World.{Turnout, World, fixed_by, placed}
 use Rattle.grs_world.proofs.move.Ranks.{changed-at, changed-told}
 use Rattle.grs_world.proofs.run.Growing.{fixeds}
@@ -26,7 +26,7 @@ use Rattle.grs_known.proofs.system.Ours.{IsOurs}
 use Rattle.grs_known.specs.Items.{RunItem, goes_round, history, is_of, items, lists, mine, rounds}
 use Rattle.grs_known.proofs.told.News.{ToldNews, told-news}
 use Rattle.grs_known.proofs.system.Says.{askers, own_requests}
-use Rattle.grs_known.proofs.lists.Truths.{false_by, no_truth}
+use Rattle.grs_known.proofs.lists.Truths.{no_truth}
 use Rattle.grs_known.proofs.lists.Facts.{filter-cons_kept, filter-cons_left, slice_get-set, slice_get-set_other}
 use Rattle.grs_known.proofs.lists.Owners.{is_among}
 use Rattle.grs_legal.specs.declared.meaning.Meaning.{Meaning}
@@ -36,8 +36,7 @@ use Rattle.grs_node.specs.Change.{part_by_table}
 use Rattle.grs_node.proofs.ChangeFits.{star-changed}
 use Rattle.grs_base.specs.declared.resource.SysId.{SysId}
 use Rattle.grs_base.specs.declared.resource.TaskId.{TaskId}
-use Rattle.grs_base.specs.Same.{same_task}
-use Rattle.grs_base.proofs.SameLaws.{same_task-exact, same_task-itself}
+use Rattle.grs_base.proofs.SameLaws.{same_task-itself}
 use Rattle.grs_medium.specs.Medium.{live}
 
 -- System s hasn't changed. Of what went with the message it has processed `before` and has still to process `due`; of
@@ -134,19 +133,13 @@ fresh deck c out T T' none_fixed = record {
   seen = λ u ne empty before later o n h. subst (λ xs. Seen deck u T before xs o n) (sym (append-nil later)) h;
   away = λ u ne empty t home. refl;
 }
-fresh deck c out T T' (one_fixed x a far) = record {
+fresh deck c out T T' (one_fixed x others) = record {
   new = x ∷ [];
   is = filter-append (λ z. goes_round z.fixed) T (x ∷ []);
-  seen = λ u ne empty before later o n h. seen-other deck u T before later o n x a h (far u ne empty);
-  away = λ u ne empty t home. none t (goes_round x.fixed) (apart u ne empty t home);
+  seen = λ u ne empty. (others u ne empty).seen;
+  away = λ u ne empty t home. none t (goes_round x.fixed) ((others u ne empty).apart t home);
 }
   where
-    apart : (u : ℕ) → u ≢ c → out u ≡ [] → (t : TaskId) → t.system.0 ≡ u → is_of t x.fixed ≡ false
-    apart u ne empty t home =
-        ap (is_of t) a.asked
-        ∙ false_by (same_task t a.req.task)
-        (λ e. absurd (far u ne empty (ap (λ (z : TaskId). z.system.0) (sym (same_task-exact t a.req.task e)) ∙ home)))
-
     none : (t : TaskId) (b : Bool) → is_of t x.fixed ≡ false → mine t (cond b (x ∷ []) []) ≡ []
     none t true e = filter-cons_left (λ z. is_of t z.fixed) x [] e
     none t false e = refl

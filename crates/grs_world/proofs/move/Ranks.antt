@@ -1,40 +1,49 @@
 -- A system that changes to star mode: its tasks stand as they did, though their records get ranks; and what waited in
 -- its outbox waits at them.
-use Rattle.std.proofs.Common.{◌≡◌, [], ◌++◌, Bool, List, None, Option, Some, ap, append_assoc, false, get_or, refl, sym}
-use Rattle.std.proofs.Common.{true, ℕ, ◌∙◌, ◌∷◌, subst}
-use Rattle.std.specs.Prelude.{◌==◌}
-use Rattle.std.proofs.lemmas.Bool.{eqb-false, eqb-true}
+use Rattle.std.proofs.Common.{◌≡◌, [], Bool, List, None, Option, Some, ap, false, get_or, refl, sym}
+use Rattle.std.proofs.Common.{true, ℕ, ◌∙◌, ◌∷◌, subst, zero, suc, arith, ◌<◌, ◌-◌}
+use Rattle.std.specs.Prelude.{◌==◌, min}
+use Rattle.std.proofs.lemmas.Bool.{eqb-false, eqb-true, and_parts}
 use Rattle.std.specs.List.{list_all}
 use Rattle.task_state.specs.declared.state.Asked.{Asked}
 use Rattle.task_state.specs.declared.state.TaskState.{TaskState}
-use Rattle.task_state.specs.View.{TasksView, is_task, new_task, on_record, state_of, with_rank}
+use Rattle.task_state.specs.declared.state.Phase.TheVariants as phases
+use Rattle.task_state.specs.View.{TasksView, is_task, new_task, on_record, state_of, with_rank, with_outstanding}
 use Rattle.grs_wire.specs.declared.deck.Deck.{Deck}
 use Rattle.grs_wire.specs.declared.request.Want.TheVariants.{Deq, Enq, Look, Release}
 use Rattle.grs_wire.specs.declared.request.Req.{Req}
 use Rattle.grs_wire.specs.declared.request.Want.{Want}
 use Rattle.grs_wire.proofs.WantLaws.{by_test}
-use Rattle.grs_wire.specs.Wants.{res_wanted}
-use Rattle.grs_known.proofs.system.Did.{Did}
-use Rattle.grs_known.proofs.system.Asking.{IsAskedBy, IsOpenBy, IsReq, Opens}
+use Rattle.grs_known.proofs.system.Did.{Did, did-outstanding, did-none}
+use Rattle.grs_known.proofs.system.Asking.{IsOpenBy, Opens, AreLooks, IsLooks, IsLooksBy, first-looks}
+use Rattle.grs_known.proofs.system.Asking.{line_asked, phase_seen, unasked_by, task-open}
 use Rattle.grs_known.proofs.system.Good.{IsGood}
 use Rattle.grs_known.proofs.system.Ours.{IsHere, IsOurs}
 use Rattle.grs_known.specs.Items.{RunItem, mine}
-use Rattle.grs_known.proofs.lists.Facts.{all-middle}
-use Rattle.grs_known.proofs.system.Says.{is_home_at}
+use Rattle.grs_known.proofs.system.Says.{is_home_at, none}
 use Rattle.grs_base.specs.declared.resource.Elem.{Elem}
 use Rattle.grs_base.specs.declared.resource.Res.{Res}
 use Rattle.grs_base.specs.declared.resource.TaskId.{TaskId}
-use Rattle.grs_base.proofs.SameLaws.{same_task-itself}
 use Rattle.grs_world.proofs.star.Ghosts.{IsAt, opens-as}
 use Rattle.grs_world.proofs.system.AtNode.{Seen, opens_of}
-use Rattle.grs_world.proofs.system.Puts.{asked-middle, home-task}
-use Rattle.grs_world.proofs.star.steps.Send.{asks-res}
+use Rattle.grs_world.proofs.system.Puts.{home-task}
 use Rattle.grs_world.proofs.star.Ranked.{did-rank, here-ranked, told-rank, ranked}
 use Rattle.grs_legal.specs.declared.meaning.Meaning.{Meaning}
 use Rattle.grs_node.specs.Node.{NodeState, change_to_star}
-use Rattle.grs_node.specs.Change.{one_by_one, with_first_look, with_list_ranks, with_rank_by, with_ranks}
+use Rattle.grs_node.specs.Change.{one_by_one, with_first_look, with_list_ranks, with_rank_by, with_ranks, first_look}
+use Rattle.grs_node.specs.Change.{more_left}
 use Rattle.lock_structure.specs.RankedRows.{RankedRow}
 use Rattle.mode_migrate.specs.Migrate.{ranked_by}
+use Rattle.std.specs.Option.{option_map}
+use Rattle.grs_known.proofs.system.Turns.{quiet_good}
+use Rattle.grs_known.proofs.tasks.Invariant.{IsTask}
+use Rattle.grs_known.specs.Known.{outstanding}
+use Rattle.grs_known.specs.Past.{past_of}
+use Rattle.grs_known.proofs.known.Knowing.{one-none}
+use Rattle.grs_known.proofs.known.Knows.{IsOutstanding}
+use Rattle.grs_wire.specs.declared.told.ToldLine.{ToldLine}
+use Rattle.task_state.specs.Replies.{gives_up, is_leaving}
+use Rattle.task_state.proofs.ViewLaws.{told-state}
 
 -- ---- a rank is given, to whatever task
 place-state : (v : TasksView) (t u : TaskId) → u.task ≡ t.task → state_of v u ≡ state_of v t
@@ -110,62 +119,122 @@ ranks-told : (v : TasksView) (xs : List RankedRow) → (with_ranks v xs).told �
 ranks-told v [] = refl
 ranks-told v (x ∷ xs) = ranks-told (with_list_ranks v x.0.res x.0.elems x.1) xs ∙ list-told v x.0.res x.0.elems x.1
 
--- ---- the requests of an outbox: each is for a resource, so it waits at its task as it is
-look-none : (v : TasksView) (t : TaskId) (w : Want) (r : Res) → res_wanted w ≡ Some r → with_first_look v t w ≡ v
-look-none v t (Enq q c ret full) r h = refl
-look-none v t (Deq q have) r h = refl
-look-none v t (Release q) r h = refl
-look-none v t (Look first count f) r h = absurd (cc)
+-- ---- the requests of an outbox: of looks the first waits at its task, and the others are left behind it
+-- nothing is open
+abbrev closed : Opens
+closed = record { later = []; out = []; all = [] }
 
-module _ (deck : Deck) (s : ℕ) (P before later : List RunItem) (out : List Req) (n : NodeState)
-    (seen : Seen deck s P before later out n) where
-  box-res : (xs : List Req) (q : Req) (ys : List Req) → n.outbox ≡ xs ++ q ∷ ys
-      → (r : Res) × (res_wanted q.want ≡ Some r)
-  box-res xs q ys at =
-      let all : out ++ n.outbox ≡ (out ++ xs) ++ q ∷ ys =
-      ap (λ qs. out ++ qs) at ∙ sym (append_assoc out xs (q ∷ ys)) in
-      let home : is_home_at deck s q.task ≡ true =
-      all-middle (λ z. is_home_at deck s z.task) (out ++ xs) q ys
-      (sym (ap (list_all (λ z. is_home_at deck s z.task)) all) ∙ seen.homes) in
-      let ours = home-task deck s (opens_of later out n) P n.tasks q.task seen.good home in
-      let here = seen.good.tasks.each q.task ours.0 ours.1 in
-      by_asked ours.0 (state_of n.tasks q.task) (state_of n.tasks q.task).outstanding here.opened
-      (asked-middle q.task (state_of n.tasks q.task).outstanding (out ++ xs) q ys
-      (subst (IsAskedBy q.task (state_of n.tasks q.task).outstanding) all here.asked) (same_task-itself q.task))
-    where
-      by_asked : (ls : List Meaning) (x : TaskState) (o : Option Asked) → IsOpenBy deck.limit ls q.task x o → IsReq q o
-          → (r : Res) × (res_wanted q.want ≡ Some r)
-      by_asked ls x None opened is = absurd is
-      by_asked ls x (Some a) opened is =
-          subst (λ (z : Req). (r : Res) × (res_wanted z.want ≡ Some r)) is
-          (asks-res deck.limit ls x.line x.records a.req.want a.unit opened.2)
+least : (count : ℕ) → 0 < count → min count 1 ≡ 1
+least zero h = absurd (omega (arith, h))
+least (suc n) h = omega arith
 
-  looks-none : (v : TasksView) (xs qs : List Req) → n.outbox ≡ xs ++ qs → one_by_one v qs ≡ v
-  looks-none v xs [] at = refl
-  looks-none v xs (q ∷ qs) at =
-      let r = box-res xs q qs at in
-      ap (λ w. one_by_one w qs) (look-none v q.task q.want r.0 r.1)
-      ∙ looks-none v (xs ++ q ∷ []) qs (at ∙ sym (append_assoc xs (q ∷ []) qs))
+-- a task with looks stands as it did, where only the first of them is asked for
+here-first :
+    (deck : Deck) (P : List RunItem) (T : List ToldLine) (t : TaskId) (ls : List Meaning) (x : TaskState)
+    → IsHere deck closed P T t ls x
+    → IsHere deck closed P T t ls
+    (record x { outstanding = option_map (λ a. first_look a a.req.want) x.outstanding })
+here-first deck P T t ls x h = go x.outstanding refl
+  where
+    -- it has learned all
+    idle : outstanding t h.known P ≡ None
+    idle = one-none (outstanding t h.known P) h.due
 
-  pub box-none : one_by_one n.tasks n.outbox ≡ n.tasks
-  box-none = looks-none n.tasks [] n.outbox refl
+    same : (o : Option Asked) → x.outstanding ≡ o → IsHere deck closed P T t ls (record x { outstanding = o })
+    same o e = subst (λ z. IsHere deck closed P T t ls (record x { outstanding = z })) e h
+
+    go : (o : Option Asked) → x.outstanding ≡ o
+        → IsHere deck closed P T t ls (record x { outstanding = option_map (λ a. first_look a a.req.want) o })
+    go None e = same None e
+    go (Some a) e = by_want a.req.want refl
+      where
+        by_want : (w : Want) → a.req.want ≡ w
+            → IsHere deck closed P T t ls (record x { outstanding = Some (first_look a w) })
+        by_want (Enq r c ret full) is = same (Some a) e
+        by_want (Deq r have) is = same (Some a) e
+        by_want (Release r) is = same (Some a) e
+        by_want (Look first count f) is = record {
+          known = h.known;
+          knows = record {
+            right = h.knows.right;
+            request = subst (IsOutstanding (Some now)) (sym idle) tt;
+            live = h.knows.live;
+          };
+          due = h.due;
+          task =
+              task-open ls (past_of t h.known P) T (λ r. false) t
+              (record x { line = x.line; phase = phases.ToSend }) (Some now)
+              (subst (λ w. IsTask ls (past_of t h.known P) T (λ r. gives_up r w) t
+              (record x { line = line_asked w x.line; phase = phase_seen w x.code })) is
+              (subst (λ o. IsTask ls (past_of t h.known P) T (λ r. is_leaving r o) t (unasked_by o x)) e h.task));
+          opened = (opened.0, opened.1, tt);
+          looks =
+              subst (λ k. AreLooks ls (past_of t h.known P).asked x.line first k f now.showing)
+              (sym (least count looks.some))
+              (subst (λ o.
+              AreLooks ls (past_of t h.known P).asked x.line first 1 f (option_map (more_left (count - 1)) o))
+              (sym looks.is)
+              (first-looks ls (past_of t h.known P).asked x.line first count f a.showing looks));
+          asked = tt;
+          sent = refl;
+        }
+          where
+            now : Asked
+            now = first_look a (Look first count f)
+
+            opened : IsOpenBy deck.limit ls t x (Some a)
+            opened = subst (IsOpenBy deck.limit ls t x) e h.opened
+
+            looks : AreLooks ls (past_of t h.known P).asked x.line first count f a.showing
+            looks =
+                subst (λ w. IsLooksBy ls (past_of t h.known P).asked x.line w a.showing) is
+                (subst (IsLooks ls (past_of t h.known P).asked x.line) e h.looks)
+
+module _ (deck : Deck) (s : ℕ) (P : List RunItem) where
+  first-good : (v : TasksView) (t : TaskId) → is_home_at deck s t ≡ true → (w : Want) → IsGood deck s closed P v
+      → IsGood deck s closed P (with_first_look v t w)
+  first-good v t home (Enq r c ret full) g = g
+  first-good v t home (Deq r have) g = g
+  first-good v t home (Release r) g = g
+  first-good v t home (Look first count f) g =
+      let x : TaskState = state_of v t in
+      let z = home-task deck s closed P v t g home in
+      let o : Option Asked = option_map (λ a. first_look a a.req.want) x.outstanding in
+      (quiet_good deck s closed closed P v g t z.0 z.1 (with_outstanding v t o) (record x { outstanding = o }) v.told
+      (did-outstanding v v t x v.told (g.here t home) (did-none v t) o)
+      (here-first deck P v.told t z.0 x (g.tasks.each t z.0 z.1))
+      (λ u p apart a. a) (λ u ph apart a. a) refl (λ u ms apart p leaving y j. j) none).good
+
+  box-good : (v : TasksView) (qs : List Req) → list_all (λ q. is_home_at deck s q.task) qs ≡ true
+      → IsGood deck s closed P v → IsGood deck s closed P (one_by_one v qs)
+  box-good v [] homes g = g
+  box-good v (q ∷ qs) homes g =
+      let both = and_parts (is_home_at deck s q.task) (list_all (λ z. is_home_at deck s z.task) qs) homes in
+      box-good (with_first_look v q.task q.want) qs both.1 (first-good v q.task both.0 q.want g)
+
+first-told : (v : TasksView) (t : TaskId) (w : Want) → (with_first_look v t w).told ≡ v.told
+unfolding with_outstanding
+first-told v t (Enq r c ret full) = refl
+first-told v t (Deq r have) = refl
+first-told v t (Release r) = refl
+first-told v t (Look first count f) = told-state v t _
+
+box-told : (v : TasksView) (qs : List Req) → (one_by_one v qs).told ≡ v.told
+box-told v [] = refl
+box-told v (q ∷ qs) = box-told (with_first_look v q.task q.want) qs ∙ first-told v q.task q.want
 
 -- ---- a system that has processed all of the message, and whose tasks have none of what was fixed since
 module _ (deck : Deck) (s : ℕ) (T before since : List RunItem) (k : NodeState) (seen : Seen deck s T before since [] k)
     (away : (t : TaskId) (ls : List Meaning) → IsOurs deck s k.tasks t ls → mine t since ≡ []) where
-  open-less : IsGood deck s (record { later = []; out = []; all = [] }) T k.tasks
+  open-less : IsGood deck s closed T k.tasks
   open-less =
-      opens-as deck s (opens_of since [] k) (record { later = []; out = []; all = [] }) T k.tasks refl
-      (λ u ls o. sym (away u ls o)) (λ u o a. tt) seen.good
+      opens-as deck s (opens_of since [] k) closed T k.tasks refl (λ u ls o. sym (away u ls o)) (λ u o a. tt) seen.good
 
   changed-good :
-      IsGood deck s (record { later = []; out = []; all = [] }) T
-      (with_ranks (one_by_one k.tasks k.outbox) (ranked_by deck.entries k.shared))
+      IsGood deck s closed T (with_ranks (one_by_one k.tasks k.outbox) (ranked_by deck.entries k.shared))
   changed-good =
-      ranks-good deck s (record { later = []; out = []; all = [] }) T (one_by_one k.tasks k.outbox)
-      (ranked_by deck.entries k.shared)
-      (subst (IsGood deck s (record { later = []; out = []; all = [] }) T)
-      (sym (box-none deck s T before since [] k seen)) open-less)
+      ranks-good deck s closed T (one_by_one k.tasks k.outbox) (ranked_by deck.entries k.shared)
+      (box-good deck s T k.tasks k.outbox seen.homes open-less)
 
   -- it is in star mode as it should be
   pub changed-at : IsAt deck s T [] [] (change_to_star deck k)
@@ -176,5 +245,4 @@ module _ (deck : Deck) (s : ℕ) (T before since : List RunItem) (k : NodeState)
   pub changed-told : (change_to_star deck k).tasks.told ≡ k.tasks.told
   unfolding change_to_star
   changed-told =
-      ranks-told (one_by_one k.tasks k.outbox) (ranked_by deck.entries k.shared)
-      ∙ ap (λ (v : TasksView). v.told) (box-none deck s T before since [] k seen)
+      ranks-told (one_by_one k.tasks k.outbox) (ranked_by deck.entries k.shared) ∙ box-told k.tasks k.outbox

@@ -1,6 +1,6 @@
 -- Every run is sound, in either mode and where it changes from ring to star mode.
 use Rattle.std.proofs.Common.{◌≡◌, ◌<◌, ◌++◌, [], ◌∷◌, Bool, List, Some, ap, arith, false, not, refl, true, ℕ, cond}
-use Rattle.std.proofs.Common.{length}
+use Rattle.std.proofs.Common.{length, ◌≤◌}
 use Rattle.std.specs.Prelude.{◌&&◌, slice_get}
 use Rattle.std.specs.List.{list_any}
 use Rattle.std.proofs.lemmas.Bool.{or_left}
@@ -10,7 +10,7 @@ use Rattle.grs_base.specs.declared.resource.SysId.{SysId}
 use Rattle.grs_known.proofs.known.Histories.{IsHistory, OrdersFit}
 use Rattle.grs_known.proofs.lists.Truths.{no_truth}
 use Rattle.grs_known.specs.Items.{history, items}
-use Rattle.grs_node.specs.Node.{NodeState}
+use Rattle.grs_node.specs.Node.{NodeState, first_node}
 use Rattle.grs_medium.specs.Medium.{live}
 use Rattle.grs_wire.specs.Masks.{has}
 use Rattle.grs_wire.proofs.MaskLaws.{has-zero}
@@ -29,7 +29,7 @@ use Rattle.grs_world.proofs.run.InRing.{no_such, nothing, removes_one, ring-coun
 use Rattle.grs_world.proofs.run.Removals.{taken_out}
 use Rattle.grs_world.proofs.run.Runs.{GoodTold, GoodWorld, told-after, told-counted}
 use Rattle.grs_world.proofs.run.Sound.{came_tells, first_good, first_good_told, first_message, good_came, good_counted}
-use Rattle.grs_world.proofs.run.Sound.{sound-of}
+use Rattle.grs_world.proofs.run.Sound.{first_is, sound-of}
 use Rattle.grs_world.proofs.star.Sound.{first_whole}
 use Rattle.grs_world.specs.Agree.{Sound}
 use Rattle.grs_world.specs.Decks.{FitsStar, may_be_star, orders_star}
@@ -167,9 +167,16 @@ first_changing deck star = record {
   gone = λ s n at out. no_truth (has 0 s) out (has-zero s);
 }
 
+none-done : (n k : ℕ) → n ≡ 0 → 0 < k → k ≤ n → ⊥
+none-done n k e low l = omega (arith, e, low, l)
+
 first_desks : (deck : Deck) → GoodDesks deck (first_world deck)
-unfolding first_world
-first_desks deck = record { changes = never deck.star; lines = λ s n at. refl }
+unfolding first_world first_node
+first_desks deck = record {
+  changes = never deck.star;
+  lines = λ s n at. refl;
+  each = λ s n at k low l. absurd (none-done n.done k (ap (λ (m : NodeState). m.done) (first_is deck s n at)) low l);
+}
   where
     never : (b : Bool) → false ≡ (b && not b)
     never true = refl

@@ -1,14 +1,14 @@
 -- An event of a system that hasn't changed: what is shown of it is what it then comes to.
 use Rattle.std.proofs.Common.{◌≡◌, [], ◌+◌, ◌++◌, List, Some, ap, append-nil, append_assoc, arith, false, length}
 use Rattle.std.proofs.Common.{length-append, refl, set, subst, sym, true, ℕ, ◌∙◌, ◌∷◌, ◌≢◌, None}
-use Rattle.std.proofs.lemmas.Bool.{and_parts, eqb-true}
+use Rattle.std.proofs.lemmas.Bool.{and_parts}
 use Rattle.std.proofs.lemmas.List.Elements.{filter-append}
 use Rattle.std.proofs.lemmas.List.{length-set}
 use Rattle.std.specs.List.{list_all}
 use Rattle.std.proofs.lemmas.List.Folds.{list_all-append}
 use Rattle.std.specs.Prelude.{slice_get}
 use Rattle.grs_known.proofs.lists.Alike.{Alike}
-use Rattle.grs_known.proofs.known.Histories.{AllAsk, IsHistory, asks-behind, asks-front, follows, made_item}
+use Rattle.grs_known.proofs.known.Histories.{AllAsk, IsHistory, asks-behind, asks-front, made_item}
 use Rattle.grs_known.specs.Known.{Coming}
 use Rattle.grs_known.specs.Items.{RunItem, goes_round, history, items, lists, mine, rounds}
 use Rattle.grs_known.proofs.told.News.{ToldNews, still-told, told-news}
@@ -28,13 +28,13 @@ use Rattle.grs_world.proofs.move.Changing.{IsChanging, IsMoved, Waits, fresh, mo
 use Rattle.grs_world.proofs.move.Changing.{view-star, viewed, waits_yet, has_changed, Shown}
 use Rattle.grs_world.proofs.star.Members.{IsMember, IsStar, IsStep, all_lists, framed, lists-grown, lists_after}
 use Rattle.grs_world.proofs.star.Systems.{IsSystem, is_late, news_of}
-use Rattle.grs_world.proofs.system.AtNode.{QuietStep, Seen, keeps, fixes, seen-known}
+use Rattle.grs_world.proofs.system.AtNode.{QuietStep, Seen, keeps, fixes, fix-history, fix-stays, seen-known}
 use Rattle.grs_world.specs.World.{Turnout, World, fixed_by, placed, told_by}
 use Rattle.grs_node.specs.Log.{told_in}
 use Rattle.grs_world.proofs.run.Reading.{all-rounds, read-entries, read_all}
 use Rattle.grs_world.proofs.run.Growing.{asks-rounds, fixeds}
 use Rattle.grs_world.proofs.run.Runs.{by_node}
-use Rattle.grs_world.proofs.star.OwnEvents.{coming-own, want-round}
+use Rattle.grs_world.proofs.star.OwnEvents.{coming-own, local-calm}
 use Rattle.grs_world.proofs.system.Desks.{desk-seen, desk-told}
 use Rattle.grs_world.proofs.run.Messages.{given-due, message-closed}
 use Rattle.grs_world.proofs.system.Quiet.{quiet}
@@ -42,13 +42,11 @@ use Rattle.grs_world.proofs.run.Desks.{tells_already, tells_in_star, tells_tasks
 use Rattle.grs_world.proofs.star.Under.{under}
 use Rattle.grs_wire.specs.declared.deck.Deck.{Deck}
 use Rattle.grs_wire.specs.declared.request.Fixed.{Fixed}
-use Rattle.grs_wire.specs.declared.request.Fixed.TheVariants.{Asked}
 use Rattle.grs_wire.specs.Masks.{has, lives}
 use Rattle.grs_wire.specs.declared.told.Said.{Said}
 use Rattle.grs_wire.specs.declared.deck.Order.TheVariants as orders
 use Rattle.grs_wire.specs.declared.told.Said.TheVariants as saids
 use Rattle.grs_wire.specs.declared.deck.Choice.TheVariants as choices
-use Rattle.grs_wire.specs.declared.request.Fixed.TheVariants as fixing
 use Rattle.grs_node.specs.Node.{NodeState, Step, change_to_star, desk_told, finish_quiet, may_go, next_order, only}
 use Rattle.grs_node.specs.Node.{read_entries, task_step}
 use Rattle.grs_node.specs.Star.{StarPart}
@@ -321,8 +319,8 @@ module _ (deck : Deck) (w : World) (g : IsChanging deck w) (c : SysId) (n : Node
       → IsMoved deck w c n (record { medium = w.medium; step = finish_quiet deck n (choices.Task t) })
   unfolding finish_quiet
   task-moved t may =
-      by_step (quiet deck c.0 c T (g.before c.0) (g.due c.0 ++ g.since) (own_requests c.0 (g.due c.0)) n t h.alone
-      g.whole.right h.seen may)
+      by_step (quiet deck c.0 c T (g.before c.0) (g.due c.0 ++ g.since) (own_requests c.0 (g.due c.0)) n t g.whole.right
+      h.seen may)
     where
       st : Step
       st = task_step deck.limit n t (lines_of deck t)
@@ -345,12 +343,11 @@ module _ (deck : Deck) (w : World) (g : IsChanging deck w) (c : SysId) (n : Node
             (sym (ap (λ zs. items (w.fixed ++ fixed_by c zs)) none ∙ items-none w.fixed c)) (told-news told))
             kept.done refl;
       }
-      by_step (fixes q one home alone follow seen told) =
-          let item : RunItem = made_item c T (fixing.Asked q) in
+      by_step (fixes f one alone follow seen told) =
+          let item : RunItem = made_item c T f in
           let T' : List RunItem = T ++ item ∷ [] in
-          let mine_q : q.task.system.0 ≡ c.0 = eqb-true q.task.system.0 c.0 home in
           let grown : items (w.fixed ++ fixed_by c (task_step deck.limit n t (lines_of deck t)).fixed) ≡ T' =
-          ap (λ zs. items (w.fixed ++ fixed_by c zs)) one ∙ items-one w.fixed c (fixing.Asked q) in
+          ap (λ zs. items (w.fixed ++ fixed_by c zs)) one ∙ items-one w.fixed c f in
           let around : rounds T' ≡ rounds T =
           filter-append (λ z. goes_round z.fixed) T (item ∷ [])
           ∙ (ap (λ zs. rounds T ++ zs) (filter-cons_left (λ z. goes_round z.fixed) item [] alone)
@@ -358,16 +355,20 @@ module _ (deck : Deck) (w : World) (g : IsChanging deck w) (c : SysId) (n : Node
           record {
             changing =
                 waiting-moved (task_step deck.limit n t (lines_of deck t)).node
-                (task_step deck.limit n t (lines_of deck t)).fixed T' grown (follows deck T item g.whole.right follow)
-                (fixes-own deck c g.whole.out T q follow mine_q)
-                (under-local deck T c q alone) (near-local deck w.medium.words T c q alone g.whole.near)
+                (task_step deck.limit n t (lines_of deck t)).fixed T' grown (fix-history g.whole.right follow)
+                (fixes-own deck c g.whole.out T f follow)
+                (under-local deck T c f alone) (near-local deck w.medium.words T c f alone g.whole.near)
                 (record { alone = kept.star ∙ h.alone; seen = seen; away = h.away }) around
                 (λ u home_u. subst (λ xs. Coming u (blank (is_late u xs)) T' (news_of (inbox w.medium c.0))) late-none
                 (coming-own deck w.medium.words T g.whole.right c.0 k (inbox w.medium c.0) (g.whole.later c.0)
-                (g.whole.out c.0) sys c q home (λ e f. absurd (want-round deck q.want e alone f))
-                (ap (is_late q.task) late-none) u home_u))
+                (g.whole.out c.0) sys c f (λ v. fix-stays follow v)
+                (λ v home_v of. (
+                  ap (is_late v) late-none,
+                  local-calm deck w.medium.words c.0 v f (inbox w.medium c.0) alone sys.fits,
+                ))
+                u home_u))
                 (λ s j ne found live.
-                others-item deck shown g.whole c k there unremoved q follow mine_q s j ne found live)
+                others-item deck shown g.whole c k there unremoved f follow s j ne found live)
                 w.medium.rest;
             news =
                 tells_tasks (subst (λ U.

@@ -1,11 +1,11 @@
 -- Where nothing goes on and nothing is outstanding, owners and replies were told.
 use Rattle.std.proofs.Common.{◌≡◌, ◌≢◌, ◌<◌, ◌≤◌, ◌-◌, ◌+◌, ℕ, zero, suc, Bool, true, false, cond, not, ◌&&◌, ◌||◌}
 use Rattle.std.proofs.Common.{List, [], ◌∷◌, ◌++◌, length, take, Option, Some, None, refl, ap, sym, ◌∙◌, subst, arith}
-use Rattle.std.proofs.Common.{leb, leb-true, leb-false, length-append}
-use Rattle.std.specs.Prelude.{◌==◌, is_some, nat_lt, slice_get}
+use Rattle.std.proofs.Common.{leb, leb-true, leb-false, length-append, length-drop, length-take}
+use Rattle.std.specs.Prelude.{◌==◌, drop, is_some, nat_lt, slice_get}
 use Rattle.std.specs.List.{list_any, list_all}
-use Rattle.std.proofs.lemmas.Bool.{and_from, and_parts, eq-eqb, eqb-true, eqb-false, ltb-true, or_left, or_right}
-use Rattle.std.proofs.lemmas.Bool.{not-true}
+use Rattle.std.proofs.lemmas.Bool.{and_from, and_parts, eq-eqb, eqb-true, ltb-true, or_left, or_right}
+use Rattle.std.proofs.lemmas.Bool.{ne_eqb, not-true}
 use Rattle.std.proofs.lemmas.Map.Views.{any-filter_same}
 use Rattle.std.proofs.lemmas.Option.{same_Some, slice_get_within}
 use Rattle.grs_base.specs.Lists.{owns, has_task}
@@ -13,10 +13,12 @@ use Rattle.grs_base.specs.Same.{same_res, same_task}
 use Rattle.grs_base.specs.State.{list_of}
 use Rattle.grs_base.specs.declared.decision.Code.TheVariants.{Wait}
 use Rattle.grs_base.specs.declared.resource.Res.{Res}
+use Rattle.grs_base.specs.declared.resource.SysId.{SysId}
 use Rattle.grs_base.specs.declared.resource.TaskId.{TaskId}
 use Rattle.grs_base.proofs.SameLaws.{same_res-exact, same_task-exact, same_task-itself, same_res-itself}
-use Rattle.grs_legal.specs.Asks.{asks_in, asks_of, is_silent, lines_of}
-use Rattle.grs_legal.specs.Legal.{line_entries, end_among, entries_of, last_entry}
+use Rattle.grs_legal.specs.Asks.{asks_in, asks_of, is_silent, lines_of, looks_in}
+use Rattle.grs_legal.specs.Legal.{LegalFrom, ask_in, line_entries, end_among, entries_of, last_entry}
+use Rattle.grs_legal.specs.declared.meaning.Display.{Display}
 use Rattle.grs_legal.specs.declared.meaning.Meaning.{Meaning}
 use Rattle.grs_node.specs.Node.{NodeState, goes_on}
 use Rattle.grs_wire.specs.History.{code_of, replay, is_by}
@@ -46,26 +48,30 @@ use Rattle.grs_known.proofs.tasks.Invariant.{Each, IsHeld, IsInPhase, IsRec, IsT
 use Rattle.grs_known.proofs.tasks.Invariant.{code_bound, has_res}
 use Rattle.grs_known.specs.Items.{RunItem, history, items, lists, mine}
 use Rattle.grs_known.specs.Past.{Past, Speaks, past_of, has_own}
-use Rattle.grs_known.specs.Told.{AgreesOf, asked_at, entry_of_line, is_code_of, tells_control, is_code_before}
+use Rattle.grs_known.specs.Told.{AgreesOf, asked_at, asks_at, entries_of_line, entry_of_line, is_code_of, is_end_of}
+use Rattle.grs_known.specs.Told.{tells_control, is_code_before}
 use Rattle.grs_node.specs.Log.{end_in}
 use Rattle.grs_wire.specs.declared.seen.TaskEnd.TheVariants.{Ended}
 use Rattle.grs_wire.specs.declared.seen.TaskEnd.TheVariants as ends
 use Rattle.grs_legal.specs.declared.meaning.Meaning.TheVariants as lines
 use Rattle.grs_known.proofs.known.Knowing.{all_is_known}
-use Rattle.grs_known.proofs.lists.Lines.{asks-same}
+use Rattle.grs_known.proofs.lists.Lines.{asks-same, asks_of-place}
 use Rattle.grs_known.proofs.lists.Own.{has_task-own}
 use Rattle.grs_known.proofs.tasks.Keys.{has_res-own}
 use Rattle.grs_known.specs.Known.{learned}
+use Rattle.grs_world.proofs.rest.AsAsked.{AreAsked, display-looks, entries-asked, look-first}
 use Rattle.grs_world.proofs.rest.Control.{is_unmarked}
 use Rattle.grs_world.proofs.rest.Held.{WaitsOn, all-well, first-found, no-tells, none-earlier, not-both, uncoded}
 use Rattle.grs_world.proofs.rest.Held.{unmarked-has, waits-among, waits_well}
 use Rattle.grs_world.specs.Running.{end_at, task_end, end_of, end_removed}
 use Rattle.grs_world.proofs.rest.Marks.{is_marked}
 use Rattle.grs_world.proofs.rest.Steps.{AllDate, one-task}
-use Rattle.grs_world.proofs.rest.UpToDate.{done_by, has_code, is_code_at, is_placed, is_kept}
+use Rattle.grs_world.proofs.rest.UpToDate.{is_code_at, is_end_at, is_placed, is_kept}
+use Rattle.grs_world.specs.Passed.{has_code, passed_by}
 use Rattle.grs_world.proofs.run.Runs.{GoodTold}
-use Rattle.grs_world.specs.Agree.{AgreesBy, AllAgree, lines_of_told, moment}
-use Rattle.grs_world.specs.AtRest.{IsThere, OwnersAreTold, RepliesAreTold, is_coded, is_waiting, lists_after, IsWaiting}
+use Rattle.grs_world.specs.Agree.{AgreesBy, AllAgree, Moment, lines_of_told, moment}
+use Rattle.grs_world.specs.AtRest.{DisplaysAreTold, IsThere, OwnersAreTold, RepliesAreTold, is_coded, is_waiting}
+use Rattle.grs_world.specs.AtRest.{lists_after, IsWaiting}
 use Rattle.grs_world.specs.AtRest.{TasksWait, first_uncoded, is_next, is_uncoded, is_wait, stands_at, waits_at}
 use Rattle.grs_world.specs.AtRest.{waits_on}
 use Rattle.grs_world.specs.World.{hist, run}
@@ -81,7 +87,7 @@ pub record IsStill (deck : Deck) (s : ℕ) (P : List RunItem) (n : NodeState) : 
       → (goes_on (state_of n.tasks t).phase ≡ false) × (is_unsent (state_of n.tasks t).phase ≡ false)
   pub marked : (t : TaskId) (ls : List Meaning) (r : Res) → IsOurs deck s n.tasks t ls
       → owns (list_of (lists P) r) t ≡ true → is_marked r (state_of n.tasks t).records ≡ true
-  pub date : AllDate deck n.tasks
+  pub date : AllDate false deck n.tasks
 
 -- ---- lists
 pub more-asks : (a b : ℕ) → a ≤ b → (ls : List Meaning) → length (asks_of (take a ls)) ≤ length (asks_of (take b ls))
@@ -146,6 +152,7 @@ asking-code None e = absurd (cc)
 asking-code (Some (lines.Enq r c ret unit)) e = refl
 asking-code (Some (lines.Deq r have)) e = refl
 asking-code (Some (lines.Wait r)) e = absurd (cc)
+asking-code (Some (lines.Shows d)) e = refl
 asking-code (Some lines.Nothing) e = absurd (cc)
 
 -- and so is a WAIT line
@@ -154,6 +161,7 @@ wait-code None e = absurd (cc)
 wait-code (Some (lines.Enq r c ret unit)) e = absurd (cc)
 wait-code (Some (lines.Deq r have)) e = absurd (cc)
 wait-code (Some (lines.Wait r)) e = refl
+wait-code (Some (lines.Shows d)) e = absurd (cc)
 wait-code (Some lines.Nothing) e = absurd (cc)
 
 -- a WAIT line asks nothing
@@ -162,10 +170,11 @@ wait-silent r None w e = w
 wait-silent r (Some (lines.Enq q c ret unit)) w e = w
 wait-silent r (Some (lines.Deq q have)) w e = w
 wait-silent r (Some (lines.Wait q)) w e = absurd (cc)
+wait-silent r (Some (lines.Shows d)) w e = w
 wait-silent r (Some lines.Nothing) w e = w
 
 -- ---- lines
-tells-home : (t : TaskId) (ls : List Meaning) (E : List HistEntry) (r : Res) (l : ToldLine)
+pub tells-home : (t : TaskId) (ls : List Meaning) (E : List HistEntry) (r : Res) (l : ToldLine)
     → tells_control t ls E r l ≡ true → is_line_of t.system.0 l ≡ true
 tells-home t ls E r (told.Coded u k part verb code) e = home t u (and_parts (same_task t u) _ e).0
   where
@@ -190,7 +199,7 @@ code_of-home t k (told.Post u j) e = absurd (cc)
 code_of-home t k (told.Ended u code) e = absurd (cc)
 code_of-home t k (told.Desk j said) e = absurd (cc)
 
-code-home : (t : TaskId) (k : ℕ) (l : ToldLine) → is_code_at t k l ≡ true → is_line_of t.system.0 l ≡ true
+pub code-home : (t : TaskId) (k : ℕ) (l : ToldLine) → is_code_at t k l ≡ true → is_line_of t.system.0 l ≡ true
 code-home t k (told.Coded u j part verb code) e = placed-home t u (and_parts (is_placed t u) (j == k) e).0
   where
     placed-home : (t u : TaskId) → is_placed t u ≡ true → (u.system.0 == t.system.0) ≡ true
@@ -207,12 +216,39 @@ code-home t k (told.Post u j) e = absurd (cc)
 code-home t k (told.Ended u code) e = absurd (cc)
 code-home t k (told.Desk j said) e = absurd (cc)
 
+pub end-home : (t : TaskId) (l : ToldLine) → is_end_at t l ≡ true → is_line_of t.system.0 l ≡ true
+end-home t (told.Ended u code) e =
+    eq-eqb u.system.0 t.system.0
+    (sym (eqb-true t.system.0 u.system.0 (and_parts (t.system.0 == u.system.0) (t.task == u.task) e).0))
+end-home t (told.Coded u j part verb code) e = absurd (cc)
+end-home t (told.Shown u j verb code rows) e = absurd (cc)
+end-home t (told.Post u j) e = absurd (cc)
+end-home t (told.Desk j said) e = absurd (cc)
+
 -- who is told something is of the deck
 of_agrees :
     (deck : Deck) (u : TaskId) (P : List HistEntry) (T : List ToldLine) (l : ToldLine) (o : Option (List Meaning))
     → AgreesOf deck.limit o P T l → is_some o ≡ true
 of_agrees deck u P T l None a = absurd a
 of_agrees deck u P T l (Some ls) a = refl
+
+-- what is told agrees, so one line that passes a test is one that passes another
+any-agreed :
+    (deck : Deck) (es : List Event) (p q : ToldLine → Bool)
+    → ((m : Moment) (e : ℕ) (s : SysId) (l : ToldLine) → AgreesBy deck m e s l → p l ≡ true → q l ≡ true)
+    → (before xs : List Told) → AllAgree deck es before xs → list_any p (lines_of_told xs) ≡ true →
+    list_any q (lines_of_told xs) ≡ true
+any-agreed deck es p q k before [] a h = absurd (cc)
+any-agreed deck es p q k before (x ∷ xs) a h =
+    go (p x.line) refl h (any-agreed deck es p q k (before ++ x ∷ []) xs a.1)
+  where
+    go : (b : Bool) → p x.line ≡ b → (b || list_any p (lines_of_told xs)) ≡ true
+        → (list_any p (lines_of_told xs) ≡ true → list_any q (lines_of_told xs) ≡ true)
+        → (q x.line || list_any q (lines_of_told xs)) ≡ true
+    go true e f more =
+        or_left (q x.line) (list_any q (lines_of_told xs))
+        (k (moment deck es x.event before) x.event x.system x.line a.0 e)
+    go false e f more = or_right (q x.line) (list_any q (lines_of_told xs)) (more f)
 
 module _ (deck : Deck) (v : TasksView) (t : TaskId) (ls : List Meaning) (lines : lines_of deck t ≡ Some ls)
     (here : is_task v t ≡ true) where
@@ -229,30 +265,35 @@ module _ (deck : Deck) (v : TasksView) (t : TaskId) (ls : List Meaning) (lines :
       subst (λ z. same_task t z ≡ true) (sym (one-task deck v t u ls ms.0 lines ms.1 here there task))
       (same_task-itself t)
 
-  code-exact : (es : List Event) (before xs : List Told) (k : ℕ) → AllAgree deck es before xs
+  -- so what agrees and is told to its place is told to it
+  code-line : (m : Moment) (e : ℕ) (s : SysId) (k : ℕ) (l : ToldLine) → AgreesBy deck m e s l → is_code_at t k l ≡ true
+      → is_code_of t k l ≡ true
+  code-line m e s k (told.Coded u j part verb code) a at =
+      let both = and_parts (is_placed t u) (j == k) at in
+      and_from (same_task t u) (j == k) (the-task u (of_agrees deck u _ _ _ (lines_of deck u) a.1.1) both.0) both.1
+  code-line m e s k (told.Shown u j verb code rows) a at =
+      let both = and_parts (is_placed t u) (j == k) at in
+      and_from (same_task t u) (j == k) (the-task u (of_agrees deck u _ _ _ (lines_of deck u) a.1) both.0) both.1
+  code-line m e s k (told.Post u j) a at = absurd (cc)
+  code-line m e s k (told.Ended u code) a at = absurd (cc)
+  code-line m e s k (told.Desk j said) a at = absurd (cc)
+
+  end-line : (m : Moment) (e : ℕ) (s : SysId) (l : ToldLine) → AgreesBy deck m e s l → is_end_at t l ≡ true
+      → is_end_of t l ≡ true
+  end-line m e s (told.Ended u code) a at = the-task u (of_agrees deck u _ _ _ (lines_of deck u) a.1) at
+  end-line m e s (told.Coded u j part verb code) a at = absurd (cc)
+  end-line m e s (told.Shown u j verb code rows) a at = absurd (cc)
+  end-line m e s (told.Post u j) a at = absurd (cc)
+  end-line m e s (told.Desk j said) a at = absurd (cc)
+
+  pub code-exact : (es : List Event) (before xs : List Told) (k : ℕ) → AllAgree deck es before xs
       → list_any (is_code_at t k) (lines_of_told xs) ≡ true → list_any (is_code_of t k) (lines_of_told xs) ≡ true
-  code-exact es before [] k a h = absurd (cc)
-  code-exact es before (x ∷ xs) k a h = by_line x.line a.0 h (code-exact es (before ++ x ∷ []) xs k a.1)
-    where
-      by_line : (l : ToldLine) → AgreesBy deck (moment deck es x.event before) x.event x.system l
-          → (is_code_at t k l || list_any (is_code_at t k) (lines_of_told xs)) ≡ true
-          → (list_any (is_code_at t k) (lines_of_told xs) ≡ true → list_any (is_code_of t k) (lines_of_told xs) ≡ true)
-          →
-          (is_code_of t k l || list_any (is_code_of t k) (lines_of_told xs)) ≡ true
-      by_line (told.Post u j) b f more = more f
-      by_line (told.Ended u code) b f more = more f
-      by_line (told.Desk j said) b f more = more f
-      by_line (told.Shown u j verb code rows) b f more = absurd b
-      by_line (told.Coded u j part verb code) b f more = go (is_placed t u) refl (j == k) f
-        where
-          go : (c : Bool) → is_placed t u ≡ c → (d : Bool)
-              → ((c && d) || list_any (is_code_at t k) (lines_of_told xs)) ≡ true
-              → ((same_task t u && d) || list_any (is_code_of t k) (lines_of_told xs)) ≡ true
-          go true place true z =
-              or_left (same_task t u && true) _
-              (and_from (same_task t u) true (the-task u (of_agrees deck u _ _ _ (lines_of deck u) b.1.1) place) refl)
-          go true place false z = or_right (same_task t u && false) _ (more z)
-          go false place d z = or_right (same_task t u && d) _ (more z)
+  code-exact es before xs k =
+      any-agreed deck es (is_code_at t k) (is_code_of t k) (λ m e s l. code-line m e s k l) before xs
+
+  pub end-exact : (es : List Event) (before xs : List Told) → AllAgree deck es before xs
+      → list_any (is_end_at t) (lines_of_told xs) ≡ true → list_any (is_end_of t) (lines_of_told xs) ≡ true
+  end-exact es before xs = any-agreed deck es (is_end_at t) (is_end_of t) end-line before xs
 
 -- ---- a run that has come to this
 module _ (deck : Deck) (es : List Event) (right : IsHistory deck (items (run deck es).fixed))
@@ -342,13 +383,13 @@ module _ (deck : Deck) (es : List Event) (right : IsHistory deck (items (run dec
     all-told q home h = told-same q home ∙ h
 
     -- each line up to the one that it is done with has its code line
-    code-told : (j m : ℕ) → done_by None (state_of found.0.tasks t).phase (state_of found.0.tasks t).line ≡ m → 0 < j
+    code-told : (j m : ℕ) → passed_by None (state_of found.0.tasks t).phase (state_of found.0.tasks t).line ≡ m → 0 < j
         → j ≤ m → has_code (slice_get ls (j - 1)) ≡ true
         → list_any (is_code_of t j) (lines_of_told (run deck es).told) ≡ true
     code-told j m is low l has =
         code-exact deck n.tasks t ls there.lines ours.here es [] (run deck es).told j (g.agree orders)
         (all-told (is_code_at t j) (code-home t j) ((k.date t ls there.lines ours.here).coded j low
-        (subst (λ o. j ≤ done_by o y.phase y.line) (sym idle) (subst (λ i. j ≤ i) (sym is) l)) has))
+        (subst (λ o. j ≤ passed_by o y.phase y.line) (sym idle) (subst (λ i. j ≤ i) (sym is) l)) has))
 
     -- an owner was told
     owner-told : (r : Res) → owns (list_of (lists_after deck es) r) t ≡ true
@@ -359,17 +400,13 @@ module _ (deck : Deck) (es : List Event) (right : IsHistory deck (items (run dec
         (marked-tells ls p.asked n.tasks.told p.owns (λ q. false) t y.line y.phase r y.records task_is.records
         (λ q. refl) (k.marked t ls r ours (ap (λ xs. owns xs t) (sym (lists_are r)) ∙ own))))
 
-    -- a reply was told
-    reply-told : (j : ℕ) (h : HistEntry) → 0 < j → entry_of_line ls (line_entries t (hist deck es)) j ≡ Some h
-        → is_coded h ≡ true → list_any (is_code_of t j) (lines_of_told (run deck es).told) ≡ true
-    reply-told j h low at coded = by_phase y.phase refl
+    -- a line whose first entry stands has its code line, but where its task is held there
+    stood-told : (j : ℕ) → 0 < j → has_code (slice_get ls (j - 1)) ≡ true
+        → length (asks_of (take (j - 1) ls)) < length p.asked → ((r : Res) → IsWaitFor r (slice_get ls (j - 1)) → ⊥)
+        → (IsHeld ls p found.0.tasks.told t j → ⊥) →
+        list_any (is_code_of t j) (lines_of_told (run deck es).told) ≡ true
+    stood-told j low has stands no_wait not_held = by_phase y.phase refl
       where
-        at_past : entry_of_line ls p.asked j ≡ Some h
-        at_past = subst (λ E. entry_of_line ls E j ≡ Some h) entries_are at
-
-        asks : is_asking (slice_get ls (j - 1)) ≡ true
-        asks = (of-line ls p.asked j h at_past).0
-
         within : j ≤ (state_of found.0.tasks t).line
         within = go (leb y.line (j - 1)) refl
           where
@@ -379,16 +416,11 @@ module _ (deck : Deck) (es : List Event) (right : IsHistory deck (items (run dec
             go : (b : Bool) → leb (state_of found.0.tasks t).line (j - 1) ≡ b → j ≤ (state_of found.0.tasks t).line
             go false e = let past : j - 1 < y.line = leb-false y.line (j - 1) e in omega (arith, past)
             go true e =
-                absurd (omega (
-                  arith,
-                  more-asks y.line (j - 1) (leb-true y.line (j - 1) e) ls,
-                  (of-line ls p.asked j h at_past).1,
-                  count,
-                ))
+                absurd (omega (arith, more-asks y.line (j - 1) (leb-true y.line (j - 1) e) ls, stands, count))
 
-        date : (m : ℕ) → done_by None (state_of found.0.tasks t).phase (state_of found.0.tasks t).line ≡ m → j ≤ m
+        date : (m : ℕ) → passed_by None (state_of found.0.tasks t).phase (state_of found.0.tasks t).line ≡ m → j ≤ m
             → list_any (is_code_of t j) (lines_of_told (run deck es).told) ≡ true
-        date m is l = code-told j m is low l (asking-code (slice_get ls (j - 1)) asks)
+        date m is l = code-told j m is low l has
 
         by_phase : (q : Phase) → (state_of found.0.tasks t).phase ≡ q
             → list_any (is_code_of t j) (lines_of_told (run deck es).told) ≡ true
@@ -396,32 +428,93 @@ module _ (deck : Deck) (es : List Event) (right : IsHistory deck (items (run dec
         by_phase (phases.Ending c) e = absurd (let f : true ≡ false = sym (ap goes_on e) ∙ (k.calm t ls ours).0 in cc)
         by_phase phases.ToSend e = absurd (let f : true ≡ false = sym (ap is_unsent e) ∙ (k.calm t ls ours).1 in cc)
         by_phase phases.Sent e = absurd (let f : true ≡ false = sym (ap is_unsent e) ∙ (k.calm t ls ours).1 in cc)
+        by_phase phases.Ended e = date y.line (ap (λ q. passed_by None q y.line) e) within
         by_phase (phases.HeldLine r) e =
-            date (y.line - 1) (ap (λ q. done_by None q y.line) e) (omega (arith, within, low, apart))
+            date (y.line - 1) (ap (λ q. passed_by None q y.line) e) (omega (arith, within, low, apart))
           where
             hl : IsHeldLine ls p found.0.tasks.told t (state_of found.0.tasks t).line r
             hl = subst (IsInPhase ls p n.tasks.told t y.line) e task_is.phase
 
             apart : j ≢ (state_of found.0.tasks t).line
-            apart same =
-                wait-silent r (slice_get ls (j - 1)) (subst (λ i. IsWaitFor r (slice_get ls (i - 1))) (sym same) hl.at)
-                asks
-        by_phase phases.Ended e = date y.line (ap (λ q. done_by None q y.line) e) within
-        by_phase phases.HeldAnswer e = go (j == y.line) refl
+            apart same = no_wait r (subst (λ i. IsWaitFor r (slice_get ls (i - 1))) (sym same) hl.at)
+        by_phase phases.HeldAnswer e =
+            date (y.line - 1) (ap (λ q. passed_by None q y.line) e) (omega (arith, within, low, apart))
           where
             held : IsHeld ls p found.0.tasks.told t (state_of found.0.tasks t).line
             held = subst (IsInPhase ls p n.tasks.told t y.line) e task_is.phase
 
-            go : (b : Bool) → (j == (state_of found.0.tasks t).line) ≡ b
-                → list_any (is_code_of t j) (lines_of_told (run deck es).told) ≡ true
-            go false f =
-                let ne : j ≢ y.line = eqb-false j y.line f in
-                date (y.line - 1) (ap (λ q. done_by None q y.line) e) (omega (arith, within, ne, low))
-            go true f =
-                let same : Some held.last ≡ Some h =
-                sym held.of_line ∙ (ap (entry_of_line ls p.asked) (sym (eqb-true j y.line f)) ∙ at_past) in
-                absurd (no_truth (is_coded h) coded
-                (waits-uncoded h (ap code_of (sym (same_Some held.last h same)) ∙ held.waits)))
+            apart : j ≢ (state_of found.0.tasks t).line
+            apart same = not_held (subst (IsHeld ls p n.tasks.told t) (sym same) held)
+
+    -- a reply was told
+    reply-told : (j : ℕ) (h : HistEntry) → 0 < j → entry_of_line ls (line_entries t (hist deck es)) j ≡ Some h
+        → is_coded h ≡ true → list_any (is_code_of t j) (lines_of_told (run deck es).told) ≡ true
+    reply-told j h low at coded =
+        stood-told j low (asking-code (slice_get ls (j - 1)) asks.0) asks.1
+        (λ r w. wait-silent r (slice_get ls (j - 1)) w asks.0) not_held
+      where
+        at_past : entry_of_line ls p.asked j ≡ Some h
+        at_past = subst (λ E. entry_of_line ls E j ≡ Some h) entries_are at
+
+        asks : (is_asking (slice_get ls (j - 1)) ≡ true) × (length (asks_of (take (j - 1) ls)) < length p.asked)
+        asks = of-line ls p.asked j h at_past
+
+        -- whose reply it is doesn't wait
+        not_held : IsHeld ls p found.0.tasks.told t j → ⊥
+        not_held held =
+            let same : Some held.last ≡ Some h = sym held.of_line ∙ at_past in
+            absurd (no_truth (is_coded h) coded
+            (waits-uncoded h (ap code_of (sym (same_Some held.last h same)) ∙ held.waits)))
+
+    -- a display was told, all of whose looks stand
+    display-told : (j : ℕ) (d : Display) → 0 < j → slice_get ls (j - 1) ≡ Some (lines.Shows d)
+        → length (entries_of_line ls (line_entries t (hist deck es)) j) ≡ length (looks_in d)
+        → list_any (is_code_of t j) (lines_of_told (run deck es).told) ≡ true
+    display-told j d low at all =
+        stood-told j low (ap has_code at) enough (λ r w. subst (IsWaitFor r) at w) not_held
+      where
+        some : 0 < length (looks_in d)
+        some = display-looks deck t ls (j - 1) d there.lines at
+
+        stands : length (take (length (looks_in d)) (drop (length (asks_of (take (j - 1) ls))) p.asked))
+            ≡ length (looks_in d)
+        stands =
+            ap (λ o. length (take (length (asks_at o)) (drop (length (asks_of (take (j - 1) ls))) p.asked))) (sym at)
+            ∙ (ap (λ E. length (entries_of_line ls E j)) (sym entries_are) ∙ all)
+
+        enough : length (asks_of (take (j - 1) ls)) < length p.asked
+        enough =
+            omega (
+              arith,
+              some,
+              stands,
+              length-take (length (looks_in d)) (drop (length (asks_of (take (j - 1) ls))) p.asked),
+              length-drop (length (asks_of (take (j - 1) ls))) p.asked,
+            )
+
+        loud : is_silent (lines.Shows d) ≡ false
+        loud = ne_eqb (length (looks_in d)) 0 (λ none. absurd (omega (arith, none, some)))
+
+        -- who is held by its answer has asked for a resource
+        not_held : IsHeld ls p found.0.tasks.told t j → ⊥
+        not_held held = look-first d held.last (sym first ∙ asked) some held.waits
+          where
+            entry : slice_get p.asked (length (asks_of (take (j - 1) ls))) ≡ Some held.last
+            entry =
+                sym (ap (λ o. asked_at o (slice_get p.asked (length (asks_of (take (j - 1) ls))))) at
+                ∙ ap (λ b. cond b None (slice_get p.asked (length (asks_of (take (j - 1) ls))))) loud)
+                ∙ held.of_line
+
+            asked : slice_get (asks_of ls) (length (asks_of (take (j - 1) ls))) ≡ ask_in held.last
+            asked =
+                (subst (AreAsked (asks_of ls)) (ap (line_entries t) hist_is ∙ speaks.asked)
+                (entries-asked deck t ls there.lines (hist deck es)
+                (subst (LegalFrom deck []) (sym hist_is) (right.legal orders)))
+                (length (asks_of (take (j - 1) ls))) held.last entry).0
+
+            first : slice_get (asks_of ls) (length (asks_of (take (j - 1) ls))) ≡ slice_get (looks_in d) 0
+            first =
+                ap (slice_get (asks_of ls)) (omega arith) ∙ asks_of-place ls (j - 1) (lines.Shows d) 0 at some
 
     -- ---- it waits
     -- on record is what it has
@@ -468,6 +561,7 @@ module _ (deck : Deck) (es : List Event) (right : IsHistory deck (items (run dec
         line_at None w = absurd w
         line_at (Some (lines.Enq q ctl ret unit)) w = absurd w
         line_at (Some (lines.Deq q have)) w = absurd w
+        line_at (Some (lines.Shows d)) w = absurd w
         line_at (Some lines.Nothing) w = absurd w
         line_at (Some (lines.Wait q))
             w = (lines.Wait q, refl, refl, subst (λ z. same_res r z ≡ true) (sym w) (same_res-itself r), refl)
@@ -499,7 +593,7 @@ module _ (deck : Deck) (es : List Event) (right : IsHistory deck (items (run dec
                 → (b && not (list_any (is_code_of t j) (lines_of_told (run deck es).told))) ≡ false
             go false f = refl
             go true f =
-                ap not (code-told j (y.line - 1) (ap (λ q. done_by None q y.line) e) (omega (arith, low))
+                ap not (code-told j (y.line - 1) (ap (λ q. passed_by None q y.line) e) (omega (arith, low))
                 (omega (arith, l)) (wait-code (slice_get ls (j - 1)) f))
 
         first : first_uncoded t ls (lines_of_told (run deck es).told) ≡ Some (state_of found.0.tasks t).line
@@ -584,6 +678,9 @@ module _ (deck : Deck) (es : List Event) (right : IsHistory deck (items (run dec
 
   pub replies-told : RepliesAreTold deck es
   replies-told t ls j h there low at coded = reply-told t ls there j h low at coded
+
+  pub displays-told : DisplaysAreTold deck es
+  displays-told t ls j d there low at all = display-told t ls there j d low at all
 
   pub tasks-wait : TasksWait deck es
   tasks-wait t ls there going = task-waits t ls there going

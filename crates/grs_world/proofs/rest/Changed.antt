@@ -1,16 +1,21 @@
 -- A system that changes to star mode: its records get ranks, and else its tasks stand as they did.
 use Rattle.std.proofs.Common.{◌≡◌, ℕ, Bool, true, false, List, [], ◌∷◌, refl, ap, sym, ◌∙◌, subst}
 use Rattle.std.specs.Prelude.{◌==◌}
-use Rattle.std.proofs.lemmas.Bool.{eqb-true, eqb-false}
+use Rattle.std.specs.List.{list_all}
+use Rattle.std.proofs.lemmas.Bool.{and_parts, eqb-true, eqb-false}
 use Rattle.grs_base.specs.Lists.{has_task, owns}
 use Rattle.grs_base.specs.State.{is_systems, list_of}
 use Rattle.grs_base.specs.declared.resource.Elem.{Elem}
 use Rattle.grs_base.specs.declared.resource.Res.{Res}
 use Rattle.grs_base.specs.declared.resource.TaskId.{TaskId}
 use Rattle.grs_legal.specs.declared.meaning.Meaning.{Meaning}
-use Rattle.grs_node.specs.Change.{one_by_one, with_list_ranks, with_rank_by, with_ranks}
+use Rattle.grs_node.specs.Change.{one_by_one, with_first_look, with_list_ranks, with_rank_by, with_ranks}
 use Rattle.grs_node.specs.Node.{NodeState, change_to_star}
 use Rattle.grs_wire.specs.declared.deck.Deck.{Deck}
+use Rattle.grs_wire.specs.declared.request.Req.{Req}
+use Rattle.grs_wire.specs.declared.request.Want.{Want}
+use Rattle.grs_wire.specs.declared.request.Want.TheVariants.{Enq, Deq, Release, Look}
+use Rattle.grs_wire.specs.declared.told.ToldLine.{ToldLine}
 use Rattle.grs_wire.proofs.WantLaws.{by_test}
 use Rattle.lock_structure.specs.RankedRows.{RankedRow}
 use Rattle.mode_migrate.specs.Migrate.{ranked_by}
@@ -20,7 +25,7 @@ use Rattle.grs_known.proofs.lists.Truths.{false_by}
 use Rattle.grs_known.proofs.system.Did.{Did}
 use Rattle.grs_known.proofs.system.Ours.{IsOurs}
 use Rattle.grs_known.proofs.tasks.Invariant.{has_res}
-use Rattle.grs_world.proofs.rest.Events.{date-ranks}
+use Rattle.grs_world.proofs.rest.Events.{date-any, date-one_by_one, date-ranks, did-first, here-all, here-look}
 use Rattle.grs_world.proofs.rest.Marks.{is_marked}
 use Rattle.grs_world.proofs.rest.Ring.{IsRead}
 use Rattle.grs_world.proofs.rest.StarTasks.{IsDated, at-place, dated-by}
@@ -95,19 +100,63 @@ same-ranks v (x ∷ xs) =
     same-then v (with_list_ranks v x.0.res x.0.elems x.1) (with_ranks (with_list_ranks v x.0.res x.0.elems x.1) xs)
     (same-list v x.0.res x.0.elems x.1) (same-ranks (with_list_ranks v x.0.res x.0.elems x.1) xs)
 
+-- ---- looks go one by one
+same-did : (v w : TasksView) (u : TaskId) (x : TaskState) (T : List ToldLine) → Did v w u x T
+    → x.phase ≡ (state_of v u).phase → x.records ≡ (state_of v u).records → SameBut v w
+same-did v w u x T did phase records = record {
+  here = did.changed.here;
+  phase = λ t. by_place t (λ (a b : TaskState). b.phase ≡ a.phase) phase (λ y. refl);
+  has = λ t q.
+      by_place t (λ (a b : TaskState). has_res q b.records ≡ has_res q a.records) (ap (has_res q) records) (λ y. refl);
+  marks = λ t q.
+      by_place t (λ (a b : TaskState). is_marked q b.records ≡ is_marked q a.records) (ap (is_marked q) records)
+      (λ y. refl);
+}
+  where
+    by_place : (t : TaskId) (P : TaskState → TaskState → Type 0) → P (state_of v u) x → ((y : TaskState) → P y y)
+        → P (state_of v t) (state_of w t)
+    by_place t P own other = go (t.task == u.task) refl
+      where
+        go : (b : Bool) → (t.task == u.task) ≡ b → P (state_of v t) (state_of w t)
+        go true e =
+            let same : t.task ≡ u.task = eqb-true t.task u.task e in
+            subst (λ y. P y (state_of w t)) (sym (at-place v u t same))
+            (subst (P (state_of v u)) (sym (at-place w u t same ∙ did.state)) own)
+        go false e =
+            subst (P (state_of v t)) (sym (did.changed.others t (eqb-false t.task u.task e))) (other (state_of v t))
+
+same-look : (v : TasksView) (u : TaskId) (w : Want) → is_task v u ≡ true → SameBut v (with_first_look v u w)
+same-look v u (Enq r c ret full) here = same-none v
+same-look v u (Deq r have) here = same-none v
+same-look v u (Release r) here = same-none v
+same-look v u (Look first count f) here = same-did v _ u _ v.told (did-first v u here) refl refl
+
+same-one_by_one : (v : TasksView) (qs : List Req) → list_all (λ q. is_task v q.task) qs ≡ true
+    → SameBut v (one_by_one v qs)
+same-one_by_one v [] here = same-none v
+same-one_by_one v (q ∷ qs) here =
+    let both = and_parts (is_task v q.task) (list_all (λ z. is_task v z.task) qs) here in
+    same-then v (with_first_look v q.task q.want) (one_by_one (with_first_look v q.task q.want) qs)
+    (same-look v q.task q.want both.0)
+    (same-one_by_one (with_first_look v q.task q.want) qs
+    (here-all v (with_first_look v q.task q.want) (here-look v q.task q.want) qs both.1))
+
 -- ---- the change
--- System s, whose outbox has no looks, has processed all.
-module _ (deck : Deck) (s : ℕ) (m : NodeState) (box : one_by_one m.tasks m.outbox ≡ m.tasks) where
+-- System s, whose outbox has requests of its tasks, has processed all.
+module _ (deck : Deck) (s : ℕ) (m : NodeState) (box : list_all (λ q. is_task m.tasks q.task) m.outbox ≡ true) where
   pub change-same : SameBut m.tasks (change_to_star deck m).tasks
   unfolding change_to_star
   change-same =
-      subst (λ (v : TasksView). SameBut v (with_ranks (one_by_one m.tasks m.outbox) (ranked_by deck.entries m.shared)))
-      box (same-ranks (one_by_one m.tasks m.outbox) (ranked_by deck.entries m.shared))
+      same-then m.tasks (one_by_one m.tasks m.outbox)
+      (with_ranks (one_by_one m.tasks m.outbox) (ranked_by deck.entries m.shared))
+      (same-one_by_one m.tasks m.outbox box)
+      (same-ranks (one_by_one m.tasks m.outbox) (ranked_by deck.entries m.shared))
 
-  change-date : AllDate deck m.tasks → AllDate deck (change_to_star deck m).tasks
+  change-date : AllDate true deck m.tasks → AllDate false deck (change_to_star deck m).tasks
   unfolding change_to_star
   change-date h =
-      date-ranks deck (ranked_by deck.entries m.shared) (one_by_one m.tasks m.outbox) (subst (AllDate deck) (sym box) h)
+      date-ranks false deck (ranked_by deck.entries m.shared) (one_by_one m.tasks m.outbox)
+      (date-one_by_one deck m.outbox m.tasks (date-any true deck m.tasks h) box)
 
   change-own : (change_to_star deck m).own ≡ m.own
   unfolding change_to_star
@@ -116,7 +165,8 @@ module _ (deck : Deck) (s : ℕ) (m : NodeState) (box : one_by_one m.tasks m.out
   module _ (h : IsRead deck s m []) where
     pub change-dated : IsDated deck s (change_to_star deck m)
     change-dated =
-        dated-by deck s m (change_to_star deck m) change-own (record { date = h.date; own = h.own }) (record {
+        dated-by deck s m (change_to_star deck m) change-own
+        (record { date = date-any true deck m.tasks h.date; own = h.own }) (record {
           date = change-date h.date;
           here = change-same.here;
           local = λ t r l. (change-same.has t r, λ k. change-same.marks t r ∙ k);

@@ -8,7 +8,7 @@ use Rattle.grs_wire.specs.declared.deck.Event.{Event}
 use Rattle.grs_known.proofs.known.Histories.{IsHistory}
 use Rattle.grs_known.specs.Items.{items}
 use Rattle.grs_world.proofs.move.Sound.{GoodRun, every_run, good_history, good_told, in_ring, in_star}
-use Rattle.grs_world.proofs.rest.AtEnd.{IsStill, owners-told, replies-told, tasks-wait}
+use Rattle.grs_world.proofs.rest.AtEnd.{IsStill, displays-told, owners-told, replies-told, tasks-wait}
 use Rattle.grs_world.proofs.rest.Full.{full_run}
 use Rattle.grs_world.proofs.rest.RingEnd.{still-ring}
 use Rattle.grs_world.proofs.rest.RingRun.{ring_read}
@@ -16,12 +16,14 @@ use Rattle.grs_world.proofs.rest.StarEnd.{still-star}
 use Rattle.grs_world.proofs.rest.StarRun.{restful_run}
 use Rattle.grs_world.proofs.rest.Units.{units-reserved}
 use Rattle.grs_world.proofs.run.Runs.{GoodTold}
-use Rattle.grs_world.specs.AtRest.{OwnersAreTold, RepliesAreTold, RestsInTheEnd, TasksWait, UnitsAreReserved}
+use Rattle.grs_world.specs.AtRest.{DisplaysAreTold, OwnersAreTold, RepliesAreTold, RestsInTheEnd, TasksWait}
+use Rattle.grs_world.specs.AtRest.{UnitsAreReserved}
 use Rattle.grs_world.specs.Decks.{FitsStar, may_be_star}
 use Rattle.grs_world.specs.Running.{at_rest}
 use Rattle.grs_world.specs.World.{run}
 use Rattle.grs_wire.specs.Masks.{has}
 use Rattle.grs_world.proofs.rest.Homes.{homes_run}
+use Rattle.grs_world.proofs.rest.Passing.{passed-told}
 
 module _ (deck : Deck) (is_deck : IsDeck deck) (es : List Event) (rest : at_rest deck (run deck es) ≡ true) where
   fits : may_be_star deck ≡ true → FitsStar deck
@@ -49,6 +51,9 @@ module _ (deck : Deck) (is_deck : IsDeck deck) (es : List Event) (rest : at_rest
   pub replies-at-rest : RepliesAreTold deck es
   replies-at-rest = replies-told deck es end-history end-told is_deck.orders all-still
 
+  pub displays-at-rest : DisplaysAreTold deck es
+  displays-at-rest = displays-told deck es end-history end-told is_deck.orders all-still
+
   pub tasks-at-rest : TasksWait deck es
   tasks-at-rest = tasks-wait deck es end-history end-told is_deck.orders all-still
 
@@ -58,8 +63,10 @@ module _ (deck : Deck) (is_deck : IsDeck deck) (es : List Event) (rest : at_rest
 -- so nothing is lost
 pub rests : (deck : Deck) → IsDeck deck → (es : List Event) → RestsInTheEnd deck es
 rests deck is_deck es rest = record {
+  passed = passed-told deck (fits deck is_deck es rest) is_deck.orders es;
   owners = owners-at-rest deck is_deck es rest;
   replies = replies-at-rest deck is_deck es rest;
+  displays = displays-at-rest deck is_deck es rest;
   tasks = tasks-at-rest deck is_deck es rest;
   units = units-at-rest deck is_deck es rest;
 }

@@ -1,23 +1,19 @@
 -- A deck that is read has so few lines that no run of it asks more ENQs than there are ranks.
 use Rattle.std.proofs.Common.{◌≡◌, ◌≢◌, ◌<◌, ◌≤◌, ◌+◌, ◌*◌, ℕ, zero, suc, Bool, true, false, cond, not, ◌&&◌, List, []}
-use Rattle.std.proofs.Common.{◌∷◌, ◌++◌, length, map, Option, Some, None, refl, ap, sym, ◌∙◌, subst, arith, append-nil}
-use Rattle.std.proofs.Common.{append_assoc, length-append, leb-true, le-leb}
+use Rattle.std.proofs.Common.{◌∷◌, ◌++◌, length, map, Option, Some, None, refl, ap, sym, ◌∙◌, subst, arith}
+use Rattle.std.proofs.Common.{length-append, leb-true, le-leb}
 use Rattle.std.specs.Prelude.{◌==◌, All, IsSomeAnd, filter, get_or, is_some, nat_le, nat_lt, slice_get}
 use Rattle.std.specs.List.{list_all}
-use Rattle.std.proofs.lemmas.Bool.{and_from, and_parts, eq-eqb, and_right, eqb-true, eqb-false, ltb-true, lt-ltb}
+use Rattle.std.proofs.lemmas.Bool.{and_from, and_parts, eq-eqb, eqb-true, eqb-false, ltb-true, lt-ltb}
 use Rattle.std.proofs.lemmas.Option.{get_or_from_slice_get, slice_get_within}
 use Rattle.std.proofs.lemmas.List.Folds.{list_all-append}
 use Rattle.std.proofs.lemmas.List.{length-map}
-use Rattle.std.specs.Option.{option_or, option_map}
 use Rattle.grs_base.specs.Same.{same_task}
-use Rattle.grs_base.proofs.SameLaws.{same_task-exact}
-use Rattle.grs_base.specs.declared.resource.Res.{Res}
 use Rattle.grs_base.specs.declared.resource.TaskId.{TaskId}
-use Rattle.grs_legal.specs.Asks.{Ask, AsksEnq, AsksDeq, AsksLook, AsksRelease, Script, asks_in, asks_of, lines_at}
+use Rattle.grs_legal.specs.Asks.{Script, asks_of, lines_at}
 use Rattle.grs_legal.specs.Asks.{lines_of, meaning_of, meanings, scripts_at, scripts_from, scripts_in}
-use Rattle.grs_legal.specs.Legal.{ask_in, LegalFrom, IsLegal, MayAsk, MayStand, is_of_line, line_entries}
+use Rattle.grs_legal.specs.Legal.{LegalFrom, IsLegal, is_of_line, line_entries}
 use Rattle.grs_legal.specs.declared.meaning.Meaning.{Meaning}
-use Rattle.grs_legal.specs.declared.meaning.Meaning.TheVariants as lines
 use Rattle.grs_wire.specs.History.{is_by, entries_for, fixed_entries, look_entries}
 use Rattle.grs_wire.specs.Decks.{IsDeck, IsWithin, task_count}
 use Rattle.grs_wire.specs.declared.deck.Deck.{Deck}
@@ -30,7 +26,7 @@ use Rattle.grs_known.proofs.system.Ours.{same_place, script_at}
 use Rattle.grs_base.specs.Limits.{most_lines, last_number}
 use Rattle.grs_wire.specs.declared.history.HistEntry.{HistEntry}
 use Rattle.grs_wire.specs.declared.history.HistEntry.TheVariants as entries
-use Rattle.grs_known.proofs.lists.Facts.{filter-push_kept, filter-push_left, some_of}
+use Rattle.grs_known.proofs.lists.Facts.{some_of}
 use Rattle.grs_known.proofs.lists.Truths.{no_truth}
 use Rattle.grs_base.specs.State.{State}
 use Rattle.grs_base.specs.declared.resource.SysId.{SysId}
@@ -41,6 +37,7 @@ use Rattle.grs_wire.specs.declared.request.Want.{Want}
 use Rattle.grs_wire.specs.declared.request.Want.TheVariants as wants
 use Rattle.grs_known.specs.Items.{AllMade, RunItem, history, lists}
 use Rattle.grs_known.proofs.known.Histories.{IsHistory}
+use Rattle.grs_world.proofs.rest.AsAsked.{asked-few, asks-few, entries-asked}
 use Rattle.grs_world.proofs.star.Heard.{enq_count, is_enq, is_enq_want}
 
 -- ---- counting by classes
@@ -142,84 +139,13 @@ by_classes f b (suc n) xs all each =
     let parts = length-parts (λ x. f x == n) xs in
     omega (arith, h, one, parts)
 
--- ---- the entries of a task's lines are as many as its lines at most
-asks-le : (ls : List Meaning) → length (asks_of ls) ≤ length ls
-asks-le [] = omega arith
-asks-le (m ∷ ls) = by_line m (asks-le ls)
-  where
-    by_line : (z : Meaning) → length (asks_of ls) ≤ length ls → length (asks_in z ++ asks_of ls) ≤ suc (length ls)
-    by_line (lines.Enq r c ret unit) h = omega (arith, h)
-    by_line (lines.Deq r have) h = omega (arith, h)
-    by_line (lines.Wait r) h = omega (arith, h)
-    by_line lines.Nothing h = omega (arith, h)
-
--- what is asked next, if it is no release, is what the next asking line asks
-next-line : (ls : List Meaning) (n : ℕ) (e : Bool) (z : Option Res) (a : Ask) → ((r : Res) → AsksRelease r ≡ a → ⊥)
-    → option_or (cond e None (slice_get (asks_of ls) n)) (option_map AsksRelease z) ≡ Some a → n < length (asks_of ls)
-next-line ls n true None a none h = absurd (cc)
-next-line ls n true (Some r) a none h = absurd (none r (let same : AsksRelease r ≡ a = cc in same))
-next-line ls n false z a none h = go (slice_get (asks_of ls) n) refl h
-  where
-    go : (o : Option Ask) → slice_get (asks_of ls) n ≡ o → option_or o (option_map AsksRelease z) ≡ Some a
-        → n < length (asks_of ls)
-    go (Some b) e f = slice_get_within (asks_of ls) n b e
-    go None e f = by_release z f
-      where
-        by_release : (y : Option Res) → option_map AsksRelease y ≡ Some a → n < length (asks_of ls)
-        by_release None g = absurd (cc)
-        by_release (Some r) g = absurd (none r (let same : AsksRelease r ≡ a = cc in same))
-
-module _ (deck : Deck) (t : TaskId) (ls : List Meaning) (lines_are : lines_of deck t ≡ Some ls) where
-  -- an entry of one of its lines, where it may stand
-  may-line : (u : TaskId) (a : Ask) (front : List HistEntry) (h : HistEntry) → same_task t u ≡ true
-      → ((r : Res) → AsksRelease r ≡ a → ⊥) → ask_in h ≡ Some a → MayAsk deck u front h
-      → length (line_entries t front) < length (asks_of ls)
-  may-line u a front h own none asks k =
-      let one : u ≡ t = sym (same_task-exact t u own) in
-      let legal : IsLegal deck.limit t ls front h =
-      subst (λ o. IsSomeAnd o (λ zs. IsLegal deck.limit t zs front h)) lines_are
-      (subst (λ z. MayAsk deck z front h) one k) in
-      next-line ls (length (line_entries t front)) _ _ a none (legal.next ∙ asks)
-
-  may-more : (front : List HistEntry) (h : HistEntry) → MayStand deck front h → (is_by t h && is_of_line h) ≡ true
-      → length (line_entries t front) < length (asks_of ls)
-  may-more front (entries.Enq u r c ret code) k e =
-      may-line u (AsksEnq r c ret) front (entries.Enq u r c ret code) (and_parts (same_task t u) true e).0
-      (λ q f. absurd (cc)) refl k
-  may-more front (entries.Deq u r have code) k e =
-      may-line u (AsksDeq r have) front (entries.Deq u r have code) (and_parts (same_task t u) true e).0
-      (λ q f. absurd (cc)) refl k
-  may-more front (entries.Look u place f rows) k e =
-      may-line u (AsksLook place f) front (entries.Look u place f rows) (and_parts (same_task t u) true e).0
-      (λ q g. absurd (cc)) refl k
-  may-more front (entries.Release u r) k e =
-      absurd (let f : (same_task t u && false) ≡ false = and_right (same_task t u) false refl in
-      no_truth (same_task t u && false) e f)
-  may-more front (entries.Remove by target) k e = absurd (let no : false ≡ true = e in cc)
-
-  lines-few : (front hs : List HistEntry) → LegalFrom deck front hs
-      → length (line_entries t front) ≤ length (asks_of ls)
-      → length (line_entries t (front ++ hs)) ≤ length (asks_of ls)
-  lines-few front [] legal h = subst (λ xs. length (line_entries t xs) ≤ length (asks_of ls)) (sym (append-nil front)) h
-  lines-few front (x ∷ hs) legal h =
-      subst (λ xs. length (line_entries t xs) ≤ length (asks_of ls)) (append_assoc front (x ∷ []) hs)
-      (lines-few (front ++ x ∷ []) hs legal.1 (one (is_by t x && is_of_line x) refl))
-    where
-      q : HistEntry → Bool
-      q = λ y. is_by t y && is_of_line y
-
-      one : (b : Bool) → (is_by t x && is_of_line x) ≡ b
-          → length (line_entries t (front ++ x ∷ [])) ≤ length (asks_of ls)
-      one false e = subst (λ xs. length xs ≤ length (asks_of ls)) (sym (filter-push_left q front x e)) h
-      one true e =
-          let more = may-more front x legal.0 e in
-          let is : length (line_entries t (front ++ x ∷ [])) ≡ length (line_entries t front) + 1 =
-          ap (λ xs. length xs) (filter-push_kept q front x e) ∙ length-append (line_entries t front) (x ∷ []) in
-          omega (arith, more, is)
-
-  -- so they are no more than its lines
-  pub task-few : (hs : List HistEntry) → LegalFrom deck [] hs → length (line_entries t hs) ≤ length ls
-  task-few hs legal = let a = lines-few [] hs legal (omega arith) in let b = asks-le ls in omega (arith, a, b)
+-- ---- the entries of a task's lines are as many as these ask for, at most
+pub task-few : (deck : Deck) (t : TaskId) (ls : List Meaning) → lines_of deck t ≡ Some ls → (hs : List HistEntry)
+    → LegalFrom deck [] hs → length (line_entries t hs) ≤ length ls * 65
+task-few deck t ls lines_are hs legal =
+    let a = asked-few (asks_of ls) (line_entries t hs) (entries-asked deck t ls lines_are hs legal) in
+    let b = asks-few deck t ls lines_are in
+    omega (arith, a, b)
 
 -- ---- by places
 abbrev is_e : HistEntry → Bool
@@ -399,15 +325,15 @@ module _ (deck : Deck) (h : IsDeck deck) (hs : List HistEntry) (legal : LegalFro
   of-one t ls lines_t i at (entries.Look u p f rows) e k = absurd (cc)
   of-one t ls lines_t i at (entries.Remove by target) e k = absurd (cc)
 
-  class-few : (i : ℕ) → length (filter (λ x. place x == i) (filter is_e hs)) ≤ most_lines
+  class-few : (i : ℕ) → length (filter (λ x. place x == i) (filter is_e hs)) ≤ most_lines * 65
   class-few i = go (filter (λ x. place x == i) E) refl
     where
-      go : (fs : List HistEntry) → filter (λ x. place x == i) (filter is_e hs) ≡ fs → length fs ≤ most_lines
+      go : (fs : List HistEntry) → filter (λ x. place x == i) (filter is_e hs) ≡ fs → length fs ≤ most_lines * 65
       go [] e = omega arith
       go (y ∷ ys) e = by_first y (first-passes (λ x. place x == i) (is_known deck) E y ys known e)
         where
           by_first : (y0 : HistEntry) → ((place y0 == i) ≡ true) × (is_known deck y0 ≡ true)
-              → length (y ∷ ys) ≤ most_lines
+              → length (y ∷ ys) ≤ most_lines * 65
           by_first (entries.Enq t r c ret code) k =
               let ls = some_of (lines_of deck t) k.1 in
               let a =
@@ -423,8 +349,8 @@ module _ (deck : Deck) (h : IsDeck deck) (hs : List HistEntry) (legal : LegalFro
           by_first (entries.Look u at f rows) k = absurd (let z : false ≡ true = k.1 in cc)
           by_first (entries.Remove by target) k = absurd (let z : false ≡ true = k.1 in cc)
 
-  pub enqs-few : length (filter is_e hs) ≤ 512 * 16384
-  enqs-few = by_classes place most_lines 512 E (in-range E known) class-few
+  pub enqs-few : length (filter is_e hs) ≤ 512 * (16384 * 65)
+  enqs-few = by_classes place (most_lines * 65) 512 E (in-range E known) class-few
 
 -- ---- so no rank is too great
 -- what an event fixed has an entry of an ENQ, if it is one

@@ -99,13 +99,13 @@ told-freed n (x ∷ xs) v =
     (told-new v x.res (freed n x.res x.elems)) (told-freed n xs (tell_new v (Some x.res) (freed n x.res x.elems)))
 
 -- each task stays up to date
-pub date-freed : (deck : Deck) (n : ℕ) (rows : List Row) (v : TasksView) → AllDate deck v
-    → AllDate deck (tell_freed v n rows)
+pub date-freed : (whole : Bool) (deck : Deck) (n : ℕ) (rows : List Row) (v : TasksView) → AllDate whole deck v
+    → AllDate whole deck (tell_freed v n rows)
 unfolding tell_freed
-date-freed deck n [] v h = h
-date-freed deck n (x ∷ xs) v h =
-    date-freed deck n xs (tell_new v (Some x.res) (freed n x.res x.elems))
-    (date-new deck (Some x.res) (freed n x.res x.elems) v h)
+date-freed whole deck n [] v h = h
+date-freed whole deck n (x ∷ xs) v h =
+    date-freed whole deck n xs (tell_new v (Some x.res) (freed n x.res x.elems))
+    (date-new whole deck (Some x.res) (freed n x.res x.elems) v h)
 
 -- ---- a resource with elements has its row
 module _ (s : State) (p : Res → Bool) where

@@ -1,7 +1,10 @@
 -- As many tasks as there are of a system there are of it in the deck, in every run: no event makes or ends one.
 use Rattle.std.proofs.Common.{◌≡◌, ℕ, zero, suc, Bool, true, false, cond, List, [], ◌∷◌, length, take, Option, Some}
 use Rattle.std.proofs.Common.{None, refl, ap, ◌∙◌}
-use Rattle.std.specs.Prelude.{is_none, slice_get}
+use Rattle.std.specs.Prelude.{◌==◌, ◌&&◌, is_none, nat_lt, slice_get}
+use Rattle.grs_wire.specs.declared.told.ToldLine.{ToldLine}
+use Rattle.grs_base.specs.declared.resource.Ret.{Ret}
+use Rattle.grs_base.specs.declared.resource.Ctl.{Ctl}
 use Rattle.grs_base.specs.declared.decision.Code.{Code}
 use Rattle.grs_base.specs.declared.decision.Code.TheVariants.{C00, C04, C08, C14, C18, Wait, End}
 use Rattle.grs_base.specs.declared.resource.Elem.{Elem}
@@ -30,11 +33,13 @@ use Rattle.grs_world.proofs.rest.RingRun.{first_of}
 use Rattle.grs_world.proofs.run.Each.{each_event, each_run}
 use Rattle.grs_world.proofs.run.Runs.{by_node}
 use Rattle.grs_world.specs.World.{Turnout, World, carry_out, chosen, placed, run}
+use Rattle.grs_legal.specs.declared.meaning.Display.{Display}
 use Rattle.grs_legal.specs.declared.meaning.Meaning.{Meaning}
 use Rattle.grs_legal.specs.declared.meaning.Meaning.TheVariants as lines
 use Rattle.grs_node.specs.Change.{one_by_one, with_first_look, with_list_ranks, with_rank_by, with_ranks}
 use Rattle.grs_node.specs.Node.{NodeState, Step, all_sent, ask, change_to_star, decide, desk_told, end_step, finish}
 use Rattle.grs_node.specs.Node.{finish_call, finish_quiet, finish_star, first_node, is_for_deck, is_of_deck, phase_step}
+use Rattle.grs_node.specs.Node.{look_around, look_home, show}
 use Rattle.grs_node.specs.Node.{post, prepare, put_in, read_entries, read_entry, ready_step, send_own, star_step}
 use Rattle.grs_node.specs.Node.{switched, take_line, take_step, task_step, turned, wait, with_side, with_tasks, purged}
 use Rattle.grs_wire.specs.Wants.{answer_to, new_owners, res_wanted}
@@ -55,27 +60,73 @@ use Rattle.mode_migrate.specs.Migrate.{ranked_by}
 use Rattle.ring_mode.specs.Ring.{answer_own, is_for_all, process, process_entry, side_of}
 use Rattle.star_client.specs.Client.{after_mail, has_effect, tell_answer_any_ranked, tell_answer_ranked, unrecorded}
 use Rattle.star_client.specs.Client.{with_rank_of}
-use Rattle.task_state.specs.Replies.{after_code, is_granted, is_held_for, is_leaving, passes_wait, phase_after}
+use Rattle.task_state.specs.Replies.{after_code, answered, goes_on_looking, looked, is_granted, is_held_for, is_leaving}
+use Rattle.task_state.specs.Replies.{passes_wait, phase_after}
 use Rattle.task_state.specs.Replies.{recalled, record_enq, replied, tell_all, tell_answer, tell_answer_any, tell_code}
-use Rattle.task_state.specs.Replies.{tell_control, tell_line, tell_new, tell_untold}
+use Rattle.task_state.specs.Replies.{tell_control, tell_line, tell_new, tell_rows, tell_untold}
+use Rattle.task_state.specs.View.{with_outstanding}
 use Rattle.task_state.specs.View.{TasksView, is_task, new_tasks, record_of, state_of, telling, with_line, with_phase}
-use Rattle.task_state.specs.View.{with_rank, with_told, without_record}
+use Rattle.task_state.specs.View.{with_rank, with_rows, with_told, without_record, without_rows}
+use Rattle.task_state.specs.declared.state.Showing.{Showing}
 use Rattle.task_state.specs.declared.state.Asked.{Asked}
 use Rattle.task_state.specs.declared.state.Phase.{Phase}
 use Rattle.task_state.specs.declared.state.Phase.TheVariants as phases
 use Rattle.task_state.specs.declared.state.Rec.{Rec}
-use Rattle.task_state.proofs.Keeps.{count-enq}
+use Rattle.task_state.proofs.Keeps.{count-enq, system-enq}
 use Rattle.task_state.proofs.Stays.{count-line, count-outstanding, count-phase, count-rank, count-telling, count-told}
-use Rattle.task_state.proofs.Stays.{count-without}
+use Rattle.task_state.proofs.Stays.{count-no_rows, count-rows, count-without, system-line, system-no_rows}
+use Rattle.task_state.proofs.Stays.{system-outstanding, system-phase, system-rank, system-rows, system-telling}
+use Rattle.task_state.proofs.Stays.{system-told, system-without}
 use Rattle.grs_base.specs.Rows.{rows_of}
 use Rattle.grs_base.specs.declared.resource.Row.{Row}
 use Rattle.system_purge.specs.Purge.{freed, tell_freed}
 
--- how many tasks there are
-abbrev size : TasksView → ℕ
-size v = length v.tasks
+-- whose they are, and how many
+abbrev pub size : TasksView → ℕ × ℕ
+size v = (v.system, length v.tasks)
 
-by_both : (b : Bool) (x y : TasksView) (k : ℕ) → size x ≡ k → size y ≡ k → size (cond b x y) ≡ k
+same-size : (v w : TasksView) → w.system ≡ v.system → length w.tasks ≡ length v.tasks → size w ≡ size v
+same-size v w e f =
+    ap (λ (k : ℕ). let z : ℕ × ℕ = (k, length w.tasks) in z) e
+    ∙ ap (λ (k : ℕ). let z : ℕ × ℕ = (v.system, k) in z) f
+
+same-line : (v : TasksView) (t : TaskId) → size (with_line v t) ≡ size v
+same-line v t = same-size v (with_line v t) (system-line v t) (count-line v t)
+
+same-phase : (v : TasksView) (t : TaskId) (p : Phase) → size (with_phase v t p) ≡ size v
+same-phase v t p = same-size v (with_phase v t p) (system-phase v t p) (count-phase v t p)
+
+same-outstanding : (v : TasksView) (t : TaskId) (q : Option Asked) → size (with_outstanding v t q) ≡ size v
+same-outstanding v t q = same-size v (with_outstanding v t q) (system-outstanding v t q) (count-outstanding v t q)
+
+same-without : (v : TasksView) (t : TaskId) (r : Res) → size (without_record v t r) ≡ size v
+same-without v t r = same-size v (without_record v t r) (system-without v t r) (count-without v t r)
+
+same-told : (v : TasksView) (t : TaskId) (r : Res) → size (with_told v t r) ≡ size v
+same-told v t r = same-size v (with_told v t r) (system-told v t r) (count-told v t r)
+
+same-rank : (v : TasksView) (t : TaskId) (r : Res) (n : ℕ) → size (with_rank v t r n) ≡ size v
+same-rank v t r n = same-size v (with_rank v t r n) (system-rank v t r n) (count-rank v t r n)
+
+same-rows : (v : TasksView) (t : TaskId) (rs : List Row) → size (with_rows v t rs) ≡ size v
+same-rows v t rs = same-size v (with_rows v t rs) (system-rows v t rs) (count-rows v t rs)
+
+same-no_rows : (v : TasksView) (t : TaskId) → size (without_rows v t) ≡ size v
+same-no_rows v t = same-size v (without_rows v t) (system-no_rows v t) (count-no_rows v t)
+
+same-telling : (v : TasksView) (l : ToldLine) → size (telling v l) ≡ size v
+same-telling v l = same-size v (telling v l) (system-telling v l) (count-telling v l)
+
+same-enq : (v : TasksView) (t : TaskId) (r : Res) (c : Ctl) (unit : Option ℕ) (ret : Ret) (code : Code)
+    → size (record_enq v t r c unit ret code) ≡ size v
+same-enq v t r c unit ret code =
+    same-size v (record_enq v t r c unit ret code) (system-enq v t r c unit ret code) (count-enq v t r c unit ret code)
+
+-- so who is one of them stays so
+pub here-of : (v w : TasksView) → size w ≡ size v → (t : TaskId) → is_task w t ≡ is_task v t
+here-of v w same t = ap (λ (z : ℕ × ℕ). (z.0 == t.system.0) && nat_lt t.task z.1) same
+
+by_both : (b : Bool) (x y : TasksView) (k : ℕ × ℕ) → size x ≡ k → size y ≡ k → size (cond b x y) ≡ k
 by_both true x y k f g = f
 by_both false x y k f g = g
 
@@ -83,24 +134,24 @@ by_both false x y k f g = g
 size-code : (v : TasksView) (t : TaskId) (verb : Verb) (code : Code) → size (tell_code v t verb code) ≡ size v
 unfolding tell_code
 size-code v t verb Wait = refl
-size-code v t verb C00 = count-telling v _
-size-code v t verb C04 = count-telling v _
-size-code v t verb C08 = count-telling v _
-size-code v t verb C14 = count-telling v _
-size-code v t verb C18 = count-telling v _
-size-code v t verb (End n) = count-telling v _
+size-code v t verb C00 = same-telling v _
+size-code v t verb C04 = same-telling v _
+size-code v t verb C08 = same-telling v _
+size-code v t verb C14 = same-telling v _
+size-code v t verb C18 = same-telling v _
+size-code v t verb (End n) = same-telling v _
 
 size-after : (v : TasksView) (t : TaskId) (w : Want) (unit : Option ℕ) (code : Code)
     → size (after_code v t w unit code) ≡ size v
 unfolding after_code
 size-after v t (Enq r c ret full) unit code =
     size-code (with_phase (record_enq v t r c unit ret code) t (phase_after code)) t verbs.Enq code
-    ∙ (count-phase (record_enq v t r c unit ret code) t (phase_after code) ∙ count-enq v t r c unit ret code)
+    ∙ (same-phase (record_enq v t r c unit ret code) t (phase_after code) ∙ same-enq v t r c unit ret code)
 size-after v t (Deq r have) unit code =
     size-code (with_phase (cond (is_granted code) (without_record v t r) v) t (phase_after code)) t verbs.Deq code
-    ∙ (count-phase (cond (is_granted code) (without_record v t r) v) t (phase_after code)
-    ∙ by_both (is_granted code) (without_record v t r) v (size v) (count-without v t r) refl)
-size-after v t (Release r) unit code = count-without v t r
+    ∙ (same-phase (cond (is_granted code) (without_record v t r) v) t (phase_after code)
+    ∙ by_both (is_granted code) (without_record v t r) v (size v) (same-without v t r) refl)
+size-after v t (Release r) unit code = same-without v t r
 size-after v t (Look first count filter) unit code = refl
 
 size-replied : (v : TasksView) (t : TaskId) (w : Want) (unit : Option ℕ) (a : Answer)
@@ -113,30 +164,30 @@ size-pass : (v : TasksView) (t : TaskId) (r : Res) → size (passes_wait v t r) 
 unfolding passes_wait
 size-pass v t r =
     by_both (is_held_for r (state_of v t).phase) (telling (with_phase v t phases.Ready) _) v (size v)
-    (count-telling (with_phase v t phases.Ready) _ ∙ count-phase v t phases.Ready) refl
+    (same-telling (with_phase v t phases.Ready) _ ∙ same-phase v t phases.Ready) refl
 
 size-line : (v : TasksView) (t : TaskId) (r : Res) (k : ℕ) → size (tell_line v t r k) ≡ size v
 unfolding tell_line
 size-line v t r k = by_both _ _ _ (size v)
-    (count-telling (with_phase (with_told v t r) t phases.Ready) _
-    ∙ (count-phase (with_told v t r) t phases.Ready ∙ count-told v t r))
+    (same-telling (with_phase (with_told v t r) t phases.Ready) _
+    ∙ (same-phase (with_told v t r) t phases.Ready ∙ same-told v t r))
     (size-pass (telling (with_told v t r) (told.Post t k)) t r
-    ∙ (count-telling (with_told v t r) (told.Post t k) ∙ count-told v t r))
+    ∙ (same-telling (with_told v t r) (told.Post t k) ∙ same-told v t r))
 
 size-untold : (v : TasksView) (t : TaskId) (r : Res) (o : Option Rec) → size (tell_untold v t r o) ≡ size v
 unfolding tell_untold
 size-untold v t r None = refl
 size-untold v t r (Some x) =
     by_both x.told v _ (size v) refl (by_both (is_leaving r (state_of v t).outstanding) (with_told v t r)
-    (tell_line v t r x.line) (size v) (count-told v t r) (size-line v t r x.line))
+    (tell_line v t r x.line) (size v) (same-told v t r) (size-line v t r x.line))
 
-size-control : (v : TasksView) (r : Res) (t : TaskId) → size (tell_control v r t) ≡ size v
+pub size-control : (v : TasksView) (r : Res) (t : TaskId) → size (tell_control v r t) ≡ size v
 unfolding tell_control
 size-control v r t =
     by_both (is_task v t) (tell_untold v t r (record_of (state_of v t).records r)) v (size v)
     (size-untold v t r (record_of (state_of v t).records r)) refl
 
-size-all : (r : Res) (ts : List TaskId) (v : TasksView) → size (tell_all v r ts) ≡ size v
+pub size-all : (r : Res) (ts : List TaskId) (v : TasksView) → size (tell_all v r ts) ≡ size v
 unfolding tell_all
 size-all r [] v = refl
 size-all r (t ∷ ts) v = size-all r ts (tell_control v r t) ∙ size-control v r t
@@ -146,11 +197,30 @@ unfolding tell_new
 size-new v None ts = refl
 size-new v (Some r) ts = size-all r ts v
 
-size-answer : (v : TasksView) (t : TaskId) (a : Asked) (answer : Answer) → size (tell_answer v t a answer) ≡ size v
+size-rows : (v : TasksView) (t : TaskId) (verb : Verb) → size (tell_rows v t verb) ≡ size v
+unfolding tell_rows
+size-rows v t verb = same-telling (without_rows v t) _ ∙ same-no_rows v t
+
+size-looking : (v : TasksView) (t : TaskId) (a : Asked) (verb : Verb) (left : ℕ)
+    → size (goes_on_looking v t a verb left) ≡ size v
+unfolding goes_on_looking
+size-looking v t a verb zero = size-rows v t verb
+size-looking v t a verb (suc left) =
+    same-outstanding (with_phase v t phases.ToSend) t _ ∙ same-phase v t phases.ToSend
+
+size-answered : (v : TasksView) (t : TaskId) (a : Asked) (answer : Answer) → size (answered v t a answer) ≡ size v
+size-answered v t a (Coded code) = size-replied v t a.req.want a.unit (Coded code)
+size-answered v t a (Rows rows) = go a.showing
+  where
+    go : (o : Option Showing) → size (looked v t a rows o) ≡ size v
+    go None = refl
+    go (Some s) = size-looking (with_rows v t rows) t a s.verb s.left ∙ same-rows v t rows
+
+pub size-answer : (v : TasksView) (t : TaskId) (a : Asked) (answer : Answer) → size (tell_answer v t a answer) ≡ size v
 unfolding tell_answer recalled
 size-answer v t a answer =
-    size-replied (recalled v t a.req.want) t a.req.want a.unit answer
-    ∙ (count-outstanding (with_phase v t _) t None ∙ count-phase v t _)
+    size-answered (recalled v t a.req.want) t a answer
+    ∙ (same-outstanding (with_phase v t _) t None ∙ same-phase v t _)
 
 size-own : (v : TasksView) (q : Req) (answer : Answer) → size (answer_own v q answer) ≡ size v
 unfolding answer_own tell_answer_any
@@ -160,14 +230,14 @@ size-own v q answer = by_both _ _ v (size v) (go (state_of v q.task).outstanding
     go None = refl
     go (Some a) = size-answer v q.task a answer
 
-size-ranked : (v : TasksView) (t : TaskId) (a : Asked) (answer : Answer) (rank : ℕ)
+pub size-ranked : (v : TasksView) (t : TaskId) (a : Asked) (answer : Answer) (rank : ℕ)
     → size (tell_answer_ranked v t a answer rank) ≡ size v
 unfolding tell_answer_ranked
 size-ranked v t a answer rank = go (unrecorded v t (res_wanted a.req.want))
   where
     go : (o : Option Res) → size (with_rank_of (tell_answer v t a answer) t o rank) ≡ size v
     go None = size-answer v t a answer
-    go (Some r) = count-rank (tell_answer v t a answer) t r rank ∙ size-answer v t a answer
+    go (Some r) = same-rank (tell_answer v t a answer) t r rank ∙ size-answer v t a answer
 
 size-mail : (v : TasksView) (m : Mail) → size (after_mail v m) ≡ size v
 unfolding after_mail
@@ -184,7 +254,7 @@ size-mail v (Granted t r) = size-control v r t
 size-sent : (qs : List Req) (v : TasksView) → size (all_sent v qs) ≡ size v
 unfolding all_sent
 size-sent [] v = refl
-size-sent (q ∷ qs) v = size-sent qs (with_phase v q.task phases.Sent) ∙ count-phase v q.task phases.Sent
+size-sent (q ∷ qs) v = size-sent qs (with_phase v q.task phases.Sent) ∙ same-phase v q.task phases.Sent
 
 -- ---- the change to star mode
 size-list : (r : Res) (es : List Elem) (ns : List ℕ) (v : TasksView) → size (with_list_ranks v r es ns) ≡ size v
@@ -192,7 +262,7 @@ size-list r [] ns v = refl
 size-list r (e ∷ es) [] v = refl
 size-list r (e ∷ es) (n ∷ ns) v =
     size-list r es ns (with_rank_by v r e.task n)
-    ∙ by_both (is_task v e.task) (with_rank v e.task r n) v (size v) (count-rank v e.task r n) refl
+    ∙ by_both (is_task v e.task) (with_rank v e.task r n) v (size v) (same-rank v e.task r n) refl
 
 size-ranks : (xs : List RankedRow) (v : TasksView) → size (with_ranks v xs) ≡ size v
 size-ranks [] v = refl
@@ -202,19 +272,19 @@ size-look : (v : TasksView) (t : TaskId) (w : Want) → size (with_first_look v 
 size-look v t (Enq r c ret full) = refl
 size-look v t (Deq r have) = refl
 size-look v t (Release r) = refl
-size-look v t (Look first count f) = count-outstanding v t _
+size-look v t (Look first count f) = same-outstanding v t _
 
 size-looks : (qs : List Req) (v : TasksView) → size (one_by_one v qs) ≡ size v
 size-looks [] v = refl
 size-looks (q ∷ qs) v = size-looks qs (with_first_look v q.task q.want) ∙ size-look v q.task q.want
 
-size-changed : (deck : Deck) (n : NodeState) → size (change_to_star deck n).tasks ≡ size n.tasks
+pub size-changed : (deck : Deck) (n : NodeState) → size (change_to_star deck n).tasks ≡ size n.tasks
 unfolding change_to_star
 size-changed deck n =
     size-ranks (ranked_by deck.entries n.shared) (one_by_one n.tasks n.outbox) ∙ size-looks n.outbox n.tasks
 
 -- ---- a task goes on
-step_both : (b : Bool) (x y : Step) (k : ℕ) → size x.node.tasks ≡ k → size y.node.tasks ≡ k
+step_both : (b : Bool) (x y : Step) (k : ℕ × ℕ) → size x.node.tasks ≡ k → size y.node.tasks ≡ k
     → size (cond b x y).node.tasks ≡ k
 step_both true x y k f g = f
 step_both false x y k f g = g
@@ -228,7 +298,7 @@ size-decide n t w unit =
 
 size-post : (n : NodeState) (t : TaskId) (w : Want) (unit : Option ℕ) → size (post n t w unit).node.tasks ≡ size n.tasks
 unfolding post
-size-post n t w unit = count-outstanding (with_phase n.tasks t phases.ToSend) t _ ∙ count-phase n.tasks t phases.ToSend
+size-post n t w unit = same-outstanding (with_phase n.tasks t phases.ToSend) t _ ∙ same-phase n.tasks t phases.ToSend
 
 size-ask : (n : NodeState) (t : TaskId) (w : Want) (unit : Option ℕ) → size (ask n t w unit).node.tasks ≡ size n.tasks
 unfolding ask
@@ -241,7 +311,20 @@ unfolding wait
 size-wait v t r None = size-code v t verbs.Wait C08
 size-wait v t r (Some x) =
     by_both x.told (tell_code v t verbs.Wait C00) (with_phase v t (phases.HeldLine r)) (size v)
-    (size-code v t verbs.Wait C00) (count-phase v t (phases.HeldLine r))
+    (size-code v t verbs.Wait C00) (same-phase v t (phases.HeldLine r))
+
+size-show : (n : NodeState) (t : TaskId) (d : Display) → size (show n t d).node.tasks ≡ size n.tasks
+unfolding show
+size-show n t d = around d.count (look_home n t d d.home).node ∙ home d.home
+  where
+    around : (count : ℕ) (k : NodeState) → size (look_around k t d count).tasks ≡ size k.tasks
+    around zero k = size-rows k.tasks t d.verb
+    around (suc more) k =
+        same-outstanding (with_phase k.tasks t phases.ToSend) t _ ∙ same-phase k.tasks t phases.ToSend
+
+    home : (o : Option SysId) → size (look_home n t d o).node.tasks ≡ size n.tasks
+    home None = refl
+    home (Some s) = same-rows n.tasks t _
 
 size-take : (limit : ℕ) (n : NodeState) (t : TaskId) (l : Meaning)
     → size (take_line limit n t l).node.tasks ≡ size n.tasks
@@ -249,11 +332,12 @@ unfolding take_line
 size-take limit n t (lines.Enq r c ret unit) = size-ask n t _ unit
 size-take limit n t (lines.Deq r have) = size-ask n t (Deq r have) None
 size-take limit n t (lines.Wait r) = size-wait n.tasks t r (record_of (state_of n.tasks t).records r)
+size-take limit n t (lines.Shows d) = size-show n t d
 size-take limit n t lines.Nothing = refl
 
 size-end : (n : NodeState) (t : TaskId) (c : ℕ) (xs : List Rec) → size (end_step n t c xs).node.tasks ≡ size n.tasks
 unfolding end_step
-size-end n t c [] = count-telling (with_phase n.tasks t phases.Ended) _ ∙ count-phase n.tasks t phases.Ended
+size-end n t c [] = same-telling (with_phase n.tasks t phases.Ended) _ ∙ same-phase n.tasks t phases.Ended
 size-end n t c (x ∷ xs) = size-ask n t (Release x.res) None
 
 size-ready : (limit : ℕ) (n : NodeState) (t : TaskId) (o : Option Meaning)
@@ -262,8 +346,8 @@ unfolding ready_step
 size-ready limit n t None =
     size-end (with_tasks n (with_phase n.tasks t (phases.Ending 0))) t 0
     (state_of (with_phase n.tasks t (phases.Ending 0)) t).records
-    ∙ count-phase n.tasks t (phases.Ending 0)
-size-ready limit n t (Some l) = size-take limit (with_tasks n (with_line n.tasks t)) t l ∙ count-line n.tasks t
+    ∙ same-phase n.tasks t (phases.Ending 0)
+size-ready limit n t (Some l) = size-take limit (with_tasks n (with_line n.tasks t)) t l ∙ same-line n.tasks t
 
 size-phase : (limit : ℕ) (n : NodeState) (t : TaskId) (ls : List Meaning) (p : Phase)
     → size (phase_step limit n t ls p).node.tasks ≡ size n.tasks
@@ -276,7 +360,7 @@ size-phase limit n t ls phases.ToSend = refl
 size-phase limit n t ls phases.Sent = refl
 size-phase limit n t ls phases.Ended = refl
 
-size-step : (limit : ℕ) (n : NodeState) (t : TaskId) (o : Option (List Meaning))
+pub size-step : (limit : ℕ) (n : NodeState) (t : TaskId) (o : Option (List Meaning))
     → size (task_step limit n t o).node.tasks ≡ size n.tasks
 size-step limit n t None = refl
 size-step limit n t (Some ls) = size-phase limit n t ls (state_of n.tasks t).phase
@@ -295,7 +379,7 @@ size-process n q =
     (new_owners n.shared q.task q.want)
     ∙ size-own n.tasks q (answer_to n.shared q.task q.want)
 
-size-entry : (deck : Deck) (n : NodeState) (b : RingBody) → size (read_entry deck n b).tasks ≡ size n.tasks
+pub size-entry : (deck : Deck) (n : NodeState) (b : RingBody) → size (read_entry deck n b).tasks ≡ size n.tasks
 unfolding process_entry
 size-entry deck n (Remove target) = size-freed target.0 (rows_of n.shared) n.tasks
 size-entry deck n (Request q) = go (is_of_deck deck q.task) (is_for_all (res_wanted q.want))
@@ -307,16 +391,17 @@ size-entry deck n (Request q) = go (is_of_deck deck q.task) (is_for_all (res_wan
     go true false = refl
     go false b = refl
 
-size-entries : (deck : Deck) (es : List RingEntry) (n : NodeState) → size (read_entries deck n es).tasks ≡ size n.tasks
+pub size-entries : (deck : Deck) (es : List RingEntry) (n : NodeState)
+    → size (read_entries deck n es).tasks ≡ size n.tasks
 unfolding read_entries
 size-entries deck [] n = refl
 size-entries deck (e ∷ es) n = size-entries deck es (read_entry deck n e.body) ∙ size-entry deck n e.body
 
-size-put : (n : NodeState) (taken : ℕ) → size (put_in n taken).node.tasks ≡ size n.tasks
+pub size-put : (n : NodeState) (taken : ℕ) → size (put_in n taken).node.tasks ≡ size n.tasks
 unfolding put_in
 size-put n taken = size-sent (take taken n.outbox) n.tasks
 
-size-turned : (deck : Deck) (n : NodeState) (es : List RingEntry) (taken : ℕ) (closed : Bool)
+pub size-turned : (deck : Deck) (n : NodeState) (es : List RingEntry) (taken : ℕ) (closed : Bool)
     → size (turned deck n es taken closed).node.tasks ≡ size n.tasks
 unfolding turned
 size-turned deck n es taken closed = step_both _ _ (put_in (read_entries deck n es) taken) (size n.tasks)
@@ -324,9 +409,9 @@ size-turned deck n es taken closed = step_both _ _ (put_in (read_entries deck n 
     ∙ (size-put (read_entries deck n es) taken ∙ size-entries deck es n))
     (size-put (read_entries deck n es) taken ∙ size-entries deck es n)
 
-size-desk : (n : NodeState) (said : Said) → size (desk_told n said).tasks ≡ size n.tasks
+pub size-desk : (n : NodeState) (said : Said) → size (desk_told n said).tasks ≡ size n.tasks
 unfolding desk_told
-size-desk n said = count-telling n.tasks _
+size-desk n said = same-telling n.tasks _
 
 size-switched : (deck : Deck) (n : NodeState) → size (switched deck n).tasks ≡ size n.tasks
 unfolding switched
@@ -337,7 +422,8 @@ size-switched deck n = go (is_none n.star)
     go false = refl
 
 -- ---- star mode
-size-own_step : (v : TasksView) (p : StarPart) (t : TaskId) (o : Option Asked) → size (own_step v p t o).tasks ≡ size v
+pub size-own_step : (v : TasksView) (p : StarPart) (t : TaskId) (o : Option Asked)
+    → size (own_step v p t o).tasks ≡ size v
 unfolding decide_own
 size-own_step v p t None = refl
 size-own_step v p t (Some a) =
@@ -352,7 +438,7 @@ size-begin v p t asked (Some e) = size-own_step v (begun p e) t asked
 
 size-to : (v : TasksView) (p : StarPart) (t : TaskId) (o : Option ℕ) → size (sent_to v p t o).tasks ≡ size v
 size-to v p t None = refl
-size-to v p t (Some e) = count-phase v t phases.Sent
+size-to v p t (Some e) = same-phase v t phases.Sent
 
 size-send : (v : TasksView) (p : StarPart) (t : TaskId) (r : Reply) → size (send_step v p t r).tasks ≡ size v
 size-send v p t =
@@ -401,7 +487,7 @@ size-leave v p e =
     (λ es k b. refl) (λ h. refl) (λ k. refl) refl refl refl refl
     (λ m. refl) refl refl refl refl (λ m. refl) refl refl refl refl refl (λ k. refl) refl
 
-size-starred : (deck : Deck) (v : TasksView) (p : StarPart) (choice : Choice) (r : Reply)
+pub size-starred : (deck : Deck) (v : TasksView) (p : StarPart) (choice : Choice) (r : Reply)
     → size (star_step deck v p choice r).tasks ≡ size v
 size-starred deck v p (choices.Send t) r = size-send v p t r
 size-starred deck v p choices.Take r = size-took deck v p r
@@ -463,7 +549,7 @@ size-quiet deck n (choices.Leave e) = refl
 size-quiet deck n choices.Switch = refl
 size-quiet deck n (choices.Purge target) = refl
 
-size-finish : (deck : Deck) (n : NodeState) (choice : Choice) (o : Option Reply)
+pub size-finish : (deck : Deck) (n : NodeState) (choice : Choice) (o : Option Reply)
     → size (finish deck n choice o).node.tasks ≡ size n.tasks
 unfolding finish
 size-finish deck n choice None = size-quiet deck n choice
@@ -476,7 +562,7 @@ size-carry deck m s n choice Nothing = refl
 size-carry deck m s n choice Quiet = size-finish deck n choice None
 size-carry deck m s n choice (Call call) = size-finish deck n choice (Some (reply_to m s call))
 
-size-chosen : (deck : Deck) (m : MediumState) (s : SysId) (n : NodeState) (choice : Choice)
+pub size-chosen : (deck : Deck) (m : MediumState) (s : SysId) (n : NodeState) (choice : Choice)
     → size (chosen deck m s n choice).step.node.tasks ≡ size n.tasks
 unfolding chosen
 size-chosen deck m s n choice = size-carry deck m s n choice (prepare deck n choice)
@@ -490,7 +576,7 @@ length-new : (k : ℕ) → length (new_tasks k) ≡ k
 length-new zero = refl
 length-new (suc k) = ap suc (length-new k)
 
-first-size : (deck : Deck) (s : ℕ) → size (first_node deck s).tasks ≡ length (scripts_of deck s)
+first-size : (deck : Deck) (s : ℕ) → length (first_node deck s).tasks.tasks ≡ length (scripts_of deck s)
 unfolding first_node
 first-size deck s = length-new (length (scripts_of deck s))
 
@@ -498,13 +584,14 @@ full-placed : (deck : Deck) (w : World) (c : SysId) (n : NodeState) (at : slice_
     → size o.step.node.tasks ≡ size n.tasks → AreFull deck w → AreFull deck (placed w c n o)
 unfolding placed
 full-placed deck w c n at o same h =
-    by_node w.nodes c.0 n o.step.node at (λ s k. length k.tasks.tasks ≡ length (scripts_of deck s)) (same ∙ h c.0 n at)
+    by_node w.nodes c.0 n o.step.node at (λ s k. length k.tasks.tasks ≡ length (scripts_of deck s))
+    (ap (λ (z : ℕ × ℕ). z.1) same ∙ h c.0 n at)
     (λ s k ne f. h s k f)
 
 pub full_run : (deck : Deck) (es : List Event) → AreFull deck (run deck es)
 full_run deck =
     each_run deck (λ es (w : World). AreFull deck w)
-    (λ s n at. ap (λ (k : NodeState). size k.tasks) (first_of deck s n at) ∙ first-size deck s)
+    (λ s n at. ap (λ (k : NodeState). length k.tasks.tasks) (first_of deck s n at) ∙ first-size deck s)
     (λ es e h.
     each_event deck (run deck es) e (AreFull deck) (λ s n at. h s n at)
     (λ n at.

@@ -21,7 +21,7 @@ use Rattle.grs_base.specs.declared.resource.Row.{Row}
 use Rattle.grs_base.specs.declared.resource.SysId.{SysId}
 use Rattle.grs_base.specs.declared.resource.TaskId.{TaskId}
 use Rattle.grs_base.proofs.SameLaws.{same_res-exact, same_res-itself}
-use Rattle.grs_known.proofs.known.Histories.{AllAsk, AsksOrRemoves, a_removal, an_ask}
+use Rattle.grs_known.proofs.known.Histories.{AllAsk, AsksOrRemoves, a_look, a_removal, an_ask}
 use Rattle.grs_known.proofs.lists.Truths.{no_truth}
 use Rattle.grs_known.specs.Items.{RunItem, goes_round, lists, lists_from, rounds}
 use Rattle.grs_node.proofs.TableParts.{table-kept}
@@ -193,6 +193,8 @@ lists-few deck s (x ∷ T) a = go (is_enq x.fixed) (one a.0) (lists-few deck (af
     one (a_removal target purged) =
         subst (λ f. length (after_fixed s f) ≤ cond (is_enq f) 1 0 + length s) (sym purged)
         (let h = left-few s target.0 in omega (arith, h))
+    one (a_look t f looks of_deck) =
+        subst (λ g. length (after_fixed s g) ≤ cond (is_enq g) 1 0 + length s) (sym looks) (omega arith)
     one (an_ask i) =
         subst (λ f. length (after_fixed s f) ≤ cond (is_enq f) 1 0 + length s) (sym i.asked)
         (want-few s i.req.task i.req.want)

@@ -3,11 +3,11 @@
 use Rattle.std.proofs.Common.{◌≡◌, ◌≢◌, ℕ, Bool, true, false, cond, not, List, [], ◌∷◌, ◌++◌, map, Some, None, refl, ap}
 use Rattle.std.proofs.Common.{sym, ◌∙◌, subst}
 use Rattle.std.specs.Prelude.{◌==◌, filter, slice_get}
+use Rattle.std.specs.List.{list_all}
 use Rattle.std.proofs.lemmas.Bool.{eqb-true}
 use Rattle.grs_base.specs.declared.resource.SysId.{SysId}
 use Rattle.grs_base.specs.declared.resource.TaskId.{TaskId}
 use Rattle.grs_legal.specs.declared.meaning.Meaning.{Meaning}
-use Rattle.grs_node.specs.Change.{one_by_one}
 use Rattle.grs_node.specs.Node.{NodeState, is_of_deck, read_entries, read_entry, with_side}
 use Rattle.grs_wire.proofs.MaskLaws.{has-with_other, has-without_other, has-zero}
 use Rattle.grs_wire.specs.Masks.{has, only}
@@ -18,6 +18,7 @@ use Rattle.grs_wire.specs.declared.medium.RingBody.{RingBody}
 use Rattle.grs_wire.specs.declared.medium.RingBody.TheVariants.{Request, Remove}
 use Rattle.grs_wire.specs.declared.medium.RingEntry.{RingEntry}
 use Rattle.ring_mode.specs.Ring.{is_for_all, process, process_entry, side_of}
+use Rattle.task_state.specs.View.{is_task}
 use Rattle.rsa_message.specs.Message.{cleared, left_by}
 use Rattle.grs_known.proofs.lists.Truths.{no_truth}
 use Rattle.grs_known.proofs.system.Ours.{IsOurs}
@@ -25,9 +26,8 @@ use Rattle.grs_known.proofs.system.Says.{is_home_at, own_requests}
 use Rattle.grs_known.specs.Items.{items, rounds}
 use Rattle.grs_world.proofs.move.Changing.{IsChanging, view-read}
 use Rattle.grs_world.proofs.move.Moved.{alive as lives-on}
-use Rattle.grs_world.proofs.move.Ranks.{box-none}
 use Rattle.grs_world.proofs.move.Waiting.{given, reads, whole_now}
-use Rattle.grs_world.proofs.rest.Ring.{IsRead, kept-all}
+use Rattle.grs_world.proofs.rest.Ring.{IsRead, box-here, kept-all}
 use Rattle.grs_world.proofs.rest.RingRun.{read-more, still_of}
 use Rattle.grs_world.proofs.rest.Unseen.{own-among}
 use Rattle.grs_world.proofs.rest.View.{IsWaitingHere, read_by, system_of, waits-here}
@@ -124,9 +124,10 @@ module _ (deck : Deck) (w : World) (g : IsChanging deck w) (s : ℕ) (n : NodeSt
       (view-read deck s (items w.fixed) (g.before s) (g.due s) g.since g.whole.right whole n z.waits).seen
 
   pub read-box :
-      one_by_one (read_by deck w.medium.message.entries s n).tasks (read_by deck w.medium.message.entries s n).outbox
-      ≡ (read_by deck w.medium.message.entries s n).tasks
-  read-box = box-none deck s (items w.fixed) (g.before s ++ g.due s) g.since [] (read_by deck entries s n) read-seen
+      list_all (λ q. is_task (read_by deck w.medium.message.entries s n).tasks q.task)
+      (read_by deck w.medium.message.entries s n).outbox
+      ≡ true
+  read-box = box-here deck s (items w.fixed) (g.before s ++ g.due s) g.since [] (read_by deck entries s n) read-seen
 
   pub read-home : (t : TaskId) → is_home_at deck s t ≡ true
       → (ls : List Meaning) × IsOurs deck s (read_by deck w.medium.message.entries s n).tasks t ls

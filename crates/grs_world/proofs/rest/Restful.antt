@@ -5,6 +5,7 @@ use Rattle.std.specs.Prelude.{◌==◌, is_none, set, slice_get}
 use Rattle.std.proofs.lemmas.Bool.{eqb-true, eqb-false}
 use Rattle.std.proofs.lemmas.List.{length-set}
 use Rattle.std.proofs.lemmas.Option.{same_Some}
+use Rattle.std.specs.List.{list_all}
 use Rattle.grs_base.specs.Limits.{last_number, most_systems}
 use Rattle.grs_base.specs.Lists.{has_task, owns}
 use Rattle.grs_base.specs.State.{is_systems, list_of}
@@ -12,7 +13,7 @@ use Rattle.grs_base.specs.declared.resource.Res.{Res}
 use Rattle.grs_base.specs.declared.resource.SysId.{SysId}
 use Rattle.grs_base.specs.declared.resource.TaskId.{TaskId}
 use Rattle.grs_node.proofs.ChangeFits.{star-changed}
-use Rattle.grs_node.specs.Change.{one_by_one, part_by_table}
+use Rattle.grs_node.specs.Change.{part_by_table}
 use Rattle.grs_node.specs.Node.{NodeState, change_to_star, only}
 use Rattle.grs_node.specs.Star.{StarPart}
 use Rattle.grs_wire.proofs.MaskLaws.{has-without_other}
@@ -22,7 +23,7 @@ use Rattle.grs_wire.specs.declared.deck.Deck.{Deck}
 use Rattle.grs_wire.specs.declared.medium.RingEntry.{RingEntry}
 use Rattle.grs_wire.specs.declared.request.Fixed.{Fixed}
 use Rattle.rsa_message.specs.Message.{Message, cleared, turned_closed}
-use Rattle.task_state.specs.View.{state_of}
+use Rattle.task_state.specs.View.{is_task, state_of}
 use Rattle.grs_known.proofs.lists.Facts.{slice_get-set, slice_get-set_other}
 use Rattle.grs_known.proofs.lists.Owners.{is_among}
 use Rattle.grs_known.proofs.lists.Placed.{put_one}
@@ -466,9 +467,9 @@ module _ (deck : Deck) (w : World) (g : IsChanging deck w) (h : IsRestful deck w
       due = read-due deck w g c.0 n at alive alone (h.read c.0 n at alive alone)
 
       box :
-          one_by_one (read_by deck w.medium.message.entries c.0 n).tasks
+          list_all (λ q. is_task (read_by deck w.medium.message.entries c.0 n).tasks q.task)
           (read_by deck w.medium.message.entries c.0 n).outbox
-          ≡ (read_by deck w.medium.message.entries c.0 n).tasks
+          ≡ true
       box = read-box deck w g c.0 n at alive alone
 
       abbrev part : StarPart

@@ -33,6 +33,7 @@ use Rattle.grs_known.proofs.system.Says.{askers, own_requests}
 use Rattle.grs_known.proofs.tasks.Invariant.{is_unsent}
 use Rattle.grs_known.specs.Items.{RunItem, items, lists, rounds}
 use Rattle.grs_world.proofs.message.Stands.{Bodies}
+use Rattle.grs_world.proofs.rest.Events.{date-any}
 use Rattle.grs_world.proofs.rest.AtEnd.{IsStill}
 use Rattle.grs_world.proofs.rest.Marks.{is_marked}
 use Rattle.grs_world.proofs.rest.Unseen.{requests_of}
@@ -188,5 +189,5 @@ module _ (deck : Deck) (es : List Event) (w : World) (ring : IsRing deck w) (g :
           held-none deck.limit ls t (state_of n.tasks t) (seen.good.tasks.each t ls ours).opened (calm t ls ours).1;
       calm = calm;
       marked = marked_at;
-      date = (h s n at alive).date;
+      date = date-any true deck n.tasks (h s n at alive).date;
     }

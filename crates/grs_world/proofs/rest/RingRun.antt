@@ -271,13 +271,14 @@ first-read deck s qs = record {
   boxed = λ t ls ours e.
       absurd (let f : false ≡ true = sym (ap (λ (x : TaskState). is_to_send x.phase) (first-state deck s t)) ∙ e in cc);
   date = λ t ls lines here.
-      subst (IsUpToDate ls [] t) (sym (first-state deck s t))
+      subst (IsUpToDate true ls [] t) (sym (first-state deck s t))
       (record {
         closed = λ e. refl;
         wanted = tt;
         held = refl;
         coded = λ k low in_it asks. absurd (omega (arith, low, in_it));
         units = tt;
+        ended = λ e. absurd (cc);
       });
 }
 

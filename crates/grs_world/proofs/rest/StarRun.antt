@@ -27,6 +27,7 @@ use Rattle.grs_world.proofs.move.Late.{came_late}
 use Rattle.grs_world.proofs.move.Sound.{GoodRun, every_run, good_history, in_ring, in_star}
 use Rattle.grs_world.proofs.rest.Few.{ranks-few}
 use Rattle.grs_world.proofs.rest.Restful.{IsRestful, restful-counted, restful-star, sent-star, sent_in, sent_of}
+use Rattle.grs_world.proofs.rest.Events.{date-any}
 use Rattle.grs_world.proofs.rest.Ring.{IsRead}
 use Rattle.grs_world.proofs.rest.RingRun.{first-read, first-state, first_of, ring_read, still_of}
 use Rattle.grs_world.proofs.rest.Switching.{restful-begun}
@@ -109,7 +110,7 @@ module _ (deck : Deck) (star : deck.star ≡ true) where
 
   first-restful : (g : IsChanging deck (first_world deck)) → IsRestful deck (first_world deck)
   first-restful g0 = record {
-    dated = λ s n at live. let h = read_at s n at in record { date = h.date; own = h.own };
+    dated = λ s n at live. let h = read_at s n at in record { date = date-any true deck n.tasks h.date; own = h.own };
     still = λ s n at live none.
         absurd (first-star deck s star (ap (λ (k : NodeState). k.star) (sym (first_of deck s n at)) ∙ none));
     read = λ s n at live none. read_at s n at;

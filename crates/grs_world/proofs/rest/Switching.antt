@@ -4,6 +4,7 @@ use Rattle.std.proofs.Common.{ap, sym, ◌∙◌, subst, arith, false}
 use Rattle.std.specs.Prelude.{set, slice_get, slice_index_or}
 use Rattle.std.proofs.lemmas.Option.{same_Some}
 use Rattle.contention_mgr.specs.Manager.{Managed, managed_at}
+use Rattle.std.specs.List.{list_all}
 use Rattle.grs_base.specs.Limits.{most_systems}
 use Rattle.grs_base.specs.Lists.{has_task, owns}
 use Rattle.grs_base.specs.State.{is_systems, list_of}
@@ -14,7 +15,7 @@ use Rattle.grs_legal.specs.declared.meaning.Meaning.{Meaning}
 use Rattle.grs_medium.specs.Medium.{awake, inbox, live}
 use Rattle.grs_node.proofs.ChangeFits.{star-changed}
 use Rattle.grs_node.proofs.InRing.{switched-ring}
-use Rattle.grs_node.specs.Change.{one_by_one, part_by_table}
+use Rattle.grs_node.specs.Change.{part_by_table}
 use Rattle.grs_node.specs.Node.{NodeState, change_to_star, desk_told, only, own_words, read_entries, switched}
 use Rattle.grs_node.specs.Star.{StarPart}
 use Rattle.grs_wire.proofs.MaskLaws.{has-without_other}
@@ -27,7 +28,7 @@ use Rattle.grs_wire.specs.declared.medium.RingEntry.{RingEntry}
 use Rattle.grs_wire.specs.declared.told.Said.TheVariants as saids
 use Rattle.mode_migrate.specs.Laws.{are_within}
 use Rattle.rsa_message.specs.Message.{closed_by, first_number}
-use Rattle.task_state.specs.View.{is_sent, state_of}
+use Rattle.task_state.specs.View.{is_sent, is_task, state_of}
 use Rattle.grs_world.proofs.rest.Marks.{is_marked}
 use Rattle.grs_known.proofs.known.Histories.{AllAsk}
 use Rattle.grs_known.proofs.lists.Parts.{list_of-part}
@@ -39,12 +40,12 @@ use Rattle.grs_known.proofs.tasks.Invariant.{has_res}
 use Rattle.grs_known.specs.Items.{RunItem, items, lists, rounds}
 use Rattle.grs_world.proofs.move.Begin.{front-within, more-within}
 use Rattle.grs_world.proofs.move.Changing.{IsChanging}
-use Rattle.grs_world.proofs.move.Ranks.{box-none}
 use Rattle.grs_world.proofs.rest.Changed.{change-dated, change-had, change-has, change-unsent}
 use Rattle.grs_world.proofs.rest.Loaded.{table-few, table-ranks}
 use Rattle.grs_world.proofs.rest.Restful.{IsRestful, by_set, had-ring, had-star, had_in, had_of, sent-ring, sent-star}
 use Rattle.grs_world.proofs.rest.Restful.{sent_in, sent_of}
-use Rattle.grs_world.proofs.rest.Ring.{IsRead, desk-read}
+use Rattle.grs_world.proofs.rest.Events.{date-any}
+use Rattle.grs_world.proofs.rest.Ring.{IsRead, box-here, desk-read}
 use Rattle.grs_world.proofs.rest.RingRun.{AllRead, node_is, read-due, reads, still_of}
 use Rattle.grs_world.proofs.rest.StarTasks.{IsDated}
 use Rattle.grs_world.proofs.rest.Unseen.{requests_of}
@@ -64,7 +65,7 @@ use Rattle.grs_world.specs.World.{Turnout, World, fixed_by, placed}
 -- System s comes to star mode from m, which has processed all that went with the message.
 record IsArriving (deck : Deck) (s : ℕ) (T : List RunItem) (k m : NodeState) : Type 0 where
   pub is : k ≡ change_to_star deck m
-  pub box : one_by_one m.tasks m.outbox ≡ m.tasks
+  pub box : list_all (λ q. is_task m.tasks q.task) m.outbox ≡ true
   pub read : IsRead deck s m []
   pub system : m.tasks.system ≡ s
   pub shared : m.shared ≡ lists (rounds T)
@@ -103,7 +104,7 @@ module _ (deck : Deck) (some : 0 < deck.entries) (few : length deck.systems ≤ 
         (read_by deck w.medium.message.entries s m)
     arrives = record {
       is = refl;
-      box = box-none deck s P (g.before s ++ g.later s) [] [] (read_by deck es s m) seen-read;
+      box = box-here deck s P (g.before s ++ g.later s) [] [] (read_by deck es s m) seen-read;
       read =
           subst (λ z. IsRead deck s z []) (sym (node_is deck events w ring g (system_of s) m there lives all))
           (read-due deck events w ring g (system_of s) m there lives all);
@@ -134,7 +135,7 @@ module _ (deck : Deck) (some : 0 < deck.entries) (few : length deck.systems ≤ 
   own-arrives : IsArriving deck c.0 (items w.fixed) (switched deck n) (desk_told n saids.StarDone)
   own-arrives = record {
     is = switched-ring deck n (ring.alone c.0 n at);
-    box = box-none deck c.0 P (g.before c.0) (g.later c.0) (own_requests c.0 (g.later c.0)) d d-seen;
+    box = box-here deck c.0 P (g.before c.0) (g.later c.0) (own_requests c.0 (g.later c.0)) d d-seen;
     read =
         subst (λ xs. IsRead deck c.0 d (requests_of xs)) unseen-none
         (desk-read deck c.0 n saids.StarDone (still_of c.0 es) (all c.0 n at alive));
@@ -310,7 +311,7 @@ module _ (deck : Deck) (some : 0 < deck.entries) (few : length deck.systems ≤ 
     dated =
         by_node w.nodes c.0 n k at (λ u z. has w.medium.removed u ≡ false → IsDated deck u z)
         (λ l. subst (IsDated deck c.0) (sym own-arrives.is) (change-dated deck c.0 d own-arrives.box own-arrives.read))
-        (λ u z ne f l. record { date = (all u z f l).date; own = (all u z f l).own });
+        (λ u z ne f l. record { date = date-any true deck z.tasks (all u z f l).date; own = (all u z f l).own });
     still =
         by_node w.nodes c.0 n k at
         (λ u z. has w.medium.removed u ≡ false → z.star ≡ None → has (without (live w.medium) c.0) u ≡ true)

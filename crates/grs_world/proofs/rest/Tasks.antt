@@ -1,11 +1,17 @@
 -- A task of a system of the ring goes on by itself: its records go on with the system's own lists, and nothing else is
 -- sent.
-use Rattle.std.proofs.Common.{◌≡◌, ℕ, suc, Bool, true, false, cond, not, ◌||◌, List, [], ◌∷◌, ◌++◌, Option, Some, None}
+use Rattle.std.proofs.Common.{◌≡◌, ℕ, zero, suc, Bool, true, false, cond, not, ◌||◌, List, [], ◌∷◌, ◌++◌, Option, Some}
+use Rattle.std.proofs.Common.{None}
 use Rattle.std.proofs.Common.{refl, ap, sym, ◌∙◌, subst}
 use Rattle.std.specs.Prelude.{is_some, slice_get}
 use Rattle.std.proofs.lemmas.Bool.{or_left, or_right}
 use Rattle.grs_base.specs.Same.{same_task}
+use Rattle.grs_base.specs.Looks.{look}
 use Rattle.grs_base.specs.State.{is_systems}
+use Rattle.grs_base.specs.declared.look.Place.TheVariants.{Local}
+use Rattle.grs_base.specs.declared.resource.Row.{Row}
+use Rattle.grs_base.specs.declared.resource.SysId.{SysId}
+use Rattle.grs_legal.specs.declared.meaning.Display.{Display}
 use Rattle.grs_base.specs.declared.resource.Res.{Res}
 use Rattle.grs_base.specs.declared.resource.TaskId.{TaskId}
 use Rattle.grs_base.specs.declared.decision.Code.TheVariants.{C00, C08}
@@ -14,7 +20,9 @@ use Rattle.grs_legal.specs.Asks.{lines_of}
 use Rattle.grs_legal.specs.declared.meaning.Meaning.{Meaning}
 use Rattle.grs_legal.specs.declared.meaning.Meaning.TheVariants as lines
 use Rattle.grs_node.specs.Node.{NodeState, Step, ask, decide, end_step, has_most, is_to_send, may_go, outbox_with}
-use Rattle.grs_node.specs.Node.{phase_step, post, ready_step, take_line, task_step, wait, with_tasks}
+use Rattle.grs_node.specs.Node.{look_around, look_home, looks_asked, phase_step, post, posted, ready_step, show}
+use Rattle.grs_node.specs.Node.{take_line, task_step, wait, with_tasks}
+use Rattle.grs_node.specs.Star.{StarPart}
 use Rattle.grs_wire.specs.Wants.{after_want, answer_to, new_owners, res_wanted}
 use Rattle.grs_wire.specs.declared.deck.Deck.{Deck}
 use Rattle.grs_wire.specs.declared.request.Req.{Req}
@@ -25,9 +33,9 @@ use Rattle.grs_wire.specs.declared.told.ToldLine.TheVariants as told
 use Rattle.grs_wire.specs.declared.told.Verb.TheVariants as verbs
 use Rattle.grs_wire.proofs.WantLaws.{by_test}
 use Rattle.ring_mode.specs.Ring.{is_for_all}
-use Rattle.task_state.specs.Replies.{replied, tell_code, tell_new}
+use Rattle.task_state.specs.Replies.{replied, tell_code, tell_new, tell_rows}
 use Rattle.task_state.specs.View.{TasksView, is_sent, record_of, state_of, telling, with_line, with_outstanding}
-use Rattle.task_state.specs.View.{with_phase}
+use Rattle.task_state.specs.View.{with_phase, with_rows}
 use Rattle.task_state.specs.declared.state.Asked.{Asked}
 use Rattle.task_state.specs.declared.state.Phase.{Phase}
 use Rattle.task_state.specs.declared.state.Phase.TheVariants as phases
@@ -35,7 +43,8 @@ use Rattle.task_state.specs.declared.state.Rec.{Rec}
 use Rattle.task_state.specs.declared.state.TaskState.{TaskState}
 use Rattle.grs_known.proofs.lists.Owners.{is_among}
 use Rattle.grs_known.proofs.lists.Truths.{no_truth}
-use Rattle.grs_known.proofs.system.Did.{Did, did-code, did-line, did-none, did-outstanding, did-phase, did-telling}
+use Rattle.grs_known.proofs.system.Did.{Did, did-code, did-line, did-none, did-outstanding, did-phase, did-rows}
+use Rattle.grs_known.proofs.system.Did.{did-shown, did-telling}
 use Rattle.grs_known.proofs.system.Ours.{IsOurs, same_place}
 use Rattle.grs_known.proofs.system.Says.{askers}
 use Rattle.grs_known.proofs.tasks.Invariant.{is_distinct}
@@ -55,7 +64,7 @@ pub record IsLocal (deck : Deck) (s : ℕ) (n : NodeState) (qs : List Req) : Typ
   pub boxed : (t : TaskId) (ls : List Meaning) → IsOurs deck s n.tasks t ls
       → is_to_send (state_of n.tasks t).phase ≡ true → is_among t (askers n.outbox) ≡ true
 
-local-read : (deck : Deck) (s : ℕ) (n : NodeState) (qs : List Req) → IsLocal deck s n qs → AllDate deck n.tasks
+local-read : (deck : Deck) (s : ℕ) (n : NodeState) (qs : List Req) → IsLocal deck s n qs → AllDate true deck n.tasks
     → IsRead deck s n qs
 local-read deck s n qs h date = record { own = h.own; shared = h.shared; sent = h.sent; boxed = h.boxed; date = date }
 
@@ -122,6 +131,46 @@ module _ (deck : Deck) (s : ℕ) (n : NodeState) (qs : List Req) (alone : n.star
   same : IsLocal deck s n qs
   same = record { own = h.own; shared = h.shared; sent = h.sent; boxed = h.boxed }
 
+  -- ---- its request waits to be put in
+  box-ring : (w : TasksView) (q : Req) → outbox_with (with_tasks n w) q ≡ n.outbox ++ q ∷ []
+  box-ring w q = ap (λ o. cond (is_some o) n.outbox (n.outbox ++ q ∷ [])) alone
+
+  module _ (v0 : TasksView) (x : TaskState) (did : Did n.tasks v0 u x n.tasks.told)
+      (recs : x.records ≡ (state_of n.tasks u).records) where
+    local-posted : (a : Asked) → a.req.task ≡ u → IsLocal deck s (posted (with_tasks n v0) u a) qs
+    local-posted a by =
+        subst (λ b. IsLocal deck s (record n { tasks = w; outbox = b }) qs) (sym (box-ring v0 a.req)) (record {
+          own =
+              by_task w z n.tasks.told did2 (λ t y. Matches is_local n.own t y.records)
+              (subst (Matches is_local n.own u) (sym recs) (h.own u ms ours)) (λ t ls o apart. h.own t ls o);
+          shared =
+              by_task w z n.tasks.told did2 (λ t y. Matches is_systems n.shared t y.records)
+              (subst (Matches is_systems n.shared u) (sym recs) (h.shared u ms ours))
+              (λ t ls o apart. h.shared t ls o);
+          sent =
+              by_task w z n.tasks.told did2 (λ t y. is_sent y.phase ≡ true → is_among t (askers qs) ≡ true)
+              (λ e. no_truth (is_sent phases.ToSend) e refl) (λ t ls o apart. h.sent t ls o);
+          boxed =
+              by_task w z n.tasks.told did2
+              (λ t y. is_to_send y.phase ≡ true → is_among t (askers (n.outbox ++ a.req ∷ [])) ≡ true)
+              (λ e.
+              among-last u n.outbox a.req (subst (λ t. same_task u t ≡ true) (sym by) (same_task-itself u)))
+              (λ t ls o apart e. among-more t n.outbox a.req (h.boxed t ls o e));
+        })
+      where
+        w : TasksView
+        w = with_outstanding (with_phase v0 u phases.ToSend) u (Some a)
+
+        z : TaskState
+        z = record x { phase = phases.ToSend; code = x.code; outstanding = Some a }
+
+        did2 :
+            Did n.tasks (with_outstanding (with_phase v0 u phases.ToSend) u (Some a)) u
+            (record x { phase = phases.ToSend; code = x.code; outstanding = Some a }) n.tasks.told
+        did2 =
+            did-outstanding v (with_phase v0 u phases.ToSend) u (record x { phase = phases.ToSend; code = x.code })
+            v.told ours.here (did-phase v v0 u x v.told ours.here did phases.ToSend) (Some a)
+
   -- ---- it asks, as it stands at x
   module _ (v0 : TasksView) (x : TaskState) (did : Did n.tasks v0 u x n.tasks.told)
       (recs : x.records ≡ (state_of n.tasks u).records) (free : (f : Phase → Bool) → IsQuiet f → f x.phase ≡ false)
@@ -156,56 +205,10 @@ module _ (deck : Deck) (s : ℕ) (n : NodeState) (qs : List Req) (alone : n.star
             → IsOurs deck s n.tasks t ls
         was_ours t ls o = record { lines = o.lines; home = o.home; here = sym (k.here t) ∙ o.here }
 
-    box-ring : (q : Req) → outbox_with (with_tasks n v0) q ≡ n.outbox ++ q ∷ []
-    box-ring q = ap (λ o. cond (is_some o) n.outbox (n.outbox ++ q ∷ [])) alone
-
     local-post : IsLocal deck s (post (with_tasks n v0) u w unit).node qs
     unfolding post
-    local-post = subst (λ b. IsLocal deck s (record n { tasks = w2; outbox = b }) qs) (sym (box-ring q)) (record {
-      own =
-          by_task w2 z n.tasks.told did2 (λ t y. Matches is_local n.own t y.records)
-          (subst (Matches is_local n.own u) (sym recs) (h.own u ms ours)) (λ t ls o apart. h.own t ls o);
-      shared =
-          by_task w2 z n.tasks.told did2 (λ t y. Matches is_systems n.shared t y.records)
-          (subst (Matches is_systems n.shared u) (sym recs) (h.shared u ms ours)) (λ t ls o apart. h.shared t ls o);
-      sent =
-          by_task w2 z n.tasks.told did2 (λ t y. is_sent y.phase ≡ true → is_among t (askers qs) ≡ true)
-          (λ e. no_truth (is_sent phases.ToSend) e refl) (λ t ls o apart. h.sent t ls o);
-      boxed =
-          by_task w2 z n.tasks.told did2
-          (λ t y. is_to_send y.phase ≡ true → is_among t (askers (n.outbox ++ q ∷ [])) ≡ true)
-          (λ e. among-last u n.outbox q (same_task-itself u))
-          (λ t ls o apart e. among-more t n.outbox q (h.boxed t ls o e));
-    })
-      where
-        q : Req
-        q = record { task = u; want = w }
-
-        a : Asked
-        a = record { req = record { task = u; want = w }; unit = unit }
-
-        w2 : TasksView
-        w2 =
-            with_outstanding (with_phase v0 u phases.ToSend) u
-            (Some (record { req = record { task = u; want = w }; unit = unit }))
-
-        z : TaskState
-        z = record {
-          line = x.line;
-          phase = phases.ToSend;
-          code = x.code;
-          records = x.records;
-          outstanding = Some (record { req = record { task = u; want = w }; unit = unit });
-          rows = x.rows;
-        }
-
-        did2 :
-            Did n.tasks (with_outstanding (with_phase v0 u phases.ToSend) u
-            (Some (record { req = record { task = u; want = w }; unit = unit })))
-            u z n.tasks.told
-        did2 =
-            did-outstanding v (with_phase v0 u phases.ToSend) u (record x { phase = phases.ToSend; code = x.code })
-            v.told ours.here (did-phase v v0 u x v.told ours.here did phases.ToSend) (Some a)
+    local-post =
+        local-posted v0 x did recs (record { req = record { task = u; want = w }; unit = unit; showing = None }) refl
 
     local-ask : IsLocal deck s (ask (with_tasks n v0) u w unit).node qs
     unfolding ask
@@ -250,6 +253,35 @@ module _ (deck : Deck) (s : ℕ) (n : NodeState) (qs : List Req) (alone : n.star
             (phases.HeldLine r))
             refl refl refl
 
+    -- a line that shows lists
+    asked-by : (d : Display) (more : ℕ) (o : Option StarPart) → (looks_asked u d more o).req.task ≡ u
+    asked-by d more None = refl
+    asked-by d more (Some p) = refl
+
+    local-around : (d : Display) (w : TasksView) (z : TaskState) → Did n.tasks w u z n.tasks.told
+        → z.records ≡ (state_of n.tasks u).records → z.phase ≡ phases.Ready → (count : ℕ)
+        → IsLocal deck s (look_around (with_tasks n w) u d count) qs
+    local-around d w z did recs phase zero =
+        local-same (tell_rows w u d.verb) (record z { rows = [] }) _ (did-shown v w u z v.told ours.here did d.verb)
+        recs (ap is_sent phase) (ap is_to_send phase)
+    local-around d w z did recs phase (suc more) =
+        local-posted w z did recs (looks_asked u d more n.star) (asked-by d more n.star)
+
+    local-show : (d : Display) → IsLocal deck s (show (with_tasks n (with_line n.tasks u)) u d).node qs
+    unfolding show
+    local-show d = go d.home
+      where
+        go : (home : Option SysId)
+            → IsLocal deck s (look_around (look_home (with_tasks n (with_line n.tasks u)) u d home).node u d d.count)
+            qs
+        go None = local-around d (with_line v u) (record y { line = suc y.line }) did-next refl ready d.count
+        go (Some z) =
+            let rows : List Row = look n.own (Local u.system) d.filter in
+            local-around d (with_rows (with_line v u) u rows)
+            (record y { line = suc y.line; rows = y.rows ++ rows })
+            (did-rows v (with_line v u) u (record y { line = suc y.line }) v.told ours.here did-next rows) refl ready
+            d.count
+
     local-line : (l : Meaning) → IsLocal deck s (take_line deck.limit (with_tasks n (with_line n.tasks u)) u l).node qs
     unfolding take_line
     local-line (lines.Enq r c ret unit) =
@@ -259,6 +291,7 @@ module _ (deck : Deck) (s : ℕ) (n : NodeState) (qs : List Req) (alone : n.star
         local-ask (with_line v u) (record y { line = suc y.line }) did-next refl (quiet-ready y.phase ready)
         (Deq r have) r refl None
     local-line (lines.Wait r) = local-wait r (record_of (state_of (with_line v u) u).records r)
+    local-line (lines.Shows d) = local-show d
     local-line lines.Nothing =
         local-same (with_line v u) (record y { line = suc y.line }) v.told did-next refl (ap is_sent ready)
         (ap is_to_send ready)
@@ -306,4 +339,4 @@ read-task deck s n qs alone system distinct t may h =
     subst (λ o. IsRead deck s (task_step deck.limit n t o).node qs) (sym ours.1.lines)
     (local-read deck s (task_step deck.limit n t (Some ours.0)).node qs
     (local-task deck s n qs alone h t ours.0 ours.1 (distinct t ours.0 ours.1))
-    (date-task deck n h.date t ours.0 ours.1.lines ours.1.here))
+    (date-task true deck n (λ e. alone) h.date t ours.0 ours.1.lines ours.1.here))

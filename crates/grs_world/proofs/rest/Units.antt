@@ -369,6 +369,7 @@ reserves-unit u None = refl
 reserves-unit u (Some (lines.Enq r c ret unit)) = refl
 reserves-unit u (Some (lines.Deq r have)) = refl
 reserves-unit u (Some (lines.Wait r)) = refl
+reserves-unit u (Some (lines.Shows d)) = refl
 reserves-unit u (Some lines.Nothing) = refl
 
 state-at : (v : TasksView) (t : TaskId) (i : ℕ) → t.task ≡ i → state_of v t ≡ get_or v.tasks i new_task

@@ -2,7 +2,8 @@
 use Rattle.std.proofs.Common.{◌≡◌, ◌≤◌, ◌+◌, ℕ, true, List, [], ◌∷◌, ◌++◌, Some, None, refl, ap, sym, ◌∙◌, subst, arith}
 use Rattle.std.proofs.Common.{false}
 use Rattle.std.specs.Prelude.{slice_get}
-use Rattle.grs_base.specs.State.{list_of}
+use Rattle.grs_base.specs.declared.resource.Res.{Res}
+use Rattle.grs_base.specs.State.{State, is_systems, list_of}
 use Rattle.grs_base.specs.declared.resource.SysId.{SysId}
 use Rattle.grs_base.specs.declared.resource.TaskId.{TaskId}
 use Rattle.grs_legal.specs.Asks.{lines_of}
@@ -18,11 +19,13 @@ use Rattle.grs_known.proofs.known.Histories.{made_item}
 use Rattle.grs_known.proofs.known.ItemLaws.{lists-push}
 use Rattle.grs_wire.proofs.WantLaws.{list_of-want_other}
 use Rattle.grs_known.proofs.system.Says.{own_requests}
-use Rattle.grs_known.specs.Items.{RunItem, items, lists}
+use Rattle.grs_known.specs.Items.{RunItem, goes_round, items, lists}
+use Rattle.grs_wire.specs.History.{after_fixed}
 use Rattle.grs_world.proofs.move.Changing.{IsChanging}
 use Rattle.grs_world.proofs.move.Late.{CameLate, desk_late, nothing_late, task_late, turn_late, informed_late}
 use Rattle.grs_world.proofs.move.Late.{vary_late}
 use Rattle.grs_world.proofs.rest.Restful.{IsRestful, restful-turned, restful-waits}
+use Rattle.grs_world.proofs.rest.Events.{date-any}
 use Rattle.grs_world.proofs.rest.Ring.{IsRead, distinct-at, desk-read, known-read}
 use Rattle.grs_world.proofs.rest.RingRun.{still_of}
 use Rattle.grs_world.proofs.rest.Tasks.{read-task}
@@ -67,7 +70,8 @@ module _ (deck : Deck) (w : World) (g : IsChanging deck w) (h : IsRestful deck w
   still-restful k flags fs none free table rk =
       let same : items (w.fixed ++ fixed_by c fs) ≡ items w.fixed =
       ap (λ zs. items (w.fixed ++ fixed_by c zs)) none ∙ items-none w.fixed c in
-      restful-waits deck w g h c n at alive alone k fs flags free table (record { date = rk.date; own = rk.own }) rk
+      restful-waits deck w g h c n at alive alone k fs flags free table
+      (record { date = date-any true deck _ rk.date; own = rk.own }) rk
       (λ r wide. ap (λ U. list_of (lists U) r) same)
       (subst (λ U. enq_count (items w.fixed) ≤ enq_count U) (sym same) (omega arith))
 
@@ -76,7 +80,7 @@ module _ (deck : Deck) (w : World) (g : IsChanging deck w) (h : IsRestful deck w
       → IsRestful deck (placed w c n (record { medium = w.medium; step = finish_quiet deck n (choices.Task t) }))
   unfolding finish_quiet
   task-restful t may =
-      by_step (quiet deck c.0 c T (g.before c.0) (g.due c.0 ++ g.since) (own_requests c.0 (g.due c.0)) n t alone
+      by_step (quiet deck c.0 c T (g.before c.0) (g.due c.0 ++ g.since) (own_requests c.0 (g.due c.0)) n t
       g.whole.right seen may)
     where
       kept : Stays n (task_step deck.limit n t (lines_of deck t)).node
@@ -87,6 +91,15 @@ module _ (deck : Deck) (w : World) (g : IsChanging deck w) (h : IsRestful deck w
           read-task deck c.0 n (still_of c.0 w.medium.message.entries) alone seen.good.system
           (distinct-at deck c.0 T (g.before c.0) (g.due c.0 ++ g.since) (own_requests c.0 (g.due c.0)) n seen) t may rd
 
+      -- what doesn't go with the message leaves the resources of the whole complex
+      elsewhere : (s : State) (r : Res) → is_systems r ≡ true → (f : Fixed) → goes_round f ≡ false
+          → list_of (after_fixed s f) r ≡ list_of s r
+      elsewhere s r wide (fixing.Asked q) away =
+          list_of-want_other s q.task q.want r (other-kind deck (record w { nodes = g.view }) g.whole c
+          (shown_at deck w.medium.message.entries c.0 n) (view-of deck w g c.0 n at alive) alive q.want r wide away)
+      elsewhere s r wide (fixing.LocalLook u filter) away = refl
+      elsewhere s r wide (fixing.Purged target) away = absurd (cc)
+
       by_step :
           QuietStep deck c.0 c (items w.fixed) (g.before c.0) (g.due c.0 ++ g.since) (own_requests c.0 (g.due c.0)) n
           (task_step deck.limit n t (lines_of deck t))
@@ -95,18 +108,16 @@ module _ (deck : Deck) (w : World) (g : IsChanging deck w) (h : IsRestful deck w
       by_step (keeps none then told) =
           still-restful (task_step deck.limit n t (lines_of deck t)).node w.medium.rest
           (task_step deck.limit n t (lines_of deck t)).fixed none (kept.star ∙ alone) (then.shared ∙ sym seen.shared) rk
-      by_step (fixes q one home away follow then told) =
-          let item : RunItem = made_item c T (fixing.Asked q) in
+      by_step (fixes f one away follow then told) =
+          let item : RunItem = made_item c T f in
           let same : items (w.fixed ++ fixed_by c (task_step deck.limit n t (lines_of deck t)).fixed) ≡ T ++ item ∷ [] =
-          ap (λ zs. items (w.fixed ++ fixed_by c zs)) one ∙ items-one w.fixed c (fixing.Asked q) in
+          ap (λ zs. items (w.fixed ++ fixed_by c zs)) one ∙ items-one w.fixed c f in
           restful-waits deck w g h c n at alive alone (task_step deck.limit n t (lines_of deck t)).node
           (task_step deck.limit n t (lines_of deck t)).fixed w.medium.rest (kept.star ∙ alone)
-          (then.shared ∙ sym seen.shared) (record { date = rk.date; own = rk.own }) rk
+          (then.shared ∙ sym seen.shared) (record { date = date-any true deck _ rk.date; own = rk.own }) rk
           (λ r wide.
           ap (λ U. list_of (lists U) r) same
-          ∙ (ap (λ s. list_of s r) (lists-push T item)
-          ∙ list_of-want_other (lists T) q.task q.want r (other-kind deck (record w { nodes = g.view }) g.whole c
-          (shown_at deck w.medium.message.entries c.0 n) (view-of deck w g c.0 n at alive) alive q.want r wide away)))
+          ∙ (ap (λ s. list_of s r) (lists-push T item) ∙ elsewhere (lists T) r wide f away))
           (subst (λ U. enq_count (items w.fixed) ≤ enq_count U) (sym same)
           (enq_count-grown (items w.fixed) (item ∷ [])))
 

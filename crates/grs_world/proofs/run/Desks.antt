@@ -1,8 +1,9 @@
 -- What an event tells at a desk, and what all lines told at desks so far say.
-use Rattle.std.proofs.Common.{◌≡◌, [], ◌+◌, ◌++◌, ◌-◌, ◌<◌, Bool, List, Option, Some, ap, arith, drop, false, length}
+use Rattle.std.proofs.Common.{◌≡◌, [], ◌+◌, ◌++◌, ◌-◌, ◌<◌, ◌≤◌, ◌⊎◌, inl, inr, Bool, List, Option, Some, ap, arith}
+use Rattle.std.proofs.Common.{drop, false, length}
 use Rattle.std.proofs.Common.{not, refl, subst, sym, true, ◌||◌, ℕ, ◌∙◌, ◌∷◌, ◌≢◌, None}
 use Rattle.std.specs.Prelude.{◌&&◌, ◌==◌, nat_lt, slice_get}
-use Rattle.std.proofs.lemmas.Bool.{and_from, and_parts, eq-eqb, lt-ltb, ltb-true, ne_eqb, or_left, or_right}
+use Rattle.std.proofs.lemmas.Bool.{and_from, and_parts, eq-eqb, eqb-false, lt-ltb, ltb-true, ne_eqb, or_left, or_right}
 use Rattle.std.proofs.Math.Seq.{drop-append_seam}
 use Rattle.std.specs.List.{list_all, list_any}
 use Rattle.std.proofs.lemmas.List.Folds.{list_all-append, list_any-append}
@@ -12,6 +13,7 @@ use Rattle.grs_known.proofs.known.Histories.{OrdersFit}
 use Rattle.grs_world.proofs.run.Runs.{AllBy, GoodTold, Tells, at_desk, by_node, to_tasks}
 use Rattle.grs_world.specs.Agree.{DeskAgrees, HasCause, Moment, purges, is_desk_before, order_in, order_of, tells_star}
 use Rattle.grs_world.specs.Agree.{was_star}
+use Rattle.grs_world.specs.Passed.{is_desk_line}
 use Rattle.grs_world.specs.World.{Turnout, World, counted, placed, told_by, fixed_by}
 use Rattle.grs_node.specs.Log.{told_in}
 use Rattle.grs_wire.specs.declared.deck.Deck.{Deck}
@@ -62,11 +64,18 @@ pub data EventTells (deck : Deck) (c : SysId) (H : List HistEntry) (fixed : List
 abbrev pub is_desk_told : ℕ → ℕ → Told → Bool
 is_desk_told s k x = not (x.system.0 == s) || is_desk_before k x.line
 
--- What was told at desks: that the complex changed, where it did; and at each system's desk of the lines that are done.
+-- whether this is told at a system's desk, of the line of this number
+abbrev pub is_told_at : ℕ → ℕ → Told → Bool
+is_told_at s k x = (x.system.0 == s) && is_desk_line k x.line
+
+-- What was told at desks: that the complex changed, where it did; and at each system's desk of the lines that are done,
+-- and of each of these.
 pub record GoodDesks (deck : Deck) (w : World) : Type 0 where
   pub changes : list_any (λ x. tells_star x.line) w.told ≡ (w.medium.star && not deck.star)
   pub lines : (s : ℕ) (n : NodeState) → slice_get w.nodes s ≡ Some n
       → list_all (is_desk_told s (n.done + 1)) w.told ≡ true
+  pub each : (s : ℕ) (n : NodeState) → slice_get w.nodes s ≡ Some n → (k : ℕ) → 0 < k → k ≤ n.done
+      → list_any (is_told_at s k) w.told ≡ true
 
 -- ---- the line agrees
 -- what a desk line orders
@@ -148,7 +157,7 @@ module _ (deck : Deck) (es : List Event) (w : World) (g : GoodTold deck es w) (d
 
 -- ---- one event more
 pub desks-counted : (deck : Deck) (w : World) → GoodDesks deck w → GoodDesks deck (counted w)
-desks-counted deck w d = record { changes = d.changes; lines = d.lines }
+desks-counted deck w d = record { changes = d.changes; lines = d.lines; each = d.each }
 
 any-told_by : (p : ToldLine → Bool) (e : ℕ) (c : SysId) (ls : List ToldLine)
     → list_any (λ x. p x.line) (told_by e c ls) ≡ list_any p ls
@@ -209,6 +218,21 @@ all-next s k (x ∷ xs) h =
     and_from (is_desk_told s (k + 1) x) (list_all (is_desk_told s (k + 1)) xs) (next-before s k x both.0)
     (all-next s k xs both.1)
 
+-- a desk line that a system tells
+told-at : (e : ℕ) (c : SysId) (k : ℕ) (ls : List ToldLine) → list_any (is_desk_line k) ls ≡ true
+    → list_any (is_told_at c.0 k) (told_by e c ls) ≡ true
+told-at e c k [] h = absurd (cc)
+told-at e c k (l ∷ ls) h = go (is_desk_line k l) refl h (told-at e c k ls)
+  where
+    go : (b : Bool) → is_desk_line k l ≡ b → (b || list_any (is_desk_line k) ls) ≡ true
+        → (list_any (is_desk_line k) ls ≡ true → list_any (is_told_at c.0 k) (told_by e c ls) ≡ true)
+        → (((c.0 == c.0) && is_desk_line k l) || list_any (is_told_at c.0 k) (told_by e c ls)) ≡ true
+    go true f m more =
+        or_left ((c.0 == c.0) && is_desk_line k l) (list_any (is_told_at c.0 k) (told_by e c ls))
+        (and_from (c.0 == c.0) (is_desk_line k l) (eq-eqb c.0 c.0 refl) f)
+    go false f m more =
+        or_right ((c.0 == c.0) && is_desk_line k l) (list_any (is_told_at c.0 k) (told_by e c ls)) (more m)
+
 module _ (deck : Deck) (w : World) (d : GoodDesks deck w) (c : SysId) (n : NodeState)
     (at : slice_get w.nodes c.0 ≡ Some n) (o : Turnout) where
   abbrev e : ℕ
@@ -219,9 +243,10 @@ module _ (deck : Deck) (w : World) (d : GoodDesks deck w) (c : SysId) (n : NodeS
       → ((w.medium.star && not deck.star) || list_any tells_star ls) ≡ (o.medium.star && not deck.star) →
       list_all (is_desk_told c.0 (o.step.node.done + 1)) w.told ≡ true
       → list_all (is_desk_told c.0 (o.step.node.done + 1)) (told_by (w.events + 1) c ls) ≡ true
+      → ((k : ℕ) → 0 < k → k ≤ o.step.node.done → (k ≤ n.done) ⊎ (list_any (is_desk_line k) ls ≡ true))
       → GoodDesks deck (placed w c n o)
   unfolding placed
-  desks-behind ls now mode old new = record {
+  desks-behind ls now mode old new reach = record {
     changes =
         ap (list_any (λ x. tells_star x.line)) told_is
         ∙ (list_any-append (λ x. tells_star x.line) w.told (told_by e c ls)
@@ -232,11 +257,32 @@ module _ (deck : Deck) (w : World) (d : GoodDesks deck w) (c : SysId) (n : NodeS
         (λ u k. list_all (is_desk_told u (k.done + 1)) (w.told ++ told_by e c (told_in n o.step)) ≡ true)
         (all c.0 (o.step.node.done + 1) old new)
         (λ u k ne there. all u (k.done + 1) (d.lines u k there) (others-before u (k.done + 1) e c ls ne));
+    each =
+        by_node w.nodes c.0 n o.step.node at
+        (λ u m.
+        (k : ℕ) → 0 < k → k ≤ m.done → list_any (is_told_at u k) (w.told ++ told_by e c (told_in n o.step)) ≡ true)
+        (λ k low l. by_reach k low (reach k low l)) (λ u m ne there k low l. older u k (d.each u m there k low l));
   }
     where
       told_is : w.told ++ told_by (w.events + 1) c (told_in n o.step) ≡ w.told ++ told_by (w.events + 1) c ls
       told_is =
           ap (λ xs. w.told ++ told_by e c xs) (ap (drop (length n.tasks.told)) now ∙ drop-append_seam n.tasks.told ls)
+
+      older : (u k : ℕ) → list_any (is_told_at u k) w.told ≡ true
+          → list_any (is_told_at u k) (w.told ++ told_by (w.events + 1) c (told_in n o.step)) ≡ true
+      older u k h =
+          ap (list_any (is_told_at u k)) told_is
+          ∙ (list_any-append (is_told_at u k) w.told (told_by e c ls)
+          ∙ or_left (list_any (is_told_at u k) w.told) (list_any (is_told_at u k) (told_by e c ls)) h)
+
+      by_reach : (k : ℕ) → 0 < k → (k ≤ n.done) ⊎ (list_any (is_desk_line k) ls ≡ true)
+          → list_any (is_told_at c.0 k) (w.told ++ told_by (w.events + 1) c (told_in n o.step)) ≡ true
+      by_reach k low (inl l) = older c.0 k (d.each c.0 n at k low l)
+      by_reach k low (inr h) =
+          ap (list_any (is_told_at c.0 k)) told_is
+          ∙ (list_any-append (is_told_at c.0 k) w.told (told_by e c ls)
+          ∙ or_right (list_any (is_told_at c.0 k) w.told) (list_any (is_told_at c.0 k) (told_by e c ls))
+          (told-at e c k ls h))
 
       all : (u k : ℕ) → list_all (is_desk_told u k) w.told ≡ true
           → list_all (is_desk_told u k) (told_by (w.events + 1) c ls) ≡ true
@@ -260,6 +306,15 @@ module _ (deck : Deck) (w : World) (d : GoodDesks deck w) (c : SysId) (n : NodeS
   more-done done =
       ap (λ k. list_all (is_desk_told c.0 (k + 1)) w.told) done ∙ all-next c.0 (n.done + 1) w.told (d.lines c.0 n at)
 
+  -- the next is told, where it is done
+  next-told : (said : Said) → o.step.node.done ≡ n.done + 1 → (k : ℕ) → 0 < k → k ≤ o.step.node.done
+      → (k ≤ n.done) ⊎ (list_any (is_desk_line k) (lines.Desk (n.done + 1) said ∷ []) ≡ true)
+  next-told said done k low l = go (n.done + 1 == k) refl
+    where
+      go : (b : Bool) → (n.done + 1 == k) ≡ b → (k ≤ n.done) ⊎ ((b || false) ≡ true)
+      go true e = inr refl
+      go false e = let ne : n.done + 1 ≢ k = eqb-false (n.done + 1) k e in inl (omega (arith, l, done, ne))
+
   pub desks-after : (H : List HistEntry) → EventTells deck c H o.step.fixed n o.step.node w.medium.star o.medium.star
       → GoodDesks deck (placed w c n o)
   desks-after H (tells_tasks news done mode) =
@@ -268,23 +323,24 @@ module _ (deck : Deck) (w : World) (d : GoodDesks deck w) (c : SysId) (n : NodeS
       ∙ (or-false (w.medium.star && not deck.star) ∙ ap (λ b. b && not deck.star) (sym mode)))
       (ap (λ k. list_all (is_desk_told c.0 (k + 1)) w.told) done ∙ d.lines c.0 n at)
       (tasks-before c.0 (o.step.node.done + 1) e c news.lines news.ours)
+      (λ k low l. inl (subst (λ m. k ≤ m) done l))
   desks-after H (tells_done next told done ring before now) =
       desks-behind (lines.Desk (n.done + 1) saids.StarDone ∷ []) told
       (or-true (w.medium.star && not deck.star) ∙ sym (ap (λ b. b && not deck.star) now ∙ ap not ring)) (more-done done)
-      (one-desk saids.StarDone done)
+      (one-desk saids.StarDone done) (next-told saids.StarDone done)
   desks-after H (tells_already next told done before now) =
       desks-behind (lines.Desk (n.done + 1) saids.StarAlready ∷ []) told
       (or-false (w.medium.star && not deck.star) ∙ ap (λ b. b && not deck.star) (before ∙ sym now)) (more-done done)
-      (one-desk saids.StarAlready done)
+      (one-desk saids.StarAlready done) (next-told saids.StarAlready done)
   desks-after H (tells_removed target next told done mode one) =
       desks-behind (lines.Desk (n.done + 1) saids.VaryDone ∷ []) told
       (or-false (w.medium.star && not deck.star) ∙ ap (λ b. b && not deck.star) (sym mode)) (more-done done)
-      (one-desk saids.VaryDone done)
+      (one-desk saids.VaryDone done) (next-told saids.VaryDone done)
   desks-after H (tells_no_such target next told done mode gone) =
       desks-behind (lines.Desk (n.done + 1) saids.VaryNoSuch ∷ []) told
       (or-false (w.medium.star && not deck.star) ∙ ap (λ b. b && not deck.star) (sym mode)) (more-done done)
-      (one-desk saids.VaryNoSuch done)
+      (one-desk saids.VaryNoSuch done) (next-told saids.VaryNoSuch done)
   desks-after H (tells_in_star target next told done before now) =
       desks-behind (lines.Desk (n.done + 1) saids.VaryInStar ∷ []) told
       (or-false (w.medium.star && not deck.star) ∙ ap (λ b. b && not deck.star) (before ∙ sym now)) (more-done done)
-      (one-desk saids.VaryInStar done)
+      (one-desk saids.VaryInStar done) (next-told saids.VaryInStar done)

@@ -263,7 +263,7 @@ module _ (deck : Deck) (begins : deck.star ≡ false) (fits : may_be_star deck �
         → QuietStep deck e.system.0 e.system T before later (own_requests e.system.0 due) n step
         → Right (placed w e.system n (record { medium = w.medium; step = step }))
     by_quiet T before later step (keeps none seen told) = by_step step told
-    by_quiet T before later step (fixes q one home alone may seen told) = by_step step told
+    by_quiet T before later step (fixes f one alone may seen told) = by_step step told
 
     -- lines of its tasks, where each of its tasks has none
     by_lines : {H : List HistEntry} (o : Turnout) → ToldNews deck e.system.0 H n.tasks.told o.step.node.tasks.told
@@ -305,8 +305,8 @@ module _ (deck : Deck) (begins : deck.star ≡ false) (fits : may_be_star deck �
         by_desk n alive_here (g.later s) given o (n.done + 1) saids.VaryNoSuch (desk-told n saids.VaryNoSuch)
     right o (went_on task may) =
         by_quiet n alive_here (g.later s) given (items w.fixed) (g.before s) (g.later s) o.step
-        (quiet deck s e.system (items w.fixed) (g.before s) (g.later s) (own_requests s (g.later s)) n task
-        (ring.alone s n at) g.history (g.systems s n at alive_here) may)
+        (quiet deck s e.system (items w.fixed) (g.before s) (g.later s) (own_requests s (g.later s)) n task g.history
+        (g.systems s n at alive_here) may)
     right o (turn flags here) = λ t a.
         let out = take most_additions n.outbox in
         let after : NodeState =
@@ -368,7 +368,7 @@ module _ (deck : Deck) (begins : deck.star ≡ false) (fits : may_be_star deck �
       late_right n at h o (task_late task may) tells =
           by_quiet n (lives_at n at) (g.due s) (given_star (lives_at n at)) (items w.fixed) (g.before s)
           (g.due s ++ g.since) o.step (quiet deck s e.system (items w.fixed) (g.before s) (g.due s ++ g.since)
-          (own_requests s (g.due s)) n task h.alone g.whole.right h.seen may)
+          (own_requests s (g.due s)) n task g.whole.right h.seen may)
       late_right n at h o (turn_late flags here) tells =
           by_tells n (lives_at n at) (g.due s) (given_star (lives_at n at))
           (history (items (w.fixed ++ fixed_by e.system o.step.fixed))) o w.medium.star o.medium.star tells

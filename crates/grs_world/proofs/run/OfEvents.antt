@@ -17,7 +17,7 @@ use Rattle.grs_known.proofs.lists.Facts.{all-kept, slice_get-append, slice_get-e
 use Rattle.grs_world.proofs.run.Each.{each_event, each_run}
 
 -- A line of an event is one of it behind further events too.
-of-longer : (es : List Event) (e : Event) (x : Told) → is_of_event es x ≡ true → is_of_event (es ++ e ∷ []) x ≡ true
+pub of-longer : (es : List Event) (e : Event) (x : Told) → is_of_event es x ≡ true → is_of_event (es ++ e ∷ []) x ≡ true
 of-longer es e x h =
     let parts = and_parts (nat_lt 0 x.event) (is_event_of x.system (slice_get es (x.event - 1))) h in
     and_from (nat_lt 0 x.event) (is_event_of x.system (slice_get (es ++ e ∷ []) (x.event - 1))) parts.0
@@ -30,7 +30,7 @@ of-longer es e x h =
         subst (λ o. is_event_of x.system o ≡ true) (sym (slice_get-append es (e ∷ []) (x.event - 1) y at)) f
 
 -- The lines of the last event are of it.
-of-last : (es : List Event) (e : Event) (k : ℕ) (ls : List ToldLine) → k ≡ length es
+pub of-last : (es : List Event) (e : Event) (k : ℕ) (ls : List ToldLine) → k ≡ length es
     → list_all (is_of_event (es ++ e ∷ [])) (told_by (k + 1) e.system ls) ≡ true
 of-last es e k [] count = refl
 of-last es e k (l ∷ ls) count =

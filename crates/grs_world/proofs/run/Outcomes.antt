@@ -2,7 +2,6 @@
 use Rattle.std.proofs.Common.{◌≡◌, ℕ, List, [], ◌∷◌, ◌++◌, map, take, drop, refl, ap, sym, ◌∙◌, subst, append-nil}
 use Rattle.std.proofs.Common.{append_assoc, take-append-drop}
 use Rattle.std.specs.List.{list_all}
-use Rattle.std.proofs.lemmas.Bool.{eqb-true}
 use Rattle.grs_base.specs.declared.resource.SysId.{SysId}
 use Rattle.grs_node.specs.Node.{NodeState, Step, read_entries, put_in}
 use Rattle.grs_wire.specs.declared.deck.Deck.{Deck}
@@ -48,11 +47,10 @@ module _ (deck : Deck) (c : SysId) (P before later : List RunItem) (right : IsHi
     seen = seen;
     news = told-news told;
   }
-  quiet_outcome step (fixes q one home alone may seen told) =
-      let x : RunItem = made_item c P (Asked q) in
+  quiet_outcome step (fixes f one alone may seen told) =
+      let x : RunItem = made_item c P f in
       let nothing : rounds (x ∷ []) ≡ [] = filter-cons_left (λ z. goes_round z.fixed) x [] alone in
-      let grows : Grows deck c P (Asked q ∷ []) (P ++ x ∷ []) (rounds (x ∷ [])) =
-      more [] P [] q same (eqb-true q.task.system.0 c.0 home) may in
+      let grows : Grows deck c P (f ∷ []) (P ++ x ∷ []) (rounds (x ∷ [])) = more [] P [] f same may in
       record {
         items = P ++ x ∷ [];
         new = rounds (x ∷ []);

@@ -10,6 +10,7 @@ use Rattle.grs_base.specs.declared.resource.Res.{Res}
 use Rattle.grs_base.specs.declared.resource.SysId.{SysId}
 use Rattle.grs_base.specs.declared.resource.TaskId.{TaskId}
 use Rattle.grs_legal.specs.Asks.{lines_of}
+use Rattle.grs_legal.specs.declared.meaning.Display.{Display}
 use Rattle.grs_legal.specs.declared.meaning.Meaning.{Meaning}
 use Rattle.grs_legal.specs.declared.meaning.Meaning.TheVariants as lines
 use Rattle.grs_medium.specs.Apply.{row, is_live, joined, leave_row, mail_row, manages, purge_row, rest_row, resting}
@@ -18,9 +19,10 @@ use Rattle.grs_medium.specs.Apply.{without_system}
 use Rattle.grs_medium.specs.Medium.{MediumState, all_rest, awake, inbox, medium_at_end, word}
 use Rattle.grs_node.proofs.Fits.{by-reply}
 use Rattle.grs_node.specs.Node.{NodeState, Step, ask, change_to_star, decide, end_step, finish, finish_call}
-use Rattle.grs_node.specs.Node.{finish_quiet, finish_star, is_for_deck, may_go, may_send, is_pending, next_order}
-use Rattle.grs_node.specs.Node.{own_words, phase_step, post, prepare, prepared_by, purge_call, purged, put_in}
-use Rattle.grs_node.specs.Node.{read_entries, ready_step, send_own, star_call, star_need, star_step, switch_call}
+use Rattle.grs_node.specs.Node.{finish_quiet, finish_star, is_for_deck, look_home, may_go, may_send, is_pending}
+use Rattle.grs_node.specs.Node.{next_order, own_words, phase_step, post, prepare, prepared_by, purge_call, purged}
+use Rattle.grs_node.specs.Node.{put_in, read_entries, ready_step, send_own, show, star_call, star_need, star_step}
+use Rattle.grs_node.specs.Node.{switch_call}
 use Rattle.grs_node.specs.Node.{take_line, take_mail, take_step, task_step, turn_call, turned}
 use Rattle.grs_node.specs.Star.{StarPart, StarStep, begin_at, begun, decide_own, entry_asked, first_held, fixing_none}
 use Rattle.grs_node.specs.Star.{leave_step, may_leave, own_step, request_of, send_of, send_step, send_to, sent_to}
@@ -103,11 +105,20 @@ unfolding ask
 by_ask n t w unit =
     either (is_for_all (res_wanted w)) (post n t w unit) (decide n t w unit) (by_post n t w unit) (by_decide n t w unit)
 
+by_show : (n : NodeState) (t : TaskId) (d : Display) → RemovesNone (show n t d).fixed
+unfolding show
+by_show n t d = by_home d.home
+  where
+    by_home : (o : Option SysId) → RemovesNone (look_home n t d o).fixed
+    by_home None s = refl
+    by_home (Some u) s = refl
+
 by_line : (limit : ℕ) (n : NodeState) (t : TaskId) (l : Meaning) → RemovesNone (take_line limit n t l).fixed
 unfolding take_line
 by_line limit n t (lines.Enq r c ret unit) = by_ask n t _ unit
 by_line limit n t (lines.Deq r have) = by_ask n t (wants.Deq r have) None
 by_line limit n t (lines.Wait r) = nothing
+by_line limit n t (lines.Shows d) = by_show n t d
 by_line limit n t lines.Nothing = nothing
 
 by_end : (n : NodeState) (t : TaskId) (code : ℕ) (xs : List Rec) → RemovesNone (end_step n t code xs).fixed

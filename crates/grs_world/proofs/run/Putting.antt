@@ -1,6 +1,7 @@
 -- Requests of a system's outbox are put into the message.
-use Rattle.std.proofs.Common.{◌≡◌, cond, false, List, [], ◌∷◌, ◌++◌, map, refl, ap, sym, ◌∙◌, subst, append-nil}
+use Rattle.std.proofs.Common.{◌≡◌, cond, true, false, List, [], ◌∷◌, ◌++◌, map, refl, ap, sym, ◌∙◌, subst, append-nil}
 use Rattle.std.proofs.Common.{append_assoc}
+use Rattle.std.specs.List.{list_all}
 use Rattle.std.proofs.lemmas.Bool.{eq-eqb}
 use Rattle.std.proofs.lemmas.List.{map-append}
 use Rattle.grs_base.specs.declared.resource.SysId.{SysId}
@@ -10,12 +11,13 @@ use Rattle.grs_wire.specs.declared.request.Fixed.TheVariants.{Asked}
 use Rattle.grs_wire.specs.declared.request.Req.{Req}
 use Rattle.grs_known.specs.Items.{RunItem, goes_round, rounds, mine}
 use Rattle.grs_known.proofs.known.Histories.{IsHistory, made_item, asks-behind, AllAsk}
-use Rattle.grs_known.proofs.lists.Facts.{filter-cons_kept}
+use Rattle.grs_known.proofs.lists.Facts.{all-behind, filter-cons_kept}
 use Rattle.grs_known.proofs.lists.Owners.{is_among}
 use Rattle.grs_world.proofs.run.Growing.{fixeds, Grows, same, more, grows-history, grows-rounds, own_requests-append}
 use Rattle.grs_world.proofs.run.Growing.{asks-rounds, idle-asks}
+use Rattle.grs_world.proofs.run.Reading.{all-rounds}
 use Rattle.grs_known.proofs.system.Askers.{apart-before, askers-append}
-use Rattle.grs_world.proofs.system.AtNode.{Seen}
+use Rattle.grs_world.proofs.system.AtNode.{Seen, own_ask}
 use Rattle.grs_world.proofs.system.Puts.{MayPut, may_home, may_put, seen-put}
 use Rattle.grs_known.proofs.system.Says.{askers, stand_apart, own_requests}
 
@@ -46,8 +48,13 @@ module _ (deck : Deck) (c : SysId) (P before later : List RunItem) (right : IsHi
       (ap stand_apart (sym (askers-append (out ++ qs) (q ∷ rest))
       ∙ ap askers (append_assoc out qs (q ∷ rest) ∙ ap (λ z. out ++ z) (sym box)))
       ∙ p.seen.apart) in
+      let went : list_all (λ x. goes_round x.fixed) (later ++ p.new) ≡ true =
+      all-behind (λ x. goes_round x.fixed) before (later ++ p.new)
+      (ap (list_all (λ x. goes_round x.fixed))
+      (sym (grows-rounds p.grows ∙ ap (λ z. z ++ p.new) whole ∙ append_assoc before later p.new))
+      ∙ all-rounds p.items) in
       let idle : mine q.task (later ++ p.new) ≡ [] =
-      idle-asks deck c.0 q.task home (later ++ p.new) asks (ap (λ z. is_among q.task (askers z)) due ∙ alone) in
+      idle-asks deck c.0 q.task home (later ++ p.new) asks went (ap (λ z. is_among q.task (askers z)) due ∙ alone) in
       let m : MayPut deck p.items q =
       may_put deck c.0 p.items before (later ++ p.new) out n p.seen qs q rest box right' idle in
       let x : RunItem = made_item c p.items (Asked q) in
@@ -57,7 +64,8 @@ module _ (deck : Deck) (c : SysId) (P before later : List RunItem) (right : IsHi
         new = p.new ++ rounds (x ∷ []);
         grows =
             subst (λ fs. Grows deck c P fs (p.items ++ x ∷ []) (p.new ++ rounds (x ∷ [])))
-            (sym (map-append Asked qs (q ∷ []))) (more (map Asked qs) p.items p.new q p.grows home (m.follow c));
+            (sym (map-append Asked qs (q ∷ []))) (more (map Asked qs) p.items p.new (Asked q) p.grows
+            (own_ask q home (m.follow c)));
         seen =
             subst (λ zs. Seen deck c.0 (p.items ++ x ∷ []) before zs out n) (append_assoc later p.new (rounds (x ∷ [])))
             (seen-put deck c.0 p.items before (later ++ p.new) out n p.seen qs q rest box right' idle c (m.follow c)

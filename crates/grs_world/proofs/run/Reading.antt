@@ -3,7 +3,6 @@ use Rattle.std.proofs.Common.{◌≡◌, cond, Bool, true, false, ◌&&◌, ℕ,
 use Rattle.std.proofs.Common.{subst, append-nil, append_assoc}
 use Rattle.std.specs.List.{list_all}
 use Rattle.std.proofs.lemmas.Bool.{and_parts}
-use Rattle.grs_base.specs.State.{is_systems}
 use Rattle.grs_base.specs.declared.resource.SysId.{SysId}
 use Rattle.grs_node.specs.Node.{NodeState, with_side, process_removal, read_entry, read_entries}
 use Rattle.grs_wire.specs.declared.deck.Deck.{Deck}
@@ -12,12 +11,16 @@ use Rattle.grs_wire.specs.declared.medium.RingBody.TheVariants.{Request}
 use Rattle.grs_wire.specs.declared.medium.RingEntry.{RingEntry}
 use Rattle.grs_wire.specs.declared.request.Fixed.{Fixed}
 use Rattle.grs_wire.specs.declared.request.Fixed.TheVariants.{Asked, LocalLook, Purged}
+use Rattle.grs_wire.specs.Wants.{res_wanted}
 use Rattle.grs_wire.specs.declared.request.Req.{Req}
-use Rattle.ring_mode.specs.Ring.{Side, process, process_entry}
-use Rattle.grs_known.specs.Items.{RunItem, goes_round, rounds, history}
-use Rattle.grs_known.proofs.known.Histories.{IsAsk, AsksOrRemoves, an_ask, a_removal, AllAsk, IsHistory, goes-ask}
+use Rattle.grs_wire.specs.declared.request.Want.{Want}
+use Rattle.grs_wire.specs.declared.request.Want.TheVariants.{Enq, Deq, Release, Look}
+use Rattle.ring_mode.specs.Ring.{Side, is_for_all, process, process_entry}
+use Rattle.grs_known.specs.Items.{RunItem, wants_round, goes_round, rounds, history}
+use Rattle.grs_known.proofs.known.Histories.{IsAsk, AsksOrRemoves, an_ask, a_look, a_removal, AllAsk, IsHistory}
 use Rattle.grs_known.proofs.known.Histories.{asks-behind}
 use Rattle.grs_known.proofs.lists.Facts.{all-middle}
+use Rattle.grs_known.proofs.lists.Truths.{no_truth}
 use Rattle.grs_world.proofs.message.Stands.{Bodies, none, more, body_of}
 use Rattle.grs_world.proofs.run.Growing.{fixeds, asks-rounds}
 use Rattle.grs_known.proofs.told.News.{told-then, told-fewer}
@@ -38,15 +41,23 @@ abbrev pub read_all : NodeState → List RunItem → NodeState
 read_all n [] = n
 read_all n (x ∷ xs) = read_all (read_item n x.fixed) xs
 
-read-one : (deck : Deck) (n : NodeState) (x : RunItem) (a : IsAsk deck x) → is_systems a.res ≡ true
+-- what goes with the message is for the whole complex
+for-all : (w : Want) → wants_round w ≡ true → is_for_all (res_wanted w) ≡ true
+for-all (Enq r c ret full) h = h
+for-all (Deq r have) h = h
+for-all (Release r) h = h
+for-all (Look first count f) h = refl
+
+read-one : (deck : Deck) (n : NodeState) (x : RunItem) (a : IsAsk deck x) → goes_round x.fixed ≡ true
     → (e : RingEntry) (es : List RingEntry) → body_of x.fixed ≡ Some e.body
     → read_entries deck n (e ∷ es) ≡ read_entries deck (read_item n x.fixed) es
 unfolding read_entries process_entry
-read-one deck n x a wide e es body =
+read-one deck n x a round e es body =
     let q : Req = a.req in
     let side : Side = record { tasks = n.tasks; shared = n.shared } in
     let is : e.body ≡ Request q = some_body (sym body ∙ ap body_of a.asked) in
-    let now : process_entry side q ≡ process side q = rw (a.wanted, wide) refl in
+    let now : process_entry side q ≡ process side q =
+    ap (λ b. cond b (process side q) side) (for-all q.want (ap goes_round (sym a.asked) ∙ round)) in
     ap (λ b. read_entries deck (read_entry deck n b) es) is
     ∙ ap (λ b. read_entries deck (cond b (with_side n (process_entry side q)) n) es) a.known
     ∙ ap (λ m. read_entries deck (with_side n m) es) now
@@ -76,11 +87,12 @@ read-entries deck n (x ∷ xs) [] a round b = elim b [ ]
 read-entries deck n (x ∷ xs) (e ∷ es) a round (more body b) =
     first a.0 ∙ read-entries deck (read_item n x.fixed) xs es a.1 (and_parts _ _ round).1 b
   where
-    wide : (i : IsAsk deck x) → is_systems i.res ≡ true
-    wide i = sym (goes-ask deck x i) ∙ (and_parts (goes_round x.fixed) (list_all (λ y. goes_round y.fixed) xs) round).0
+    went : goes_round x.fixed ≡ true
+    went = (and_parts (goes_round x.fixed) (list_all (λ y. goes_round y.fixed) xs) round).0
 
     first : AsksOrRemoves deck x → read_entries deck n (e ∷ es) ≡ read_entries deck (read_item n x.fixed) es
-    first (an_ask i) = read-one deck n x i (wide i) e es body
+    first (an_ask i) = read-one deck n x i went e es body
+    first (a_look t f looks known) = no_truth (goes_round x.fixed) went (ap goes_round looks)
     first (a_removal target purged) = read-away deck n x target purged e es body
 
 -- ---- what is due is processed, item by item
@@ -137,13 +149,16 @@ module _ (deck : Deck) (s : ℕ) (P : List RunItem) (right : IsHistory deck P) (
             outbox = on.outbox ∙ box;
           }
 
-      by_item : More → AsksOrRemoves deck x → ReadTo (before ++ x ∷ later) n (read_all (read_item n x.fixed) later)
-      by_item goes (an_ask a) =
-          let round : goes_round x.fixed ≡ true =
+      went : goes_round x.fixed ≡ true
+      went =
           all-middle (λ y. goes_round y.fixed) before x (later ++ extra)
-          (ap (list_all (λ y. goes_round y.fixed)) (sym whole) ∙ all-rounds P) in
+          (ap (list_all (λ y. goes_round y.fixed)) (sym whole) ∙ all-rounds P)
+
+      by_item : More → AsksOrRemoves deck x → ReadTo (before ++ x ∷ later) n (read_all (read_item n x.fixed) later)
+      by_item goes (a_look t f looks known) = no_truth (goes_round x.fixed) went (ap goes_round looks)
+      by_item goes (an_ask a) =
           let reads : Reads deck s P before x (later ++ extra) out n a.req =
-          read deck s P before right x (later ++ extra) whole n out a (sym (goes-ask deck x a) ∙ round)
+          read deck s P before right x (later ++ extra) whole n out a (ap goes_round (sym a.asked) ∙ went)
           (subst (λ f. Seen deck s P before (x ∷ later ++ extra) (own_asked s f ++ out) n) a.asked seen) in
           subst (λ f. ReadTo (before ++ x ∷ later) n (read_all (read_item n f) later)) (sym a.asked)
           (then goes (after_read n a.req) reads.seen (told-fewer (λ t. among-back t out n.outbox) reads.told) refl)

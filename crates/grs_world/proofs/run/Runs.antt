@@ -102,7 +102,7 @@ of_system c t e = ap (λ n. record { 0 = n }) (sym (eqb-true t.system.0 c.0 e))
 told-agrees : (deck : Deck) (m : Moment) (n : ℕ) (c : SysId) (l : ToldLine) → is_line_of c.0 l ≡ true
     → AgreesBehind deck m.history (lines_of_told m.before) l → AgreesBy deck m n c l
 told-agrees deck m n c (lines.Coded t k part verb code) ours a = (a.0, (of_system c t ours, a.1))
-told-agrees deck m n c (lines.Shown t k verb code rows) ours a = a
+told-agrees deck m n c (lines.Shown t k verb code rows) ours a = (of_system c t ours, a)
 told-agrees deck m n c (lines.Post t k) ours a = (of_system c t ours, a)
 told-agrees deck m n c (lines.Ended t code) ours a = (of_system c t ours, a)
 told-agrees deck m n c (lines.Desk k said) ours a = absurd a

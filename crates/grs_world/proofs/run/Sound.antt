@@ -135,7 +135,7 @@ module _ (deck : Deck) (es : List Event) (e : Event) (ring : IsRing deck (run de
         → Outcome deck e.system P n (g.before e.system.0) (g.later e.system.0) [] (finish_quiet deck n (choices.Task t))
     task_outcome t may =
         quiet_outcome deck c P (g.before s) (g.later s) g.history (g.whole s) n (finish_quiet deck n (choices.Task t))
-        (quiet deck s c P (g.before s) (g.later s) (own_requests s (g.later s)) n t (ring.alone s n at) g.history seen
+        (quiet deck s c P (g.before s) (g.later s) (own_requests s (g.later s)) n t g.history seen
         may)
 
     task_done : (t : TaskId) → (finish_quiet deck n (choices.Task t)).node.done ≡ n.done

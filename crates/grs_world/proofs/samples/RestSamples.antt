@@ -1,11 +1,13 @@
 -- Worked runs that end at rest, by which the definition of nothing lost is checked.
-use Rattle.std.proofs.Common.{◌≡◌, ℕ, true, false, List, [], ◌∷◌, ◌++◌, Some, refl}
+use Rattle.std.proofs.Common.{◌≡◌, ℕ, true, false, List, [], ◌∷◌, ◌++◌, length, Some, refl, arith}
 use Rattle.std.specs.Prelude.{unwrap_or}
 use Rattle.std.specs.List.{count_by, list_any}
 use Rattle.grs_base.specs.Lists.{owns}
 use Rattle.grs_base.specs.Rnl.{no_entries}
 use Rattle.grs_base.specs.State.{list_of}
-use Rattle.grs_base.specs.declared.decision.Code.TheVariants.{C00, Wait}
+use Rattle.grs_base.specs.declared.decision.Code.TheVariants.{C00, C04, Wait}
+use Rattle.grs_base.specs.declared.look.Filter.TheVariants.{Named}
+use Rattle.grs_base.specs.Slices.{slice_of}
 use Rattle.grs_base.specs.declared.line.Line.{Line}
 use Rattle.grs_base.specs.declared.line.Line.TheVariants as lines
 use Rattle.grs_base.specs.declared.resource.Ctl.TheVariants.{E}
@@ -17,28 +19,41 @@ use Rattle.grs_base.specs.declared.resource.TaskId.{TaskId}
 use Rattle.grs_base.specs.declared.rnl.Form.TheVariants.{Specific}
 use Rattle.grs_base.specs.declared.rnl.RnlEntry.{RnlEntry}
 use Rattle.grs_base.specs.declared.rnl.Which.TheVariants as which
-use Rattle.grs_known.specs.Told.{entry_of_line, is_code_of, tells_control}
-use Rattle.grs_legal.specs.Asks.{lines_of}
+use Rattle.grs_known.specs.Told.{entries_of_line, entry_of_line, is_code_of, tells_control}
+use Rattle.grs_legal.specs.Asks.{lines_of, looks_in}
+use Rattle.grs_legal.specs.declared.meaning.Display.{Display}
 use Rattle.grs_legal.specs.Legal.{line_entries}
 use Rattle.grs_legal.specs.declared.meaning.Meaning.{Meaning}
+use Rattle.grs_medium.specs.Apply.{turn_row, row, apply}
 use Rattle.grs_medium.specs.Medium.{medium_at_end}
 use Rattle.grs_node.specs.Node.{decide, post, ask, wait, take_line, end_step, ready_step, phase_step, is_pending}
-use Rattle.grs_node.specs.Node.{may_go, prepare, finish_quiet, finish, first_node}
-use Rattle.grs_wire.specs.Masks.{has}
+use Rattle.grs_node.specs.Node.{may_go, prepare, finish_quiet, finish, first_node, show, read_entries, all_sent, put_in}
+use Rattle.grs_node.specs.Node.{finish_call, turned as system_turned}
+use Rattle.grs_wire.specs.Masks.{has, without, with_also}
+use Rattle.grs_wire.specs.Unseen.{unseen}
 use Rattle.grs_wire.specs.declared.deck.Deck.{Deck}
 use Rattle.grs_wire.specs.declared.deck.Event.{Event}
 use Rattle.grs_wire.specs.declared.history.HistEntry.{HistEntry}
 use Rattle.grs_wire.specs.declared.history.HistEntry.TheVariants.{Enq}
 use Rattle.grs_wire.specs.declared.seen.TaskEnd.TheVariants.{Waits}
+use Rattle.grs_wire.specs.declared.told.ToldLine.TheVariants.{Ended, Shown}
+use Rattle.grs_wire.specs.declared.told.Verb.TheVariants as verbs
 use Rattle.task_state.specs.Replies.{tell_code, record_enq, after_code, replied, passes_wait, tell_line, tell_untold}
-use Rattle.task_state.specs.Replies.{tell_control, tell_all, tell_new}
+use Rattle.task_state.specs.Replies.{tell_control, tell_all, tell_new, recalled, tell_answer, tell_answer_any}
+use Rattle.task_state.specs.Replies.{tell_rows}
+use Rattle.task_state.specs.Replies.{goes_on_looking}
+use Rattle.ring_mode.specs.Ring.{answer_own, process, process_entry}
+use Rattle.rsa_message.specs.Message.{first_after, any_unseen, cleared, stamped, turn_reply, wakes, rest_after_turn}
+use Rattle.rsa_message.specs.Message.{turned}
 use Rattle.task_state.specs.View.{state_of, with_state, with_line, with_phase, with_outstanding, with_record}
-use Rattle.task_state.specs.View.{without_record, with_told, with_exclusive, telling}
+use Rattle.task_state.specs.View.{without_record, with_told, with_exclusive, with_rows, without_rows, telling}
 use Rattle.grs_world.specs.Agree.{lines_of_told}
-use Rattle.grs_world.specs.AtRest.{first_uncoded, goes_on_with, is_coded, is_reserve, lists_after, unit_count}
+use Rattle.grs_world.specs.AtRest.{DisplaysAreTold, first_uncoded, goes_on_with, is_coded, is_reserve, lists_after}
+use Rattle.grs_world.specs.AtRest.{unit_count}
+use Rattle.grs_world.specs.Passed.{has_ended, lines_passed, state_in}
 use Rattle.grs_world.specs.Running.{at_rest, task_end, units_of}
 use Rattle.grs_world.specs.World.{first_world, carry_out, chosen, placed, happens_at, happens, run, hist, told}
-use Rattle.grs_world.proofs.samples.Samples.{system, task_of, own, enq, deq, wait_for, deck_of, goes}
+use Rattle.grs_world.proofs.samples.Samples.{system, task_of, own, enq, deq, wait_for, deck_of, goes, turn, at}
 
 -- two tasks, each of which reserves the volume that the other has reserved; both volumes are the system's own
 abbrev reserve : ℕ → ℕ → Line
@@ -162,3 +177,87 @@ unfolding state_of with_state with_line with_phase with_outstanding with_record 
     decide post ask wait take_line end_step ready_step phase_step may_go prepare finish_quiet finish has first_node
     first_world carry_out chosen placed happens_at happens
 waits_in_order = (refl, refl, refl, refl, refl, refl, refl)
+
+-- a task that displays a name: it looks at the lists of its system, and then at the slice of the name
+abbrev displays : Deck
+displays = deck_of (((lines.DisplayRes (65 ∷ []) (66 ∷ []) ∷ []) ∷ []) ∷ [])
+
+abbrev shows : List Meaning
+shows = unwrap_or (lines_of displays first) []
+
+abbrev the_display : Display
+the_display = record {
+  verb = verbs.Display;
+  home = Some (system 0);
+  first = slice_of (65 ∷ []) (66 ∷ []);
+  count = 1;
+  filter = Named (Some (65 ∷ [])) (Some (66 ∷ []));
+}
+
+-- it is told when its system has its own request back, and then it ends
+abbrev asked_one : List Event
+asked_one = goes 0 0 ∷ []
+
+abbrev asked_all : List Event
+asked_all = goes 0 0 ∷ turn 0 ∷ []
+
+abbrev displayed : List Event
+displayed = goes 0 0 ∷ turn 0 ∷ turn 0 ∷ goes 0 0 ∷ []
+
+pub shown_at_rest :
+    (at_rest displays (run displays displayed) ≡ true)
+    × (told displays displayed ≡ at 3 0 (Shown first 1 verbs.Display C04 []) ∷ at 4 0 (Ended first 0) ∷ [])
+    × (length (entries_of_line shows (line_entries first (hist displays displayed)) 1) ≡ length (looks_in the_display))
+    × (list_any (is_code_of first 1) (lines_of_told (told displays displayed)) ≡ true)
+    × (length (entries_of_line shows (line_entries first (hist displays asked_one)) 1) ≡ 1)
+    × (length (entries_of_line shows (line_entries first (hist displays asked_all)) 1) ≡ length (looks_in the_display))
+    × (at_rest displays (run displays asked_all) ≡ false)
+unfolding state_of with_state with_line with_phase with_outstanding with_record without_record with_told with_exclusive
+    with_rows without_rows telling tell_code record_enq after_code replied passes_wait tell_line tell_untold
+    tell_control
+    tell_all tell_new recalled tell_rows goes_on_looking tell_answer tell_answer_any answer_own process process_entry
+    decide post ask wait show take_line end_step ready_step phase_step may_go prepare finish_quiet read_entries
+    system_turned all_sent put_in finish_call finish is_pending has without with_also first_after unseen any_unseen
+    cleared stamped turn_reply wakes rest_after_turn turned turn_row row apply medium_at_end first_node first_world
+    carry_out chosen placed happens_at happens at_rest
+shown_at_rest = (refl, refl, refl, refl, refl, refl, refl)
+
+-- The moment before, all its looks stand and it isn't told: that a run may not leave.
+pub shown_late : DisplaysAreTold displays asked_all → ⊥
+unfolding state_of with_state with_line with_phase with_outstanding with_record without_record with_told with_exclusive
+    with_rows without_rows telling tell_code record_enq after_code replied passes_wait tell_line tell_untold
+    tell_control
+    tell_all tell_new recalled tell_rows goes_on_looking tell_answer tell_answer_any answer_own process process_entry
+    decide post ask wait show take_line end_step ready_step phase_step may_go prepare finish_quiet read_entries
+    system_turned all_sent put_in finish_call finish is_pending has without with_also first_after unseen any_unseen
+    cleared stamped turn_reply wakes rest_after_turn turned turn_row row apply medium_at_end first_node first_world
+    carry_out chosen placed happens_at happens at_rest
+shown_late told_all =
+    let no : false ≡ true =
+    told_all first shows 1 the_display (record { lines = refl; live = refl }) (omega arith) refl refl in
+    absurd (cc)
+
+-- how many lines a task has passed: one that is held by its answer or at a WAIT line is still at that, and so is one
+-- whose display isn't told
+abbrev passes : Deck → List Event → TaskId → ℕ
+passes deck es t = lines_passed (state_in deck es t)
+
+pub passed_lines :
+    (passes crossed (goes 0 0 ∷ []) first ≡ 1)
+    × (passes crossed both first ≡ 1)
+    × (passes waits_twice held_first second ≡ 2)
+    × (passes waits_twice held_second second ≡ 3)
+    × (passes displays asked_one first ≡ 0)
+    × (passes displays asked_all first ≡ 0)
+    × (passes displays displayed first ≡ 1)
+    × (has_ended (state_in displays displayed first).phase ≡ true)
+    × (has_ended (state_in displays (goes 0 0 ∷ turn 0 ∷ turn 0 ∷ []) first).phase ≡ false)
+unfolding state_of with_state with_line with_phase with_outstanding with_record without_record with_told with_exclusive
+    with_rows without_rows telling tell_code record_enq after_code replied passes_wait tell_line tell_untold
+    tell_control
+    tell_all tell_new recalled tell_rows goes_on_looking tell_answer tell_answer_any answer_own process process_entry
+    decide post ask wait show take_line end_step ready_step phase_step may_go prepare finish_quiet read_entries
+    system_turned all_sent put_in finish_call finish has without with_also first_after unseen any_unseen cleared stamped
+    turn_reply wakes rest_after_turn turned turn_row row apply first_node first_world carry_out chosen placed happens_at
+    happens
+passed_lines = (refl, refl, refl, refl, refl, refl, refl, refl, refl)

@@ -1,6 +1,6 @@
 -- Worked runs in star mode, by which the definitions are checked: each history, each told line and each lock word is
 -- what the rules of the service give by hand.
-use Rattle.std.proofs.Common.{◌≡◌, ℕ, true, false, List, [], ◌∷◌, ◌++◌, map, drop, refl}
+use Rattle.std.proofs.Common.{◌≡◌, ℕ, true, false, List, [], ◌∷◌, ◌++◌, map, drop, refl, Some}
 use Rattle.grs_base.specs.declared.decision.Code.TheVariants.{C00, C04, Wait}
 use Rattle.grs_base.specs.declared.line.Line.{Line}
 use Rattle.grs_base.specs.declared.line.Scope.TheVariants.{Systems}
@@ -11,28 +11,36 @@ use Rattle.grs_base.specs.declared.resource.Ret.TheVariants.{RetNone, RetEcb}
 use Rattle.grs_medium.specs.Apply.{row, apply, reply_to, submit_row, take_row, mail_row, leave_row, rest_row}
 use Rattle.grs_medium.specs.Medium.{medium_at_end}
 use Rattle.grs_node.specs.Node.{post, ask, take_line, end_step, ready_step, phase_step, is_pending, may_go, may_send}
-use Rattle.grs_node.specs.Node.{star_call, prepare, finish_quiet, finish_star, finish_call, finish, first_node}
+use Rattle.grs_node.specs.Node.{star_call, prepare, finish_quiet, finish_star, finish_call, finish, first_node, show}
 use Rattle.grs_node.specs.Star.{decide_own, took_mail}
 use Rattle.grs_wire.specs.LockWords.{manager, lock_word, submitted, leave_reply, leave_changes, left_word}
 use Rattle.grs_wire.specs.Masks.{has, without, with_also}
 use Rattle.grs_wire.specs.declared.deck.Deck.{Deck}
 use Rattle.grs_wire.specs.declared.deck.Event.{Event}
 use Rattle.grs_wire.specs.declared.deck.Choice.TheVariants as choices
-use Rattle.grs_wire.specs.declared.history.HistEntry.TheVariants.{Enq, Deq, Release}
+use Rattle.grs_wire.specs.declared.history.HistEntry.TheVariants.{Enq, Deq, Release, Look}
 use Rattle.grs_wire.specs.declared.medium.Act.TheVariants as acts
 use Rattle.grs_wire.specs.declared.medium.Reply.TheVariants as replies
-use Rattle.grs_wire.specs.declared.told.ToldLine.TheVariants.{Coded, Post, Ended}
+use Rattle.grs_wire.specs.declared.told.ToldLine.TheVariants.{Coded, Shown, Post, Ended}
 use Rattle.grs_wire.specs.declared.told.Verb.TheVariants as verbs
 use Rattle.lock_structure.specs.Words.{route}
 use Rattle.star_client.specs.Client.{tell_answer_ranked, after_mail}
 use Rattle.task_state.specs.Replies.{tell_code, record_enq, after_code, replied, passes_wait, tell_line, tell_untold}
 use Rattle.task_state.specs.Replies.{tell_control, tell_all, tell_new, recalled, tell_answer, tell_answer_any}
-use Rattle.task_state.specs.View.{state_of, with_state, with_line, with_phase, with_outstanding, with_record}
-use Rattle.task_state.specs.View.{without_record, with_told, with_exclusive, with_rank, telling}
+use Rattle.task_state.specs.Replies.{tell_rows, goes_on_looking}
+use Rattle.task_state.specs.View.{state_of, with_state, with_line, with_phase, with_outstanding, with_record, with_rows}
+use Rattle.task_state.specs.View.{without_record, with_told, with_exclusive, with_rank, telling, without_rows}
 use Rattle.grs_world.specs.Kept.{kept, places}
 use Rattle.grs_world.specs.Running.{at_rest}
 use Rattle.grs_world.specs.World.{first_world, carry_out, chosen, placed, happens_at, happens, run, hist, told}
 use Rattle.grs_world.proofs.samples.Samples.{system, task_of, shared, enq, deq, deck_of, goes, rest, at}
+use Rattle.grs_base.specs.declared.line.Line.TheVariants.{DisplayRes}
+use Rattle.grs_base.specs.declared.look.Filter.{Filter}
+use Rattle.grs_base.specs.declared.look.Filter.TheVariants.{Named}
+use Rattle.grs_base.specs.declared.look.Place.{Place}
+use Rattle.grs_base.specs.declared.look.Place.TheVariants.{Local, Slice}
+use Rattle.grs_base.specs.declared.resource.Row.{Row}
+use Rattle.grs_base.specs.Slices.{slice_of}
 
 -- events of star mode
 abbrev pub sends : ℕ → ℕ → Event
@@ -223,3 +231,45 @@ unfolding state_of with_state with_line with_phase with_outstanding with_record 
     take_row mail_row leave_row medium_at_end rest_row row apply first_node first_world carry_out chosen placed
     happens_at happens at_rest
 rests = (refl, refl, refl, refl, refl, refl, refl, refl, refl, refl, refl)
+
+-- ---- a line that shows lists
+-- The first system has the resource and manages the entry. A task of the second displays the name: the lists of its own
+-- system have nothing of it (event 3), and the manager answers for the slice of the name (6). One of the manager's own
+-- displays it too, and is told at once (9).
+abbrev displays : Line
+displays = DisplayRes (65 ∷ []) (66 ∷ [])
+
+abbrev shows : Deck
+shows = star_of (((enq 66 E Systems RetNone ∷ []) ∷ (displays ∷ []) ∷ []) ∷ ((displays ∷ []) ∷ []) ∷ [])
+
+abbrev looks_there : List Event
+looks_there = goes 0 0 ∷ sends 0 0 ∷ goes 1 0 ∷ sends 1 0 ∷ takes 0 ∷ settles 0 ∷ takes 1 ∷ []
+
+abbrev looks_here : List Event
+looks_here = goes 0 1 ∷ sends 0 1 ∷ []
+
+abbrev by_name : Filter
+by_name = Named (Some (65 ∷ [])) (Some (66 ∷ []))
+
+abbrev of_name : Place
+of_name = Slice (slice_of (65 ∷ []) (66 ∷ []))
+
+abbrev rows : List Row
+rows = record { res = shared 66; elems = elem 0 0 E ∷ []; owners = 1 } ∷ []
+
+shown :
+    (hist shows (looks_there ++ looks_here)
+    ≡ Enq (task_of 0 0) (shared 66) E RetNone C00
+    ∷ Look (task_of 1 0) (Local (system 1)) by_name [] ∷ Look (task_of 1 0) of_name by_name rows
+    ∷ Look (task_of 0 1) (Local (system 0)) by_name [] ∷ Look (task_of 0 1) of_name by_name rows ∷ [])
+    × (told shows (looks_there ++ looks_here)
+    ≡ at 2 0 (Coded (task_of 0 0) 1 0 verbs.Enq C00) ∷ at 7 1 (Shown (task_of 1 0) 1 verbs.Display C00 rows)
+    ∷ at 9 0 (Shown (task_of 0 1) 1 verbs.Display C00 rows) ∷ [])
+unfolding state_of with_state with_line with_phase with_outstanding with_record without_record with_told with_exclusive
+    with_rank with_rows without_rows telling tell_code record_enq after_code replied passes_wait tell_line tell_untold
+    tell_control tell_all tell_new recalled tell_rows goes_on_looking tell_answer tell_answer_any tell_answer_ranked
+    after_mail decide_own took_mail post ask show take_line end_step ready_step phase_step is_pending may_go may_send
+    star_call prepare finish_quiet finish_star finish_call finish has without with_also manager lock_word submitted
+    leave_reply leave_changes left_word route submit_row take_row mail_row leave_row medium_at_end rest_row row apply
+    first_node first_world carry_out chosen placed happens_at happens
+shown = (refl, refl)

@@ -1,7 +1,7 @@
 -- A worked run that changes from ring to star mode between the place at which a request is put into the message and its
 -- answer, by which the definitions are checked: what is told, what is kept and each lock word are what the rules of the
 -- service give by hand.
-use Rattle.std.proofs.Common.{◌≡◌, ℕ, true, false, List, [], ◌∷◌, ◌++◌, map, drop, refl}
+use Rattle.std.proofs.Common.{◌≡◌, ℕ, true, false, List, [], ◌∷◌, ◌++◌, map, drop, refl, Option, Some, None}
 use Rattle.std.specs.Prelude.{is_none, slice_get}
 use Rattle.grs_base.specs.declared.decision.Code.TheVariants.{C00, Wait}
 use Rattle.grs_base.specs.declared.line.Scope.TheVariants.{Systems}
@@ -10,8 +10,9 @@ use Rattle.grs_base.specs.declared.resource.Elem.{Elem}
 use Rattle.grs_base.specs.declared.resource.Ret.TheVariants.{RetNone}
 use Rattle.grs_medium.specs.Apply.{row, apply, turn_row, switch_row, submit_row, take_row, mail_row}
 use Rattle.grs_node.specs.Node.{post, ask, take_line, end_step, ready_step, phase_step, may_go, may_send, star_call}
-use Rattle.grs_node.specs.Node.{prepare, finish_quiet, finish_star, finish_call, finish, first_node, read_entries}
+use Rattle.grs_node.specs.Node.{prepare, finish_quiet, finish_star, finish_call, finish, first_node, read_entries, show}
 use Rattle.grs_node.specs.Node.{all_sent, put_in, switched, desk_told, change_to_star, turned as system_turned}
+use Rattle.grs_node.specs.Node.{NodeState}
 use Rattle.grs_node.specs.Star.{decide_own, took_mail}
 use Rattle.grs_wire.specs.LockWords.{manager, lock_word, submitted}
 use Rattle.grs_wire.specs.Masks.{has, without, with_also}
@@ -20,7 +21,7 @@ use Rattle.grs_wire.specs.declared.deck.Event.{Event}
 use Rattle.grs_wire.specs.declared.deck.SystemDef.{SystemDef}
 use Rattle.grs_wire.specs.declared.deck.Choice.TheVariants as choices
 use Rattle.grs_wire.specs.declared.deck.Order.TheVariants as orders
-use Rattle.grs_wire.specs.declared.history.HistEntry.TheVariants.{Enq, Deq}
+use Rattle.grs_wire.specs.declared.history.HistEntry.TheVariants.{Enq, Deq, Look as Looked}
 use Rattle.grs_wire.specs.declared.told.Said.TheVariants.{StarDone, StarAlready}
 use Rattle.grs_wire.specs.declared.told.ToldLine.TheVariants.{Coded, Desk}
 use Rattle.grs_wire.specs.declared.told.Verb.TheVariants as verbs
@@ -32,16 +33,24 @@ use Rattle.grs_wire.specs.Unseen.{unseen}
 use Rattle.star_client.specs.Client.{tell_answer_ranked, after_mail}
 use Rattle.task_state.specs.Replies.{tell_code, record_enq, after_code, replied, passes_wait, tell_line, tell_untold}
 use Rattle.task_state.specs.Replies.{tell_control, tell_all, tell_new, recalled, tell_answer, tell_answer_any}
-use Rattle.task_state.specs.View.{state_of, with_state, with_line, with_phase, with_outstanding, with_record}
-use Rattle.task_state.specs.View.{without_record, with_told, with_exclusive, with_rank, telling}
+use Rattle.task_state.specs.Replies.{tell_rows, goes_on_looking}
+use Rattle.task_state.specs.View.{state_of, with_state, with_line, with_phase, with_outstanding, with_record, with_rows}
+use Rattle.task_state.specs.View.{without_record, with_told, with_exclusive, with_rank, telling, without_rows}
 use Rattle.grs_world.specs.Decks.{may_be_star}
 use Rattle.grs_world.specs.Interest.{interest_at, manages_at}
 use Rattle.grs_world.specs.Kept.{kept, places}
 use Rattle.grs_world.specs.World.{first_world, carry_out, chosen, placed, happens_at, happens, run, hist, told}
 use Rattle.grs_world.proofs.samples.Samples.{system, task_of, shared, enq, deq, deck_of, goes, turn, at}
 use Rattle.grs_world.proofs.samples.StarSamples.{sends, takes, settles, tells}
+use Rattle.grs_base.specs.declared.line.Line.TheVariants.{Gqscan}
+use Rattle.grs_base.specs.declared.look.Filter.TheVariants.{All}
+use Rattle.grs_base.specs.declared.look.Place.TheVariants.{Slice}
+use Rattle.grs_wire.specs.declared.request.Want.TheVariants.{Look}
+use Rattle.std.specs.Option.{option_map}
+use Rattle.task_state.specs.declared.state.Asked.{Asked}
+use Rattle.task_state.specs.declared.state.TaskState.{TaskState}
 
-abbrev switches : ℕ → Event
+abbrev pub switches : ℕ → Event
 switches s = record { system = system s; choice = choices.Switch }
 
 -- A ring of two systems with one lock entry. Each has a task that asks for exclusive control of the same resource, and
@@ -135,3 +144,45 @@ samples = (
   refl,
   refl,
 )
+
+-- ---- looks in an outbox
+-- A task of the second system asks for all slices (event 1), in ring mode by one request. Before that is put in, the
+-- first system changes the complex (2). The second has its Turn at the closed message (3): the task asks for the first
+-- slice, with the others left behind it. Nobody manages its entry, so its system does, and decides the request (4);
+-- then the task asks for the next slice.
+abbrev looking : Deck
+looking =
+    let all : Deck = deck_of ([] ∷ ((Gqscan true All ∷ []) ∷ []) ∷ []) in
+    record all {
+      systems = map (λ (s : SystemDef). record s { desk = record { at = 0; order = orders.Star } ∷ [] }) all.systems;
+    }
+
+abbrev task_there : List Event → Option TaskState
+task_there es =
+    option_map (λ (n : NodeState). state_of n.tasks (task_of 1 0)) (slice_get (run looking es).nodes 1)
+
+abbrev asks_for : ℕ → ℕ → ℕ → Option (Option Asked)
+asks_for first count left =
+    Some (Some (record {
+      req = record { task = task_of 1 0; want = Look first count All };
+      unit = None;
+      showing = Some (record { verb = verbs.Gqscan; left = left });
+    }))
+
+abbrev outstanding : List Event → Option (Option Asked)
+outstanding es = option_map (λ (x : TaskState). x.outstanding) (task_there es)
+
+pub slice_by_slice :
+    (outstanding (goes 1 0 ∷ switches 0 ∷ []) ≡ asks_for 0 64 0)
+    × (outstanding (goes 1 0 ∷ switches 0 ∷ turn 1 ∷ []) ≡ asks_for 0 1 63)
+    × (outstanding (goes 1 0 ∷ switches 0 ∷ turn 1 ∷ sends 1 0 ∷ []) ≡ asks_for 1 1 62)
+    × (hist looking (goes 1 0 ∷ switches 0 ∷ turn 1 ∷ sends 1 0 ∷ []) ≡ Looked (task_of 1 0) (Slice 0) All [] ∷ [])
+unfolding state_of with_state with_line with_phase with_outstanding with_record without_record with_told with_exclusive
+    with_rank with_rows without_rows telling tell_code record_enq after_code replied passes_wait tell_line tell_untold
+    tell_control tell_all tell_new recalled tell_rows goes_on_looking tell_answer tell_answer_any tell_answer_ranked
+    after_mail decide_own took_mail post ask show take_line end_step ready_step phase_step may_go may_send star_call
+    prepare finish_quiet finish_star finish_call finish read_entries all_sent put_in switched desk_told change_to_star
+    system_turned answer_own process process_entry has without with_also manager lock_word submitted route turn_row
+    switch_row submit_row take_row mail_row row apply first_after unseen any_unseen cleared stamped turn_reply wakes
+    rest_after_turn closed_by turned first_node first_world carry_out chosen placed happens_at happens
+slice_by_slice = (refl, refl, refl, refl)

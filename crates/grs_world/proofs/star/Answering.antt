@@ -24,9 +24,11 @@ use Rattle.grs_wire.specs.declared.history.HistEntry.{HistEntry}
 use Rattle.grs_wire.specs.declared.request.Fixed.{Fixed}
 use Rattle.grs_wire.specs.declared.request.Fixed.TheVariants as fixing
 use Rattle.grs_wire.specs.declared.request.Req.{Req}
+use Rattle.grs_wire.specs.declared.request.Want.{Want}
+use Rattle.grs_wire.specs.declared.request.Want.TheVariants.{Enq, Deq, Release, Look}
 use Rattle.grs_wire.specs.declared.told.ToldLine.{ToldLine}
 use Rattle.star_client.specs.Client.{tell_answer_ranked}
-use Rattle.task_state.specs.Replies.{replied, recalled, tell_answer, tell_new, tell_all, is_leaving}
+use Rattle.task_state.specs.Replies.{answered, recalled, tell_answer, tell_new, tell_all, is_leaving}
 use Rattle.task_state.specs.View.{TasksView, state_of, with_phase, is_sent}
 use Rattle.task_state.specs.declared.state.Asked.{Asked}
 use Rattle.task_state.specs.declared.state.Phase.TheVariants as phases
@@ -36,21 +38,23 @@ use Rattle.grs_known.specs.Known.{outstanding, Still}
 use Rattle.grs_known.specs.Past.{Past, past_of, may_leave}
 use Rattle.grs_known.proofs.known.Knowing.{one, one-none, one-some}
 use Rattle.grs_known.proofs.known.Histories.{IsHistory, MayFollow, made_item, follows, live-push, owns-may}
-use Rattle.grs_known.proofs.known.Knows.{known-all, owns-still, entry-learned, entry-decided}
+use Rattle.grs_known.proofs.known.Knows.{KnowsLooks, known-all, owns-still, entry-learned, entry-decided}
+use Rattle.grs_known.proofs.known.Knows.{looks-learned, looks-decided}
 use Rattle.grs_known.proofs.lists.Facts.{filter-cons_kept, all-filter, list_all-push}
 use Rattle.grs_known.proofs.lists.Owners.{is_among}
+use Rattle.grs_known.proofs.lists.Shows.{is_look, looks-are}
 use Rattle.grs_known.proofs.lists.Truths.{no_truth, task_swap}
 use Rattle.grs_known.proofs.tasks.Invariant.{IsTask}
 use Rattle.grs_known.proofs.system.Askers.{apart-push}
-use Rattle.grs_known.proofs.system.Asking.{unasked_by, IsOpenBy, Opens, IsReq, IsAskedBy, task-open}
+use Rattle.grs_known.proofs.system.Asking.{unasked_by, IsOpenBy, IsLooks, Opens, IsReq, IsAskedBy, task-open}
 use Rattle.grs_world.proofs.system.AtNode.{opens_of, Seen}
-use Rattle.grs_known.proofs.system.Events.{StaysGood, Decides, tells_good}
+use Rattle.grs_known.proofs.system.Events.{StaysGood, Decides, Looks, Leaves, tells_good}
 use Rattle.grs_known.proofs.system.Good.{IsGood, here-kept, here-other, ours-home}
 use Rattle.grs_known.proofs.system.Ours.{IsOurs, IsHere}
 use Rattle.grs_world.proofs.system.Puts.{MayPut, may_put, seen-put, put}
 use Rattle.grs_known.proofs.system.Says.{is_home_at, askers, stand_apart, ToldBy, none}
 use Rattle.grs_known.proofs.system.Outstanding.{asked-good}
-use Rattle.grs_world.proofs.star.Ghosts.{ghosted, IsAt, without-box}
+use Rattle.grs_world.proofs.star.Ghosts.{ghosted, IsAt, without-box, any_part}
 use Rattle.grs_world.proofs.star.Ranked.{ranked-good}
 
 -- ---- the answer to an outstanding request
@@ -58,6 +62,13 @@ tell-none : (v : TasksView) (o : Option Res) → tell_new v o [] ≡ v
 unfolding tell_new tell_all
 tell-none v None = refl
 tell-none v (Some r) = refl
+
+-- what asks for no resource looks
+pub want-looks : (S : State) (t : TaskId) (w : Want) → res_wanted w ≡ None → list_all is_look (entries_for S t w) ≡ true
+want-looks S t (Enq r c ret full) e = absurd (cc)
+want-looks S t (Deq r have) e = absurd (cc)
+want-looks S t (Release r) e = absurd (cc)
+want-looks S t (Look first count f) e = looks-are S t first count f
 
 module _ (deck : Deck) (s : ℕ) (os os' : Opens) (P P' : List RunItem) (v : TasksView) (good : IsGood deck s os P v)
     (t : TaskId) (ls : List Meaning) (ours : IsOurs deck s v t ls) where
@@ -68,20 +79,24 @@ module _ (deck : Deck) (s : ℕ) (os os' : Opens) (P P' : List RunItem) (v : Tas
   p = past_of t (good.tasks.each t ls ours).known P
 
   pub answers-asked : (a : Asked) → (state_of v t).outstanding ≡ Some a → (S : State)
-      → ((h : HistEntry) (r : Res) → entries_for S t a.req.want ≡ h ∷ [] → Decides deck os os' P P' t p h r [])
+      → ((h : HistEntry) (r : Res) → entries_for S t a.req.want ≡ h ∷ [] → Decides deck os os' P P' t p h r []) →
+      (res_wanted a.req.want ≡ None
+      → Looks deck os os' P P' t p (entries_for S t a.req.want) × (is_among t (askers os'.all) ≡ false)
+      × (is_among t (askers os'.out) ≡ false))
       → (rank : ℕ) →
       StaysGood deck s os' P' v.told (tell_answer_ranked v t a (answer_to S t a.req.want) rank)
   unfolding tell_answer tell_answer_ranked
-  answers-asked a is S d rank =
+  answers-asked a is S d shows rank =
       let x : TaskState = state_of v t in
       let opened : IsOpenBy deck.limit ls t x (Some a) = subst (λ o. IsOpenBy deck.limit ls t x o) is here.opened in
       let task : IsTask ls p v.told (λ r. is_leaving r (Some a)) t (unasked_by (Some a) x) =
       subst (λ o. IsTask ls p v.told (λ r. is_leaving r o) t (unasked_by o x)) is here.task in
+      let looks : IsLooks ls p.asked x.line (Some a) = subst (IsLooks ls p.asked x.line) is here.looks in
       let z =
-      subst (λ y. StaysGood deck s os' P' v.told y) (tell-none
-      (replied (recalled v t a.req.want) t a.req.want a.unit (answer_to S t a.req.want)) (res_wanted a.req.want))
-      (asked-good deck s os os' P P' v good t ls ours a.req.want a.unit S [] (task-open ls p v.told _ t _ None task)
-      opened.2 (λ h r wanted one. d h r one)) in
+      subst (λ y. StaysGood deck s os' P' v.told y)
+      (tell-none (answered (recalled v t a.req.want) t a (answer_to S t a.req.want)) (res_wanted a.req.want))
+      (asked-good deck s os os' P P' v good t ls ours a opened.0 S [] (task-open ls p v.told _ t _ None task) opened.2
+      looks (λ h r wanted one. d h r one) shows) in
       ranked-good deck s os' P' v.told _ t ls _ rank
       (record { lines = ours.lines; home = ours.home; here = z.good.here t (ours-home deck s v t ls ours) }) z
 
@@ -183,7 +198,7 @@ module _ (deck : Deck) (s : ℕ) (T later : List RunItem) (right : IsHistory dec
       Taken deck s T (others_of t later) (without_asker t out) n.tasks.told
       (tell_answer_ranked n.tasks t a (answer_to S t a.req.want) rank)
   takes-answer x S made due rank =
-      let z = answers-asked deck s os os' T T n.tasks k.good t ls ours a is S decides rank in
+      let z = answers-asked deck s os os' T T n.tasks k.good t ls ours a is S decides shows rank in
       record { good = z.good; told = z.told }
     where
       os' : Opens
@@ -199,6 +214,16 @@ module _ (deck : Deck) (s : ℕ) (T later : List RunItem) (right : IsHistory dec
           subst (IsAskedBy u o) (filter-append (λ q. not (same_task t q.task)) out [])
           (asked-filter (λ q. not (same_task t q.task)) u o (out ++ []) h)
 
+      leaves : Leaves deck os os' T T t
+      leaves u ms T1 T2 y apart told j =
+          here-kept deck os os' T T1 T2 u ms y (mine-others t u later apart) (fewer u y.outstanding)
+          (λ f. all-filter (λ q. not (same_task u q.task) || is_sent y.phase) (λ q. not (same_task t q.task)) out f)
+          told
+          j
+
+      away : is_among t (askers os'.all) ≡ false
+      away = ap (λ qs. is_among t (askers qs)) (append-nil (without_asker t out)) ∙ among-without t out
+
       decides : (h : HistEntry) (r : Res) → entries_for S t a.req.want ≡ h ∷ []
           → Decides deck (opens_of later out (ghosted n)) os' T T t (past_of t (k.good.tasks.each t ls ours).known T) h
           r []
@@ -208,15 +233,28 @@ module _ (deck : Deck) (s : ℕ) (T later : List RunItem) (right : IsHistory dec
             entry-learned deck T x t (k.good.tasks.each t ls ours).known h right
             (k.good.tasks.each t ls ours).knows.live (k.good.tasks.each t ls ours).knows.right is_due (made ∙ e);
         due = mine-none t later;
-        leaves = λ u ms T1 T2 y apart told j.
-            here-kept deck (opens_of later out (ghosted n)) os' T T1 T2 u ms y (mine-others t u later apart)
-            (fewer u y.outstanding)
-            (λ f. all-filter (λ q. not (same_task u q.task) || is_sent y.phase) (λ q. not (same_task t q.task)) out f)
-            told j;
-        away = ap (λ qs. is_among t (askers qs)) (append-nil (without_asker t out)) ∙ among-without t out;
+        leaves = leaves;
+        away = away;
         away_out = among-without t out;
         owners = λ u f. absurd (cc);
       }
+
+      shows : res_wanted a.req.want ≡ None
+          → Looks deck os os' T T t (past_of t (k.good.tasks.each t ls ours).known T) (entries_for S t a.req.want)
+          × (is_among t (askers os'.all) ≡ false) × (is_among t (askers os'.out) ≡ false)
+      shows absent = (
+        record {
+          right = right;
+          learns = subst (KnowsLooks T t (past_of t (k.good.tasks.each t ls ours).known T)) made
+              (looks-learned T x t (k.good.tasks.each t ls ours).known (k.good.tasks.each t ls ours).knows.live
+              (k.good.tasks.each t ls ours).knows.right is_due
+              (ap (list_all is_look) made ∙ want-looks S t a.req.want absent));
+          due = mine-none t later;
+          leaves = leaves;
+        },
+        away,
+        among-without t out,
+      )
 
   -- ---- The system decides the request itself.
   abbrev q : Req
@@ -230,12 +268,23 @@ module _ (deck : Deck) (s : ℕ) (T later : List RunItem) (right : IsHistory dec
       Taken deck s (T ++ x_own c ∷ []) later out n.tasks.told
       (tell_answer_ranked n.tasks t a (answer_to (lists T) t a.req.want) rank)
   decides-own c m idle free rank =
-      let z = answers-asked deck s os os T (T ++ x_own c ∷ []) n.tasks k.good t ls ours a is (lists T) decides rank in
+      let z =
+      answers-asked deck s os os T (T ++ x_own c ∷ []) n.tasks k.good t ls ours a is (lists T) decides shows rank in
       record { good = z.good; told = z.told }
     where
       none_open : outstanding t (k.good.tasks.each t ls ours).known T ≡ None
       none_open =
           one-none (outstanding t (k.good.tasks.each t ls ours).known T) (sym idle ∙ (k.good.tasks.each t ls ours).due)
+
+      leaves :
+          Leaves deck (opens_of later out (ghosted n)) (opens_of later out (ghosted n)) T (T ++ x_own c ∷ []) t
+      leaves u ms T1 T2 y apart told j =
+          here-kept deck (opens_of later out (ghosted n)) (opens_of later out (ghosted n)) (T ++ x_own c ∷ []) T1 T2 u
+          ms y refl (λ f. f) (λ f. f) told
+          (here-other deck (opens_of later out (ghosted n)) T (x_own c) T1 u ms y apart refl j)
+
+      away : is_among t (askers (out ++ [])) ≡ false
+      away = ap (λ qs. is_among t (askers qs)) (append-nil out) ∙ free
 
       decides : (h : HistEntry) (r : Res) → entries_for (lists T) t a.req.want ≡ h ∷ []
           → Decides deck (opens_of later out (ghosted n)) (opens_of later out (ghosted n)) T (T ++ x_own c ∷ []) t
@@ -248,14 +297,30 @@ module _ (deck : Deck) (s : ℕ) (T later : List RunItem) (right : IsHistory dec
             (k.good.tasks.each t ls ours).knows.right
             (known-all T t (k.good.tasks.each t ls ours).known (k.good.tasks.each t ls ours).knows.right none_open) e;
         due = idle;
-        leaves = λ u ms T1 T2 y apart told j.
-            here-kept deck (opens_of later out (ghosted n)) (opens_of later out (ghosted n)) (T ++ x_own c ∷ []) T1 T2 u
-            ms y refl (λ f. f) (λ f. f) told
-            (here-other deck (opens_of later out (ghosted n)) T (x_own c) T1 u ms y apart refl j);
-        away = ap (λ qs. is_among t (askers qs)) (append-nil out) ∙ free;
+        leaves = leaves;
+        away = away;
         away_out = free;
         owners = λ u f. absurd (cc);
       }
+
+      shows : res_wanted a.req.want ≡ None
+          → Looks deck (opens_of later out (ghosted n)) (opens_of later out (ghosted n)) T (T ++ x_own c ∷ []) t
+          (past_of t (k.good.tasks.each t ls ours).known T) (entries_for (lists T) t a.req.want)
+          × (is_among t (askers (out ++ [])) ≡ false) × (is_among t (askers out) ≡ false)
+      shows absent = (
+        record {
+          right = follows deck T (x_own c) right m;
+          learns = looks-decided T (x_own c) t (k.good.tasks.each t ls ours).known (same_task-itself t) refl
+              (live-push t T (x_own c) (k.good.tasks.each t ls ours).knows.live refl)
+              (k.good.tasks.each t ls ours).knows.right
+              (known-all T t (k.good.tasks.each t ls ours).known (k.good.tasks.each t ls ours).knows.right none_open)
+              (want-looks (lists T) t a.req.want absent);
+          due = idle;
+          leaves = leaves;
+        },
+        away,
+        free,
+      )
 
 -- ---- Own tasks that became owners are told.
 calm-one : (r : Res) (u : TaskId) (y : RunItem) (xs : List RunItem) → list_any (λ z. gives_back r z.fixed) xs ≡ false
@@ -289,6 +354,18 @@ tells-owners deck s T later out right T0 v k r ts owned calm =
           (owned u e),
     )) in
     record { good = z.good; told = z.told }
+
+-- those of what a request asks for, if it is a resource
+pub tells-new : (deck : Deck) (s : ℕ) (T later : List RunItem) (out : List Req) → IsHistory deck T
+    → (T0 : List ToldLine) (v : TasksView) → Taken deck s T later out T0 v → (o : Option Res) (ts : List TaskId) →
+    ((r : Res) → o ≡ Some r
+    → ((u : TaskId) → is_among u ts ≡ true → owns (list_of (lists T) r) u ≡ true)
+    × (list_any (λ y. gives_back r y.fixed) later ≡ false))
+    → Taken deck s T later out T0 (tell_new v o ts)
+unfolding tell_new
+tells-new deck s T later out right T0 v k None ts owned = k
+tells-new deck s T later out right T0 v k (Some r) ts owned =
+    let z = owned r refl in tells-owners deck s T later out right T0 v k r ts z.0 z.1
 
 -- ---- Control is taken.
 pub takes-control : (deck : Deck) (s : ℕ) (T later : List RunItem) (out : List Req) → IsHistory deck T → (n : NodeState)
@@ -333,7 +410,7 @@ module _ (deck : Deck) (s : ℕ) (T later : List RunItem) (right : IsHistory dec
     (k : IsAt deck s T later out n) (front : List Req) (q : Req) (rest : List Req) (among : out ≡ front ++ q ∷ rest)
     (idle : mine q.task later ≡ []) (c : SysId) where
   abbrev unsent : NodeState
-  unsent = record n { star = None; outbox = out; shared = [] }
+  unsent = record n { star = Some any_part; outbox = out; shared = [] }
 
   abbrev item : RunItem
   item = made_item c T (fixing.Asked q)
@@ -394,6 +471,7 @@ module _ (deck : Deck) (s : ℕ) (T later : List RunItem) (right : IsHistory dec
         due = sym (ap (mine u) items) ∙ z.due;
         task = z.task;
         opened = z.opened;
+        looks = z.looks;
         asked = was.asked;
         sent = was.sent;
       }
@@ -404,7 +482,7 @@ module _ (deck : Deck) (s : ℕ) (T later : List RunItem) (out : List Req) (n : 
     (is : (state_of n.tasks t).outstanding ≡ Some a) (free : is_among t (askers out) ≡ false) where
   -- the system with that request in its outbox
   abbrev boxed : NodeState
-  boxed = record n { star = None; outbox = request_of t a ∷ []; shared = [] }
+  boxed = record n { star = Some any_part; outbox = request_of t a ∷ []; shared = [] }
 
   asks : IsHere deck (opens_of later out (ghosted n)) T n.tasks.told t ls (state_of n.tasks t)
   asks = k.good.tasks.each t ls ours

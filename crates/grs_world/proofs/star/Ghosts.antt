@@ -1,47 +1,61 @@
 -- A system in star mode is read as one in the ring: its tasks and its own lists are the same; of the message nothing is
 -- in its table or its outbox. `later` are the items that others fixed for its tasks and whose answers are still to
 -- come, `out` the requests of its tasks that were sent and aren't answered yet.
-use Rattle.std.proofs.Common.{◌≡◌, ◌≢◌, ℕ, Bool, true, false, cond, List, [], ◌∷◌, ◌++◌, Option, Some, None, refl, ap}
+use Rattle.std.proofs.Common.{◌≡◌, ◌≢◌, ℕ, zero, suc, Bool, true, false, cond, List, [], ◌∷◌, ◌++◌, Option, Some, None}
+use Rattle.std.proofs.Common.{refl, ap}
 use Rattle.std.proofs.Common.{sym, ◌∙◌, subst, arith, append-nil}
-use Rattle.std.specs.Prelude.{slice_get, ◌==◌}
+use Rattle.std.specs.Prelude.{slice_get}
 use Rattle.std.specs.List.{list_all}
 use Rattle.std.proofs.lemmas.Bool.{cases_Bool}
 use Rattle.std.proofs.lemmas.List.Elements.{filter-append}
+use Rattle.grs_base.specs.Looks.{look}
+use Rattle.grs_base.specs.declared.look.Place.TheVariants.{Local}
 use Rattle.grs_base.specs.declared.resource.SysId.{SysId}
 use Rattle.grs_base.specs.declared.resource.TaskId.{TaskId}
+use Rattle.grs_base.specs.Same.{same_task}
+use Rattle.grs_base.proofs.SameLaws.{same_task-exact}
 use Rattle.grs_legal.specs.Asks.{lines_of}
+use Rattle.grs_legal.specs.declared.meaning.Display.{Display}
 use Rattle.grs_legal.specs.declared.meaning.Meaning.{Meaning}
 use Rattle.grs_legal.specs.declared.meaning.Meaning.TheVariants as lines
-use Rattle.grs_node.specs.Node.{NodeState, Step, with_tasks, post, decide, ask, take_line, end_step, ready_step}
-use Rattle.grs_node.specs.Node.{phase_step, task_step, finish_quiet, has_most, may_go}
+use Rattle.grs_node.specs.Node.{NodeState, Step, with_tasks, post, decide, ask, take_line, end_step, ready_step, posted}
+use Rattle.grs_node.specs.Node.{phase_step, task_step, finish_quiet, has_most, may_go, look_home, look_around, show}
+use Rattle.grs_node.specs.Node.{looks_asked}
 use Rattle.grs_wire.specs.Wants.{res_wanted}
 use Rattle.grs_wire.specs.declared.deck.Choice.TheVariants as choices
 use Rattle.grs_wire.specs.declared.deck.Deck.{Deck}
 use Rattle.grs_wire.specs.declared.history.HistEntry.{HistEntry}
-use Rattle.grs_wire.specs.declared.request.Fixed.TheVariants as fixing
+use Rattle.grs_wire.specs.declared.request.Fixed.{Fixed}
 use Rattle.grs_wire.specs.declared.request.Req.{Req}
 use Rattle.grs_wire.specs.declared.request.Want.{Want}
 use Rattle.grs_wire.specs.declared.request.Want.TheVariants.{Enq, Deq, Release}
 use Rattle.grs_wire.specs.declared.told.ToldLine.{ToldLine}
 use Rattle.grs_wire.specs.declared.told.ToldLine.TheVariants as told
 use Rattle.ring_mode.specs.Ring.{is_for_all}
-use Rattle.task_state.specs.View.{TasksView, state_of, with_line, with_phase}
+use Rattle.task_state.specs.View.{TasksView, state_of, with_line, with_phase, with_rows}
 use Rattle.task_state.specs.declared.state.Asked.{Asked}
 use Rattle.task_state.specs.declared.state.Phase.{Phase}
 use Rattle.task_state.specs.declared.state.Phase.TheVariants as phases
 use Rattle.task_state.specs.declared.state.Rec.{Rec}
-use Rattle.grs_known.specs.Items.{RunItem, goes_round, is_of, rounds, mine, history}
-use Rattle.grs_known.proofs.known.Histories.{IsHistory, IsAsk, MayFollow, made_item}
+use Rattle.grs_known.specs.Items.{RunItem, goes_round, is_of, removes_system_of, rounds, mine, history}
+use Rattle.grs_known.proofs.known.Histories.{IsHistory, IsAsk, made_item, stays-ask}
+use Rattle.grs_known.proofs.lists.Truths.{false_by}
 use Rattle.grs_known.proofs.system.Askers.{apart-front}
 use Rattle.grs_known.proofs.system.Asking.{Opens, IsAskedBy, are_sent}
-use Rattle.grs_world.proofs.system.AtNode.{opens_of, Seen, QuietStep, keeps, fixes, seen-other, mine-left, not-ours}
+use Rattle.grs_world.proofs.system.AtNode.{opens_of, Seen, MayFix, QuietStep, keeps, fixes, seen-other, mine-left}
+use Rattle.grs_world.proofs.system.AtNode.{seen-fixed, fix-home, fix-stays}
 use Rattle.grs_known.proofs.system.Good.{IsGood, here-kept}
 use Rattle.grs_known.proofs.system.Ours.{IsOurs}
 use Rattle.grs_world.proofs.system.Quiet.{quiet}
 use Rattle.grs_known.proofs.system.Says.{is_home_at, askers, stand_apart, Clears, ToldBy, none, more}
+use Rattle.grs_node.specs.Star.{StarPart, first_part}
+
+-- Its part is any: of it nothing is read but that the system has one, so that it looks at slices one by one.
+abbrev pub any_part : StarPart
+any_part = first_part (record { 0 = 0 }) 0
 
 abbrev pub ghosted : NodeState → NodeState
-ghosted n = record n { star = None; outbox = []; shared = [] }
+ghosted n = record n { star = Some any_part; outbox = []; shared = [] }
 
 -- What holds of a system of star mode by its tasks.
 abbrev pub IsAt : Deck → ℕ → List RunItem → List RunItem → List Req → NodeState → Type 0
@@ -104,13 +118,40 @@ without-later deck s T later xs out n away k = record {
 }
 
 -- ---- another system's item
+-- To system s this item is of others: it leaves the system, which has still to process it if it went with the message.
+pub record IsOthers (deck : Deck) (s : ℕ) (T : List RunItem) (x : RunItem) : Type 0 where
+  pub seen : (before later : List RunItem) (out : List Req) (n : NodeState) → Seen deck s T before later out n
+      → Seen deck s (T ++ x ∷ []) before (later ++ rounds (x ∷ [])) out n
+  pub apart : (t : TaskId) → t.system.0 ≡ s → is_of t x.fixed ≡ false
+  pub stays : (t : TaskId) → removes_system_of t x.fixed ≡ false
+
+-- a request of another system's task
+pub others-ask : (deck : Deck) (s : ℕ) (T : List RunItem) (x : RunItem) (a : IsAsk deck x) → a.req.task.system.0 ≢ s
+    → IsOthers deck s T x
+others-ask deck s T x a ne = record {
+  seen = λ before later out n k. seen-other deck s T before later out n x a k ne;
+  apart = λ t home.
+      ap (is_of t) a.asked
+      ∙ false_by (same_task t a.req.task)
+      (λ e. absurd (ne (ap (λ (z : TaskId). z.system.0) (sym (same_task-exact t a.req.task e)) ∙ home)));
+  stays = λ t. stays-ask deck t x a;
+}
+
+-- what another system fixes for a task of its own
+pub others-fix : (deck : Deck) (s u : ℕ) (c : SysId) (T : List RunItem) (f : Fixed) → MayFix deck s c T f → s ≢ u
+    → IsOthers deck u T (made_item c T f)
+others-fix deck s u c T f may ne = record {
+  seen = λ before later out n k. seen-fixed u before later out n k may ne;
+  apart = λ t home. false_by (is_of t f) (λ e. absurd (ne (sym (fix-home may t e) ∙ home)));
+  stays = λ t. fix-stays may t;
+}
+
 pub at-other :
-    (deck : Deck) (s : ℕ) (T later : List RunItem) (out : List Req) (n : NodeState) (x : RunItem) (a : IsAsk deck x)
-    → a.req.task.system.0 ≢ s → IsAt deck s T later out n → IsAt deck s (T ++ x ∷ []) later out n
-at-other deck s T later out n x a ne k =
+    (deck : Deck) (s : ℕ) (T later : List RunItem) (out : List Req) (n : NodeState) (x : RunItem)
+    → IsOthers deck s T x → IsAt deck s T later out n → IsAt deck s (T ++ x ∷ []) later out n
+at-other deck s T later out n x others k =
     without-later deck s (T ++ x ∷ []) later (rounds (x ∷ [])) out n
-    (λ u ls o. mine-left u [] x (not-ours deck s n.tasks x a ne u ls o))
-    (seen-other deck s T [] later out (ghosted n) x a k ne)
+    (λ u ls o. mine-left u [] x (others.apart u o.home)) (others.seen [] later out (ghosted n) k)
 
 -- ---- a task goes on by itself: what it does to the system as it is read is what it does to the system
 pub record Shows (a b : Step) : Type 0 where
@@ -138,13 +179,38 @@ shows-ask k t w unit = go (is_for_all (res_wanted w))
     go true = shows-post k t w unit
     go false = shows-decide k t w unit
 
-shows-line : (limit : ℕ) (k : NodeState) (t : TaskId) (l : Meaning)
+-- the same of a line that shows lists, at the system's own and at the slices
+shows-around : (k : NodeState) (p : StarPart) → k.star ≡ Some p → (t : TaskId) (d : Display) (count : ℕ)
+    → ghosted (look_around (ghosted k) t d count) ≡ ghosted (look_around k t d count)
+shows-around k p is t d zero = refl
+shows-around k p is t d (suc others) = ap (λ o. ghosted (posted k t (looks_asked t d others o))) (sym is)
+
+shows-show : (k : NodeState) (p : StarPart) → k.star ≡ Some p → (t : TaskId) (d : Display)
+    → Shows (show (ghosted k) t d) (show k t d)
+unfolding show
+shows-show k p is t d = go d.home
+  where
+    go : (home : Option SysId) →
+        Shows
+        (record {
+          node = look_around (look_home (ghosted k) t d home).node t d d.count;
+          fixed = (look_home (ghosted k) t d home).fixed;
+        })
+        (record { node = look_around (look_home k t d home).node t d d.count; fixed = (look_home k t d home).fixed })
+    go None = record { node = shows-around k p is t d d.count; fixed = refl }
+    go (Some u) = record {
+      node = shows-around (with_tasks k (with_rows k.tasks t (look k.own (Local t.system) d.filter))) p is t d d.count;
+      fixed = refl;
+    }
+
+shows-line : (limit : ℕ) (k : NodeState) (p : StarPart) → k.star ≡ Some p → (t : TaskId) (l : Meaning)
     → Shows (take_line limit (ghosted k) t l) (take_line limit k t l)
 unfolding take_line
-shows-line limit k t (lines.Enq r c ret unit) = shows-ask k t (Enq r c ret (has_most limit k.tasks t)) unit
-shows-line limit k t (lines.Deq r have) = shows-ask k t (Deq r have) None
-shows-line limit k t (lines.Wait r) = record { node = refl; fixed = refl }
-shows-line limit k t lines.Nothing = record { node = refl; fixed = refl }
+shows-line limit k p is t (lines.Enq r c ret unit) = shows-ask k t (Enq r c ret (has_most limit k.tasks t)) unit
+shows-line limit k p is t (lines.Deq r have) = shows-ask k t (Deq r have) None
+shows-line limit k p is t (lines.Wait r) = record { node = refl; fixed = refl }
+shows-line limit k p is t (lines.Shows d) = shows-show k p is t d
+shows-line limit k p is t lines.Nothing = record { node = refl; fixed = refl }
 
 shows-end : (k : NodeState) (t : TaskId) (code : ℕ) (xs : List Rec)
     → Shows (end_step (ghosted k) t code xs) (end_step k t code xs)
@@ -152,29 +218,30 @@ unfolding end_step
 shows-end k t code [] = record { node = refl; fixed = refl }
 shows-end k t code (x ∷ xs) = shows-ask k t (Release x.res) None
 
-shows-ready : (limit : ℕ) (k : NodeState) (t : TaskId) (l : Option Meaning)
+shows-ready : (limit : ℕ) (k : NodeState) (p : StarPart) → k.star ≡ Some p → (t : TaskId) (l : Option Meaning)
     → Shows (ready_step limit (ghosted k) t l) (ready_step limit k t l)
 unfolding ready_step
-shows-ready limit k t None =
+shows-ready limit k p is t None =
     shows-end (with_tasks k (with_phase k.tasks t (phases.Ending 0))) t 0
     (state_of (with_phase k.tasks t (phases.Ending 0)) t).records
-shows-ready limit k t (Some l) = shows-line limit (with_tasks k (with_line k.tasks t)) t l
+shows-ready limit k p is t (Some l) = shows-line limit (with_tasks k (with_line k.tasks t)) p is t l
 
-shows-phase : (limit : ℕ) (k : NodeState) (t : TaskId) (ls : List Meaning) (ph : Phase)
+shows-phase : (limit : ℕ) (k : NodeState) (p : StarPart) → k.star ≡ Some p
+    → (t : TaskId) (ls : List Meaning) (ph : Phase)
     → Shows (phase_step limit (ghosted k) t ls ph) (phase_step limit k t ls ph)
 unfolding phase_step
-shows-phase limit k t ls phases.Ready = shows-ready limit k t (slice_get ls (state_of k.tasks t).line)
-shows-phase limit k t ls (phases.Ending c) = shows-end k t c (state_of k.tasks t).records
-shows-phase limit k t ls phases.ToSend = record { node = refl; fixed = refl }
-shows-phase limit k t ls phases.Sent = record { node = refl; fixed = refl }
-shows-phase limit k t ls phases.HeldAnswer = record { node = refl; fixed = refl }
-shows-phase limit k t ls (phases.HeldLine r) = record { node = refl; fixed = refl }
-shows-phase limit k t ls phases.Ended = record { node = refl; fixed = refl }
+shows-phase limit k p is t ls phases.Ready = shows-ready limit k p is t (slice_get ls (state_of k.tasks t).line)
+shows-phase limit k p is t ls (phases.Ending c) = shows-end k t c (state_of k.tasks t).records
+shows-phase limit k p is t ls phases.ToSend = record { node = refl; fixed = refl }
+shows-phase limit k p is t ls phases.Sent = record { node = refl; fixed = refl }
+shows-phase limit k p is t ls phases.HeldAnswer = record { node = refl; fixed = refl }
+shows-phase limit k p is t ls (phases.HeldLine r) = record { node = refl; fixed = refl }
+shows-phase limit k p is t ls phases.Ended = record { node = refl; fixed = refl }
 
-shows-task : (limit : ℕ) (k : NodeState) (t : TaskId) (o : Option (List Meaning))
+shows-task : (limit : ℕ) (k : NodeState) (p : StarPart) → k.star ≡ Some p → (t : TaskId) (o : Option (List Meaning))
     → Shows (task_step limit (ghosted k) t o) (task_step limit k t o)
-shows-task limit k t None = record { node = refl; fixed = refl }
-shows-task limit k t (Some ls) = shows-phase limit k t ls (state_of k.tasks t).phase
+shows-task limit k p is t None = record { node = refl; fixed = refl }
+shows-task limit k p is t (Some ls) = shows-phase limit k p is t ls (state_of k.tasks t).phase
 
 -- ---- what is told agrees, whatever is open
 pub told-free : (deck : Deck) (s : ℕ) (opens : List Req) (P : List HistEntry) (T0 T : List ToldLine)
@@ -196,10 +263,9 @@ pub data TaskStep (deck : Deck) (s : ℕ) (c : SysId) (T later : List RunItem) (
     Type 0 where
   idles : st.fixed ≡ [] → IsAt deck s T later out st.node → ToldBy deck s [] (history T) n.tasks.told st.node.tasks.told
       → TaskStep deck s c T later out n st
-  does : (q : Req) → st.fixed ≡ fixing.Asked q ∷ [] → (q.task.system.0 == s) ≡ true
-      → goes_round (fixing.Asked q) ≡ false → MayFollow deck T (made_item c T (fixing.Asked q)) →
-      IsAt deck s (T ++ made_item c T (fixing.Asked q) ∷ []) later out st.node
-      → ToldBy deck s [] (history (T ++ made_item c T (fixing.Asked q) ∷ [])) n.tasks.told st.node.tasks.told
+  does : (f : Fixed) → st.fixed ≡ f ∷ [] → goes_round f ≡ false → MayFix deck s c T f
+      → IsAt deck s (T ++ made_item c T f ∷ []) later out st.node
+      → ToldBy deck s [] (history (T ++ made_item c T f ∷ [])) n.tasks.told st.node.tasks.told
       → TaskStep deck s c T later out n st
 
 -- a system as it is read, once more without its outbox
@@ -212,11 +278,12 @@ shown-told : (k m : NodeState) → ghosted k ≡ ghosted m → k.tasks.told ≡ 
 shown-told k m e = ap (λ (z : NodeState). z.tasks.told) e
 
 pub task-goes : (deck : Deck) (s : ℕ) (c : SysId) (T later : List RunItem) (out : List Req) (n : NodeState) (t : TaskId)
-    → IsHistory deck T → IsAt deck s T later out n → may_go deck n t ≡ true
+    (p : StarPart)
+    → n.star ≡ Some p → IsHistory deck T → IsAt deck s T later out n → may_go deck n t ≡ true
     → TaskStep deck s c T later out n (finish_quiet deck n (choices.Task t))
 unfolding may_go finish_quiet
-task-goes deck s c T later out n t right k goes =
-    by_step (quiet deck s c T [] later out (ghosted n) t refl right k goes)
+task-goes deck s c T later out n t p is right k goes =
+    by_step (quiet deck s c T [] later out (ghosted n) t right k goes)
   where
     before : Step
     before = task_step deck.limit (ghosted n) t (lines_of deck t)
@@ -225,7 +292,7 @@ task-goes deck s c T later out n t right k goes =
     after = task_step deck.limit n t (lines_of deck t)
 
     shows : Shows (task_step deck.limit (ghosted n) t (lines_of deck t)) (task_step deck.limit n t (lines_of deck t))
-    shows = shows-task deck.limit n t (lines_of deck t)
+    shows = shows-task deck.limit n p is t (lines_of deck t)
 
     by_step : QuietStep deck s c T [] later out (ghosted n) (task_step deck.limit (ghosted n) t (lines_of deck t))
         → TaskStep deck s c T later out n (task_step deck.limit n t (lines_of deck t))
@@ -233,9 +300,9 @@ task-goes deck s c T later out n t right k goes =
         idles (sym shows.fixed ∙ none_fixed) (shown-at deck s T later out before.node after.node shows.node seen)
         (subst (ToldBy deck s [] (history T) n.tasks.told) (shown-told before.node after.node shows.node)
         (told-free deck s (out ++ before.node.outbox) (history T) n.tasks.told before.node.tasks.told agreed))
-    by_step (fixes q one_fixed home away follow seen agreed) =
-        let T' : List RunItem = T ++ made_item c T (fixing.Asked q) ∷ [] in
-        does q (sym shows.fixed ∙ one_fixed) home away follow
+    by_step (fixes f one_fixed away may seen agreed) =
+        let T' : List RunItem = T ++ made_item c T f ∷ [] in
+        does f (sym shows.fixed ∙ one_fixed) away may
         (shown-at deck s T' later out before.node after.node shows.node seen)
         (subst (ToldBy deck s [] (history T') n.tasks.told) (shown-told before.node after.node shows.node)
         (told-free deck s (out ++ before.node.outbox) (history T') n.tasks.told before.node.tasks.told agreed))

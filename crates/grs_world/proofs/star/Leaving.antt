@@ -11,7 +11,7 @@ use Rattle.contention_mgr.specs.Manager.{entry_wanted}
 use Rattle.lock_structure.specs.Entries.{entry_of_res, is_entry}
 use Rattle.grs_base.specs.Same.{same_res, same_task}
 use Rattle.grs_base.specs.Lists.{has_task}
-use Rattle.grs_base.specs.State.{list_of}
+use Rattle.grs_base.specs.State.{list_of, State}
 use Rattle.grs_base.specs.declared.resource.Res.{Res}
 use Rattle.grs_base.specs.declared.resource.TaskId.{TaskId}
 use Rattle.grs_base.proofs.SameLaws.{same_res-exact, same_task-itself}
@@ -24,8 +24,6 @@ use Rattle.grs_wire.specs.declared.medium.Mail.{Mail}
 use Rattle.grs_wire.specs.declared.medium.Mail.TheVariants.{Request, Answered, Granted}
 use Rattle.grs_wire.specs.declared.request.Fixed.TheVariants as fixing
 use Rattle.grs_wire.specs.declared.request.Req.{Req}
-use Rattle.grs_wire.specs.declared.request.Want.{Want}
-use Rattle.grs_wire.specs.declared.request.Want.TheVariants.{Enq, Deq, Release, Look}
 use Rattle.lock_structure.specs.Laws.{is_interested}
 use Rattle.task_state.specs.View.{state_of, new_task}
 use Rattle.task_state.specs.declared.state.Asked.{Asked}
@@ -40,18 +38,20 @@ use Rattle.grs_known.proofs.lists.Facts.{filter-cons_kept, all-middle}
 use Rattle.grs_known.proofs.lists.Truths.{no_truth, false_by}
 use Rattle.grs_known.proofs.tasks.Invariant.{has_res}
 use Rattle.grs_world.proofs.system.AtNode.{opens_of}
-use Rattle.grs_known.proofs.system.Asking.{IsReq, IsAskedBy, IsAskedFor, IsOpenBy}
+use Rattle.grs_known.proofs.system.Asking.{IsReq, IsAskedBy, IsOpenBy}
 use Rattle.grs_known.proofs.system.Ours.{IsHere}
 use Rattle.grs_world.proofs.system.Puts.{home-task}
 use Rattle.grs_known.proofs.system.Says.{is_home_at}
-use Rattle.grs_known.proofs.system.Busy.{busy-idle, busy-behind}
+use Rattle.grs_known.proofs.system.Busy.{busy-idle, busy-behind, busy-looks}
 use Rattle.grs_world.proofs.star.Ghosts.{ghosted}
 use Rattle.grs_world.proofs.star.Members.{has_manager}
 use Rattle.grs_known.proofs.known.Blank.{blank}
 use Rattle.grs_world.proofs.star.OwnEvents.{late-in, given-entry}
 use Rattle.grs_world.proofs.star.Systems.{IsSystem, IsLate, AllLate, AllFit, Away, near_at, is_near, is_late, news_of}
 use Rattle.grs_world.proofs.star.Systems.{here, behind-late}
-use Rattle.grs_world.proofs.star.Under.{entry-same}
+use Rattle.grs_world.proofs.star.Under.{entry-same, want-entry}
+use Rattle.grs_world.proofs.star.Answering.{want-looks}
+use Rattle.grs_known.proofs.lists.Shows.{is_look}
 
 -- none of these tasks is busy, so neither is one of them
 any-at : {X : Type 0} (f : X → Bool) (xs : List X) (i : ℕ) (d : X) → list_any f xs ≡ false → i < length xs
@@ -191,25 +191,6 @@ module _ (deck : Deck) (words words' : List ℕ) (T : List RunItem) (right : IsH
           → entry_wanted deck.entries a.req.want ≡ entry_of_res deck.entries r → ⊥
       by_ask a is z = no_ask a is x (z ∙ at_x) refl
 
-      -- it asks for something
-      asks_some : (a : Asked) → (state_of n.tasks t).outstanding ≡ Some a
-          → (q : Res) × (res_wanted a.req.want ≡ Some q)
-          × (entry_wanted deck.entries a.req.want ≡ entry_of_res deck.entries q)
-      asks_some a is =
-          go a.req.want (subst (λ o.
-          IsOpenBy deck.limit (home-task deck s (opens_of later out (ghosted n)) T n.tasks t h.at.good home).0 t
-          (state_of n.tasks t) o)
-          is k.opened).2
-        where
-          go : (w : Want)
-              → IsAskedFor deck.limit (home-task deck s (opens_of later out (ghosted n)) T n.tasks t h.at.good home).0
-              (state_of n.tasks t).line (state_of n.tasks t).records w a.unit
-              → (q : Res) × (res_wanted w ≡ Some q) × (entry_wanted deck.entries w ≡ entry_of_res deck.entries q)
-          go (Enq q c ret full) z = (q, refl, refl)
-          go (Deq q have) z = (q, refl, refl)
-          go (Release q) z = (q, refl, refl)
-          go (Look first count f) z = absurd z
-
       by_element : has_task (list_of (lists T) r) t ≡ true → ⊥
       by_element has = go (outstanding t k.known T) refl
         where
@@ -220,7 +201,6 @@ module _ (deck : Deck) (words words' : List ℕ) (T : List RunItem) (right : IsH
               e has)
           go (Some y) e =
               let rq = request y e in
-              let some = asks_some rq.0 rq.1 in
               let due : mine t later ≡ y ∷ [] = k.due ∙ ap one e in
               let i = late-in deck words s t y [] later due h.late in
               let same : fixing.Asked i.req ≡ fixing.Asked (rq.0).req = sym i.asked ∙ rq.2 in
@@ -234,15 +214,26 @@ module _ (deck : Deck) (words words' : List ℕ) (T : List RunItem) (right : IsH
               i.made
               ∙ (ap (λ (q : Req). entries_for i.lists q.task q.want) req
               ∙ ap (λ z. entries_for i.lists z (rq.0).req.want) asker) in
-              decide rq.0 rq.1 some.0 some.2 (busy-behind deck (opens_of later out (ghosted n)) T right n.tasks.told t
-              (home-task deck s (opens_of later out (ghosted n)) T n.tasks t h.at.good home).0 (state_of n.tasks t) k r
-              rq.0 y i.lists e made some.0 some.1 has)
+              by_res rq.0 rq.1 i.lists made (res_wanted (rq.0).req.want) refl
             where
               decide : (a : Asked) → (state_of n.tasks t).outstanding ≡ Some a → (q : Res)
-                  → entry_wanted deck.entries a.req.want ≡ entry_of_res deck.entries q
-                  → (has_res r (state_of n.tasks t).records ≡ true) ⊎ (q ≡ r) → ⊥
-              decide a is q at (inl z) = by_record z
-              decide a is q at (inr z) = by_ask a is (at ∙ ap (entry_of_res deck.entries) z)
+                  → res_wanted a.req.want ≡ Some q → (has_res r (state_of n.tasks t).records ≡ true) ⊎ (q ≡ r) → ⊥
+              decide a is q wanted (inl z) = by_record z
+              decide a is q wanted (inr z) = by_ask a is (want-entry deck.entries a.req.want r (wanted ∙ ap Some z))
+
+              -- looks queue none
+              by_res : (a : Asked) → (state_of n.tasks t).outstanding ≡ Some a → (S : State)
+                  → y.entries ≡ entries_for S t a.req.want → (o : Option Res) → res_wanted a.req.want ≡ o → ⊥
+              by_res a is S made None none =
+                  by_record (busy-looks deck (opens_of later out (ghosted n)) T right n.tasks.told t
+                  (home-task deck s (opens_of later out (ghosted n)) T n.tasks t h.at.good home).0 (state_of n.tasks t)
+                  k
+                  r y e (ap (list_all is_look) made ∙ want-looks S t a.req.want none) has)
+              by_res a is S made (Some q) wanted =
+                  decide a is q wanted (busy-behind deck (opens_of later out (ghosted n)) T right n.tasks.told t
+                  (home-task deck s (opens_of later out (ghosted n)) T n.tasks t h.at.good home).0 (state_of n.tasks t)
+                  k
+                  r a y S e made q wanted has)
 
       by_outstanding : (o : Option RunItem) → outstanding t k.known T ≡ o → Still r t T o → ⊥
       by_outstanding None e z = by_element (owns-has (list_of (lists T) r) t z)

@@ -13,7 +13,7 @@ use Rattle.grs_base.specs.declared.resource.SysId.{SysId}
 use Rattle.grs_base.specs.declared.resource.TaskId.{TaskId}
 use Rattle.grs_base.proofs.SameLaws.{same_task-exact, same_task-itself}
 use Rattle.grs_legal.specs.Asks.{lines_of}
-use Rattle.grs_node.specs.Node.{NodeState, is_of_deck}
+use Rattle.grs_node.specs.Node.{NodeState, is_for_deck, is_of_deck, names_of_deck}
 use Rattle.grs_node.specs.Star.{StarPart}
 use Rattle.grs_wire.specs.History.{entries_for}
 use Rattle.grs_wire.specs.Wants.{answer_to}
@@ -49,6 +49,7 @@ use Rattle.grs_world.proofs.star.Answering.{Taken, takes-control, takes-answer, 
 use Rattle.grs_world.proofs.star.Answering.{mine-others, mine-none}
 use Rattle.grs_world.proofs.star.Ghosts.{ghosted, IsAt, told-free}
 use Rattle.grs_known.proofs.known.Blank.{blank, coming-same, coming-late, no-answer}
+use Rattle.grs_world.proofs.star.Named.{outstanding-named}
 use Rattle.grs_world.proofs.star.OwnEvents.{Goes, late-in}
 use Rattle.grs_known.proofs.system.Asking.{IsOpenBy, are_sent}
 use Rattle.grs_world.proofs.star.Systems.{gives, gives_want, gives-none, is_plain_answer, any-answer, IsSystem, IsLate}
@@ -415,10 +416,25 @@ module _ (deck : Deck) (words : List ℕ) (T : List RunItem) (right : IsHistory 
                 let e : x ≡ y = cc in
                 no_truth (gives x.fixed) (ap (λ (z : RunItem). gives z.fixed) e ∙ gave) keeps_all
 
-    -- a task that isn't of the deck is none of the system's
-    pub strange-answer : is_of_deck deck t ≡ false → (o : Option StarPart)
+    -- One that names what isn't of the deck is of no task that is here: what is answered these names tasks of the deck.
+    pub not_here : is_for_deck deck (Answered t answer rank) ≡ false → is_home_at deck s t ≡ false
+    not_here strange =
+        false_by (is_home_at deck s t)
+        (λ home.
+        no_truth (is_for_deck deck (Answered t answer rank))
+        (and_from (is_of_deck deck t) (names_of_deck deck answer)
+        (and_parts (t.system.0 == s) (is_of_deck deck t) home).1 (named home))
+        strange)
+      where
+        named : is_home_at deck s t ≡ true → names_of_deck deck answer ≡ true
+        named home =
+            let mail = (h.coming t home).0 (same_task-itself t) in
+            ap (names_of_deck deck) (sym mail.2)
+            ∙ outstanding-named deck T right t (blank (is_late t later)) mail.0 mail.1
+
+    pub strange-answer : is_for_deck deck (Answered t answer rank) ≡ false → (o : Option StarPart)
         → IsSystem deck words T s (record n { star = o }) ms later out
-    strange-answer strange o = unheard_away (and_right (t.system.0 == s) (is_of_deck deck t) strange) o
+    strange-answer strange o = unheard_away (not_here strange) o
 
     -- What taking the answer comes to: its item is learned, and its request is no longer open; or it has no effect.
     pub data TookAnswer (n' : NodeState) : Type 0 where

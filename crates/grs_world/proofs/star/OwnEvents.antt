@@ -1,9 +1,8 @@
 -- What an event of a system in star mode does to what holds of it.
 use Rattle.std.proofs.Common.{◌≡◌, ℕ, Bool, true, false, cond, ◌&&◌, ◌||◌, List, [], ◌∷◌, ◌++◌, Option, Some, None}
 use Rattle.std.proofs.Common.{refl, ap, sym, ◌∙◌, subst}
-use Rattle.std.specs.Prelude.{is_some, ◌==◌}
 use Rattle.std.specs.List.{list_all, list_any}
-use Rattle.std.proofs.lemmas.Bool.{and_parts, and_from}
+use Rattle.std.proofs.lemmas.Bool.{and_from}
 use Rattle.std.proofs.lemmas.Option.{same_Some}
 use Rattle.contention_mgr.specs.Manager.{entry_wanted}
 use Rattle.lock_structure.specs.Entries.{entry_of_res}
@@ -14,8 +13,7 @@ use Rattle.grs_base.specs.declared.resource.Res.{Res}
 use Rattle.grs_base.specs.declared.resource.Res.TheVariants.{Step as StepRes, System, Systems}
 use Rattle.grs_base.specs.declared.resource.SysId.{SysId}
 use Rattle.grs_base.specs.declared.resource.TaskId.{TaskId}
-use Rattle.grs_base.proofs.SameLaws.{same_res-exact, same_task-exact, same_task-itself}
-use Rattle.grs_legal.specs.Asks.{lines_of}
+use Rattle.grs_base.proofs.SameLaws.{same_res-exact, same_task-exact}
 use Rattle.grs_legal.specs.declared.meaning.Meaning.{Meaning}
 use Rattle.grs_node.specs.Node.{NodeState, Step, finish_quiet, may_go}
 use Rattle.grs_node.specs.Star.{StarPart, request_of}
@@ -24,30 +22,32 @@ use Rattle.grs_wire.specs.declared.deck.Choice.TheVariants as choices
 use Rattle.grs_wire.specs.declared.deck.Deck.{Deck}
 use Rattle.grs_wire.specs.declared.medium.Mail.{Mail}
 use Rattle.grs_wire.specs.declared.medium.Mail.TheVariants.{Request, Answered, Granted}
+use Rattle.grs_wire.specs.declared.request.Fixed.{Fixed}
 use Rattle.grs_wire.specs.declared.request.Fixed.TheVariants as fixing
 use Rattle.grs_wire.specs.declared.request.Req.{Req}
 use Rattle.grs_wire.specs.declared.request.Want.{Want}
 use Rattle.grs_wire.specs.declared.request.Want.TheVariants.{Enq, Deq, Release, Look}
 use Rattle.grs_wire.specs.declared.told.ToldLine.{ToldLine}
 use Rattle.star_client.specs.Client.{tell_answer_ranked}
-use Rattle.task_state.specs.Replies.{gives_up, tell_new, tell_all}
+use Rattle.task_state.specs.Replies.{gives_up, tell_new}
 use Rattle.task_state.specs.View.{TasksView, state_of, with_phase}
 use Rattle.task_state.specs.declared.state.Asked.{Asked}
 use Rattle.task_state.specs.declared.state.Phase.TheVariants as phases
-use Rattle.grs_known.specs.Items.{RunItem, is_of, gives_back, goes_round, wants_round, mine, lists, history}
+use Rattle.grs_known.specs.Items.{RunItem, is_of, gives_back, goes_round, wants_round, removes_system_of, mine, lists}
+use Rattle.grs_known.specs.Items.{history}
 use Rattle.grs_known.specs.Known.{last_of, outstanding, IsRight, Coming}
 use Rattle.grs_known.specs.Laws.{is_given_back}
 use Rattle.grs_known.proofs.known.Knowing.{one, outstanding-own}
 use Rattle.grs_known.proofs.known.Histories.{IsHistory, MayFollow, made_item, follows}
 use Rattle.grs_known.proofs.lists.Facts.{list_all-push}
 use Rattle.grs_known.proofs.lists.Owners.{is_among}
-use Rattle.grs_known.proofs.lists.Parts.{part, is_res_of, systems-other}
+use Rattle.grs_known.proofs.lists.Parts.{part, is_res_of}
 use Rattle.grs_known.proofs.lists.Truths.{no_truth, false_by}
-use Rattle.grs_world.proofs.system.AtNode.{part-other}
+use Rattle.grs_world.proofs.system.AtNode.{MayFix, fix-stays, part-round}
 use Rattle.grs_known.proofs.system.Ours.{IsOurs}
 use Rattle.grs_world.proofs.system.Puts.{MayPut}
 use Rattle.grs_known.proofs.system.Says.{is_home_at, askers, ToldBy}
-use Rattle.grs_world.proofs.star.Answering.{Taken, decides-own, may_own, sent, tells-owners}
+use Rattle.grs_world.proofs.star.Answering.{Taken, decides-own, may_own, sent, tells-new}
 use Rattle.grs_world.proofs.star.Ghosts.{IsAt, TaskStep, idles, does, task-goes, told-free}
 use Rattle.grs_world.proofs.star.Members.{has_manager}
 use Rattle.grs_known.proofs.known.Blank.{blank, coming-other, coming-decided}
@@ -62,11 +62,7 @@ pub record Goes (deck : Deck) (words : List ℕ) (T : List RunItem) (s : ℕ) (n
   pub system : IsSystem deck words T s n ms later out
   pub told : ToldBy deck s [] (history T) T0 n.tasks.told
 
--- a request is of no entry, or of one that the system manages itself
-abbrev pub IsHomely : Deck → List ℕ → ℕ → Want → Type 0
-IsHomely deck words s w = (e : ℕ) → entry_wanted deck.entries w ≡ Some e → has_manager words e s ≡ true
-
--- ---- such a request gives up nothing of which something comes
+-- ---- what is of no entry, or of one that the system manages itself, gives up nothing of which something comes
 pub given-entry : (deck : Deck) (r : Res) (w : Want) → gives_up r w ≡ true
     → entry_wanted deck.entries w ≡ entry_of_res deck.entries r
 given-entry deck r (Enq q c ret full) h = absurd (cc)
@@ -74,19 +70,19 @@ given-entry deck r (Deq q have) h = ap (entry_of_res deck.entries) (sym (same_re
 given-entry deck r (Release q) h = ap (entry_of_res deck.entries) (sym (same_res-exact r q h))
 given-entry deck r (Look first count f) h = absurd (cc)
 
-fits-calm : (deck : Deck) (words : List ℕ) (s : ℕ) (t : TaskId) (q : Req) (ms : List Mail)
-    → IsHomely deck words s q.want → AllFit deck words s ms
-    → list_any (is_given_back t (fixing.Asked q)) (news_of ms) ≡ false
-fits-calm deck words s t q [] homely h = refl
-fits-calm deck words s t q (Request e from z ∷ ms) homely h = fits-calm deck words s t q ms homely h.1
-fits-calm deck words s t q (Answered u answer rank ∷ ms) homely h = fits-calm deck words s t q ms homely h.1
-fits-calm deck words s t q (Granted u r ∷ ms) homely h =
-    go (same_task t u) (gives_up r q.want) refl (fits-calm deck words s t q ms homely h.1)
+fits-calm : (deck : Deck) (words : List ℕ) (s : ℕ) (t : TaskId) (f : Fixed) (ms : List Mail)
+    → ((r : Res) (e : ℕ) → gives_back r f ≡ true → entry_of_res deck.entries r ≡ Some e
+    → has_manager words e s ≡ true)
+    → AllFit deck words s ms → list_any (is_given_back t f) (news_of ms) ≡ false
+fits-calm deck words s t f [] homely h = refl
+fits-calm deck words s t f (Request e from z ∷ ms) homely h = fits-calm deck words s t f ms homely h.1
+fits-calm deck words s t f (Answered u answer rank ∷ ms) homely h = fits-calm deck words s t f ms homely h.1
+fits-calm deck words s t f (Granted u r ∷ ms) homely h =
+    go (same_task t u) (gives_back r f) refl (fits-calm deck words s t f ms homely h.1)
   where
-    go : (b c : Bool) → gives_up r q.want ≡ c → list_any (is_given_back t (fixing.Asked q)) (news_of ms) ≡ false
-        → ((b && c) || list_any (is_given_back t (fixing.Asked q)) (news_of ms)) ≡ false
-    go b true e more =
-        no_truth (has_manager words h.0.entry s) (homely h.0.entry (given-entry deck r q.want e ∙ h.0.at)) h.0.away.0
+    go : (b c : Bool) → gives_back r f ≡ c → list_any (is_given_back t f) (news_of ms) ≡ false
+        → ((b && c) || list_any (is_given_back t f) (news_of ms)) ≡ false
+    go b true e more = no_truth (has_manager words h.0.entry s) (homely r h.0.entry e h.0.at) h.0.away.0
     go true false e more = more
     go false false e more = more
 
@@ -128,28 +124,43 @@ want-round deck (Deq r have) e h f = res-round deck r e h f
 want-round deck (Release r) e h f = res-round deck r e h f
 want-round deck (Look first count g) e h f = absurd (cc)
 
+-- what doesn't go with the message gives up no resource of an entry
+gives-nothing : (deck : Deck) (f : Fixed) → goes_round f ≡ false → (r : Res) (e : ℕ) → gives_back r f ≡ true
+    → entry_of_res deck.entries r ≡ Some e → ⊥
+gives-nothing deck (fixing.Asked q) away r e gives is =
+    want-round deck q.want e away (given-entry deck r q.want gives ∙ is)
+gives-nothing deck (fixing.LocalLook t f) away r e gives is = absurd (cc)
+gives-nothing deck (fixing.Purged target) away r e gives is = absurd (cc)
+
+pub local-calm : (deck : Deck) (words : List ℕ) (s : ℕ) (t : TaskId) (f : Fixed) (ms : List Mail)
+    → goes_round f ≡ false → AllFit deck words s ms → list_any (is_given_back t f) (news_of ms) ≡ false
+local-calm deck words s t f ms away h =
+    fits-calm deck words s t f ms (λ r e gives is. absurd (gives-nothing deck f away r e gives is)) h
+
 module _ (deck : Deck) (words : List ℕ) (T : List RunItem) (right : IsHistory deck T) (s : ℕ) (n : NodeState)
     (ms : List Mail) (later : List RunItem) (out : List Req) (h : IsSystem deck words T s n ms later out) where
-  -- what comes, behind an item of a task that its system decides
-  pub coming-own : (c : SysId) (q : Req) → (q.task.system.0 == s) ≡ true → IsHomely deck words s q.want
-      → is_late q.task later ≡ false → (t : TaskId) → is_home_at deck s t ≡ true
-      → Coming t (blank (is_late t later)) (T ++ made_item c T (fixing.Asked q) ∷ []) (news_of ms)
-  coming-own c q mine_q homely idle t home = go (same_task t q.task) refl
+  -- what comes, behind an item of a task of its own
+  pub coming-own : (c : SysId) (f : Fixed) → ((t : TaskId) → removes_system_of t f ≡ false) →
+      ((t : TaskId) → is_home_at deck s t ≡ true → is_of t f ≡ true
+      → (is_late t later ≡ false) × (list_any (is_given_back t f) (news_of ms) ≡ false))
+      → (t : TaskId) → is_home_at deck s t ≡ true
+      → Coming t (blank (is_late t later)) (T ++ made_item c T f ∷ []) (news_of ms)
+  coming-own c f stays calm t home = go (is_of t f) refl
     where
       item : RunItem
-      item = made_item c T (fixing.Asked q)
+      item = made_item c T f
 
-      go : (b : Bool) → same_task t q.task ≡ b
-          → Coming t (blank (is_late t later)) (T ++ made_item c T (fixing.Asked q) ∷ []) (news_of ms)
+      go : (b : Bool) → is_of t f ≡ b
+          → Coming t (blank (is_late t later)) (T ++ made_item c T f ∷ []) (news_of ms)
       go false apart =
-          coming-other t (is_late t later) T item (news_of ms) apart refl (right-late deck s T later out n h.at t home)
-          (h.coming t home)
+          coming-other t (is_late t later) T item (news_of ms) apart (stays t)
+          (right-late deck s T later out n h.at t home) (h.coming t home)
       go true same =
-          let none_late : is_late t later ≡ false = ap (λ z. is_late z later) (same_task-exact t q.task same) ∙ idle in
-          subst (λ b. Coming t (blank b) (T ++ item ∷ []) (news_of ms)) (sym none_late)
-          (coming-decided t T item (news_of ms) same refl (fits-calm deck words s t q ms homely h.fits)
-          (subst (λ b. IsRight t (blank b) T) none_late (right-late deck s T later out n h.at t home))
-          (subst (λ b. Coming t (blank b) T (news_of ms)) none_late (h.coming t home)))
+          let k = calm t home same in
+          subst (λ b. Coming t (blank b) (T ++ item ∷ []) (news_of ms)) (sym k.0)
+          (coming-decided t T item (news_of ms) same refl k.1
+          (subst (λ b. IsRight t (blank b) T) k.0 (right-late deck s T later out n h.at t home))
+          (subst (λ b. Coming t (blank b) T (news_of ms)) k.0 (h.coming t home)))
 
   -- ---- a task goes on by itself
   after-task : (T' : List RunItem) (n' : NodeState) → IsAt deck s T' later out n'
@@ -168,52 +179,42 @@ module _ (deck : Deck) (words : List ℕ) (T : List RunItem) (right : IsHistory 
   -- what it fixes, if it fixes anything, is for a resource of the system alone
   pub data Task (c : SysId) (st : Step) : Type 0 where
     idle_task : st.fixed ≡ [] → Goes deck words T s st.node ms later out n.tasks.told → Task c st
-    local_task : (q : Req) → st.fixed ≡ fixing.Asked q ∷ [] → (q.task.system.0 == s) ≡ true
-        → goes_round (fixing.Asked q) ≡ false → MayFollow deck T (made_item c T (fixing.Asked q))
-        → Goes deck words (T ++ made_item c T (fixing.Asked q) ∷ []) s st.node ms later out n.tasks.told → Task c st
+    local_task : (f : Fixed) → st.fixed ≡ f ∷ [] → goes_round f ≡ false → MayFix deck s c T f
+        → Goes deck words (T ++ made_item c T f ∷ []) s st.node ms later out n.tasks.told → Task c st
 
-  pub system-task : (c : SysId) (t : TaskId) → may_go deck n t ≡ true → Task c (finish_quiet deck n (choices.Task t))
-  system-task c t goes = by_step (task-goes deck s c T later out n t right h.at goes)
+  pub system-task : (c : SysId) (t : TaskId) (p : StarPart) → n.star ≡ Some p → may_go deck n t ≡ true
+      → Task c (finish_quiet deck n (choices.Task t))
+  system-task c t p is goes = by_step (task-goes deck s c T later out n t p is right h.at goes)
     where
       by_step : TaskStep deck s c T later out n (finish_quiet deck n (choices.Task t))
           → Task c (finish_quiet deck n (choices.Task t))
       by_step (idles none_fixed at told) =
           idle_task none_fixed
           (record { system = after-task T (finish_quiet deck n (choices.Task t)).node at h.coming; told = told })
-      by_step (does q one_fixed mine_q away m at told) =
-          let item : RunItem = made_item c T (fixing.Asked q) in
-          let T' : List RunItem = T ++ item ∷ [] in
-          let asker : q ≡ m.ask.req = cc in
-          let home : is_home_at deck s q.task ≡ true =
-          and_from (q.task.system.0 == s) (is_some (lines_of deck q.task)) mine_q
-          (subst (λ (z : Req). is_some (lines_of deck z.task) ≡ true) (sym asker) m.ask.known) in
-          local_task q one_fixed mine_q away m (record {
+      by_step (does f one_fixed away may at told) =
+          local_task f one_fixed away may (record {
             system =
-                after-task T' (finish_quiet deck n (choices.Task t)).node at
-                (coming-own c q mine_q (λ e f. absurd (want-round deck q.want e away f))
-                (false_by (is_late q.task later) (late_item q m at home away)));
+                after-task (T ++ made_item c T f ∷ []) (finish_quiet deck n (choices.Task t)).node at
+                (coming-own c f (λ u. fix-stays may u) (λ u home of. (
+                  false_by (is_late u later) (late_item u home of),
+                  local-calm deck words s u f ms away h.fits,
+                )));
             told = told;
           })
         where
-          late_item : (q : Req) → MayFollow deck T (made_item c T (fixing.Asked q))
-              → IsAt deck s (T ++ made_item c T (fixing.Asked q) ∷ []) later out
-              (finish_quiet deck n (choices.Task t)).node
-              → is_home_at deck s q.task ≡ true → goes_round (fixing.Asked q) ≡ false → is_late q.task later ≡ true
-              → is_late q.task later ≡ false
-          late_item q m at home away late =
-              let item : RunItem = made_item c T (fixing.Asked q) in
+          late_item : (u : TaskId) → is_home_at deck s u ≡ true → is_of u f ≡ true → is_late u later ≡ true
+              → is_late u later ≡ false
+          late_item u home of late =
+              let item : RunItem = made_item c T f in
               let T' : List RunItem = T ++ item ∷ [] in
-              let k = here deck s T' later out (finish_quiet deck n (choices.Task t)).node at q.task home in
-              let last : last_of (mine q.task T') ≡ Some item =
-              outstanding-own q.task T item (same_task-itself q.task) k.known in
-              let out_is : outstanding q.task k.known T' ≡ Some item =
-              ap (λ b. cond b (last_of (mine q.task T')) None)
-              (behind-late deck s T' later out (finish_quiet deck n (choices.Task t)).node at q.task home ∙ late)
+              let k = here deck s T' later out (finish_quiet deck n (choices.Task t)).node at u home in
+              let last : last_of (mine u T') ≡ Some item = outstanding-own u T item of k.known in
+              let out_is : outstanding u k.known T' ≡ Some item =
+              ap (λ b. cond b (last_of (mine u T')) None)
+              (behind-late deck s T' later out (finish_quiet deck n (choices.Task t)).node at u home ∙ late)
               ∙ last in
-              let i = late-in deck words s q.task item [] later (k.due ∙ ap one out_is) h.late in
-              let same : q ≡ i.req = cc in
-              absurd (want-round deck q.want i.entry away
-              (ap (λ (z : Req). entry_wanted deck.entries z.want) same ∙ i.at))
+              let i = late-in deck words s u item [] later (k.due ∙ ap one out_is) h.late in
+              absurd (want-round deck i.req.want i.entry (sym (ap goes_round i.asked) ∙ away) i.at)
 
   -- ---- the system with other tasks, where what is open stays
   at-tasks : (T' : List RunItem) (v : TasksView) (o : Option StarPart) (T0 : List ToldLine)
@@ -263,13 +264,13 @@ module _ (deck : Deck) (words : List ℕ) (T : List RunItem) (right : IsHistory 
 
     -- what it decides
     module _ (c : SysId) (entry : ℕ) (of_entry : entry_wanted deck.entries a.req.want ≡ Some entry)
-        (mine_entry : has_manager words entry s ≡ true) (r : Res) (wanted : res_wanted a.req.want ≡ Some r)
-        (ts : List TaskId) where
+        (mine_entry : has_manager words entry s ≡ true) (ts : List TaskId) where
       abbrev item : RunItem
       item = made_item c T (fixing.Asked (request_of t a))
 
       pub system-decided : (rank : ℕ) (o : Option StarPart)
-          → ((u : TaskId) → is_among u ts ≡ true → owns (list_of (lists (T ++ item ∷ [])) r) u ≡ true) →
+          → ((r : Res) → res_wanted a.req.want ≡ Some r → (u : TaskId) → is_among u ts ≡ true
+          → owns (list_of (lists (T ++ item ∷ [])) r) u ≡ true) →
           Goes deck words (T ++ item ∷ []) s (record n {
             tasks =
                 tell_new (tell_answer_ranked n.tasks t a (answer_to (lists T) t a.req.want) rank)
@@ -277,46 +278,38 @@ module _ (deck : Deck) (words : List ℕ) (T : List RunItem) (right : IsHistory 
             star = o;
           })
           ms later out n.tasks.told
-      unfolding tell_new
       system-decided rank o owned =
           let m = may-follow c in
           let T' : List RunItem = T ++ item ∷ [] in
           let k = decides-own deck s T later right out n h.at t ls ours a is c m (h.sent t free) free rank in
           let told =
-          tells-owners deck s T' later out (follows deck T item right m) n.tasks.told
-          (tell_answer_ranked n.tasks t a (answer_to (lists T) t a.req.want) rank) k r ts owned
-          (late-calm deck words s r entry later (res-entry deck.entries a.req.want r entry wanted of_entry) mine_entry
-          h.late) in
-          subst (λ w.
-          Goes deck words T' s (record n
-          { tasks = tell_new (tell_answer_ranked n.tasks t a (answer_to (lists T) t a.req.want) rank) w ts; star = o })
-          ms later out n.tasks.told)
-          (sym wanted)
-          (record {
+          tells-new deck s T' later out (follows deck T item right m) n.tasks.told
+          (tell_answer_ranked n.tasks t a (answer_to (lists T) t a.req.want) rank) k (res_wanted a.req.want) ts
+          (λ r wanted. (
+            owned r wanted,
+            late-calm deck words s r entry later (res-entry deck.entries a.req.want r entry wanted of_entry)
+                mine_entry h.late,
+          )) in
+          record {
             system = record {
               at =
-                  at-tasks T' (tell_all (tell_answer_ranked n.tasks t a (answer_to (lists T) t a.req.want) rank) r ts) o
-                  n.tasks.told
-                  (part-other (is_res_of s) T item (request_of t a) r refl wanted n.own h.at.own
-                  (systems-other s r wide))
-                  told;
+                  at-tasks T' (tell_new (tell_answer_ranked n.tasks t a (answer_to (lists T) t a.req.want) rank)
+                  (res_wanted a.req.want) ts)
+                  o n.tasks.told (h.at.own ∙ part-round deck s T item m.ask may.round) told;
               late = h.late;
               sent = h.sent;
               near = h.near;
-              coming =
-                  coming-own c (request_of t a) (and_parts (t.system.0 == s) (is_some (lines_of deck t)) home).0
-                  (λ e f. ap (λ i. has_manager words i s) (same_Some e entry (sym f ∙ of_entry)) ∙ mine_entry)
-                  (late-none t later (h.sent t free));
+              coming = coming-own c (fixing.Asked (request_of t a)) (λ u. refl) (λ u home_u same. (
+                ap (λ z. is_late z later) (same_task-exact u t same) ∙ late-none t later (h.sent t free),
+                fits-calm deck words s u (fixing.Asked (request_of t a)) ms
+                    (λ r e gives at.
+                    ap (λ i. has_manager words i s)
+                    (same_Some e entry (sym (given-entry deck r a.req.want gives ∙ at) ∙ of_entry))
+                    ∙ mine_entry)
+                    h.fits,
+              ));
               answered = h.answered;
               fits = h.fits;
             };
             told = told-free deck s (out ++ []) (history T') n.tasks.told _ told.told;
-          })
-        where
-          wide : is_systems r ≡ true
-          wide = by_entry r (res-entry deck.entries a.req.want r entry wanted of_entry)
-            where
-              by_entry : (p : Res) → entry_of_res deck.entries p ≡ Some entry → is_systems p ≡ true
-              by_entry (StepRes z j q u) e = absurd (cc)
-              by_entry (System z q u) e = absurd (cc)
-              by_entry (Systems q u) e = refl
+          }

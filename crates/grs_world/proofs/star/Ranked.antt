@@ -75,6 +75,7 @@ task-ranked ls p T leaving t x r k h = record {
   codes = h.codes;
   posts = h.posts;
   phase = h.phase;
+  shown = h.shown;
   emptied = λ e. ap (on_record r (ranked k)) (h.emptied e);
 }
 
@@ -120,6 +121,7 @@ here-ranked deck os P T t ls x r k h = record {
       (sym (unasked-told x r (ranked k)))
       (task-ranked ls (past_of t h.known P) T (λ q. is_leaving q x.outstanding) t (unasked x) r k h.task);
   opened = open-ranked deck.limit ls t r k x h.opened;
+  looks = h.looks;
   asked = h.asked;
   sent = h.sent;
 }

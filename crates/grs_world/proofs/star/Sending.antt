@@ -68,6 +68,8 @@ use Rattle.grs_world.proofs.star.steps.Outcome.{IsOutcome}
 use Rattle.grs_world.proofs.run.Desks.{tells_tasks}
 use Rattle.grs_world.proofs.rest.StarTasks.{dated-by, keeps-decided, keeps-sent}
 use Rattle.grs_legal.specs.Asks.{lines_of}
+use Rattle.grs_world.proofs.star.Ghosts.{others-fix}
+use Rattle.grs_world.proofs.system.AtNode.{own_ask}
 
 -- ---- the words grow
 -- By other words each manager manages what it did, and what matters to a system stays.
@@ -418,8 +420,8 @@ module _ (deck : Deck) (w : World) (g : IsWhole deck w) (c : SysId) (n : NodeSta
     }
 
   -- ---- it decides it as the manager of its entry
-  module _ (managing : has_manager words entry c.0 ≡ true) (r : Res) (wanted : res_wanted a.req.want ≡ Some r)
-      (ts : List TaskId) (rank : ℕ) (p p' : StarPart) (star : n.star ≡ Some p) (held : p'.held ≡ p.held) where
+  module _ (managing : has_manager words entry c.0 ≡ true) (ts : List TaskId) (rank : ℕ) (p p' : StarPart)
+      (star : n.star ≡ Some p) (held : p'.held ≡ p.held) where
     abbrev item : RunItem
     item = made_item c T (fixing.Asked (request_of t a))
 
@@ -433,15 +435,13 @@ module _ (deck : Deck) (w : World) (g : IsWhole deck w) (c : SysId) (n : NodeSta
         }
 
     -- its item is another system's to the others
-    others-item : (m : MayFollow deck T item) (s : ℕ) (k : NodeState) → s ≢ c.0 → slice_get w.nodes s ≡ Some k
+    others-item : MayFollow deck T item → (s : ℕ) (k : NodeState) → s ≢ c.0 → slice_get w.nodes s ≡ Some k
         → has w.medium.removed s ≡ false
         → IsSystem deck words (T ++ item ∷ []) s k (inbox w.medium s) (g.later s) (g.out s)
     others-item m s k ne found lives =
-        system-other deck words T s k (inbox w.medium s) (g.later s) (g.out s) item m.ask
-        (λ e. ne (sym e ∙ (ap (λ (z : Req). z.task.system.0) (sym asker) ∙ ours.home))) (system-grown s k found lives)
-      where
-        asker : q ≡ m.ask.req
-        asker = let e : fixing.Asked q ≡ fixing.Asked m.ask.req = m.ask.asked in cc
+        system-other deck words T s k (inbox w.medium s) (g.later s) (g.out s) item
+        (others-fix deck c.0 s c T (fixing.Asked q) (own_ask q ours.home m) (λ e. ne (sym e)))
+        (system-grown s k found lives)
 
     hands_same : (m : ℕ) (k : NodeState) (v : StarPart) → slice_get w.nodes m ≡ Some k → has w.medium.removed m ≡ false
         → k.star ≡ Some v → Hands deck words (are_live w) g.later g.out m (in_hands v (inbox w.medium m))
@@ -449,7 +449,9 @@ module _ (deck : Deck) (w : World) (g : IsWhole deck w) (c : SysId) (n : NodeSta
         hands-grow deck w.medium.words words grow (are_live w) g.later g.out g.out (λ u z h. h) m
         (in_hands v (inbox w.medium m)) (g.hands m k v found lives known)
 
-    pub outcome-decided : ((u : TaskId) → is_among u ts ≡ true → owns (list_of (lists (T ++ item ∷ [])) r) u ≡ true) →
+    pub outcome-decided :
+        ((r : Res) → res_wanted a.req.want ≡ Some r → (u : TaskId) → is_among u ts ≡ true
+        → owns (list_of (lists (T ++ item ∷ [])) r) u ≡ true) →
         (IsWhole deck (placed w c n (record {
           medium = record w.medium { words = words; rest = flags };
           step = record { node = decided; fixed = fixing.Asked (request_of t a) ∷ [] };
@@ -475,7 +477,7 @@ module _ (deck : Deck) (w : World) (g : IsWhole deck w) (c : SysId) (n : NodeSta
         c in
         let z =
         system-decided deck words T g.right c.0 n (inbox w.medium c.0) (g.later c.0) (g.out c.0) h t ls ours home a is
-        free c entry of_entry managing r wanted ts rank (Some p') owned in
+        free c entry of_entry managing ts rank (Some p') owned in
         record {
           stays =
               whole-placed deck w g c n at alive (record {
@@ -483,7 +485,7 @@ module _ (deck : Deck) (w : World) (g : IsWhole deck w) (c : SysId) (n : NodeSta
                 step = record { node = decided; fixed = fixing.Asked q ∷ [] };
               })
               step (T ++ item ∷ []) (items-one w.fixed c (fixing.Asked q)) g.later g.out (λ u ne. refl)
-              (fixes-own deck c g.out T q m ours.home)
+              (fixes-own deck c g.out T (fixing.Asked q) (own_ask q ours.home m))
               (follows deck T item g.right m)
               (subst (AreNear deck words) (sym (lists-push T item))
               (near-want deck words (lists T) t a.req.want (λ v e. near v e step.moves.managed) near-grown))

@@ -20,7 +20,6 @@ use Rattle.std.proofs.Common.{subst, append-nil, Bool, false, cond, ◌||◌, ar
 use Rattle.std.proofs.lemmas.Option.{same_Some, slice_get-get_or}
 use Rattle.std.proofs.lemmas.List.Elements.{filter-append}
 use Rattle.contention_mgr.specs.Manager.{entry_wanted}
-use Rattle.lock_structure.specs.Entries.{entry_of_res}
 use Rattle.grs_base.specs.Lists.{owns}
 use Rattle.grs_base.specs.Same.{same_task}
 use Rattle.grs_base.specs.State.{list_of}
@@ -33,16 +32,17 @@ use Rattle.grs_node.specs.Star.{StarPart}
 use Rattle.grs_wire.specs.declared.deck.Deck.{Deck}
 use Rattle.grs_wire.specs.declared.medium.Mail.{Mail}
 use Rattle.grs_wire.specs.declared.request.Req.{Req}
-use Rattle.task_state.specs.Replies.{tell_all}
+use Rattle.task_state.specs.Replies.{tell_new}
 use Rattle.task_state.specs.declared.state.Asked.{Asked}
 use Rattle.grs_known.specs.Items.{RunItem, lists, history, mine, is_of, items}
 use Rattle.grs_known.specs.Parts.{put_at}
-use Rattle.grs_known.proofs.known.Histories.{IsHistory, IsAsk, MayFollow, made_item, follows}
+use Rattle.grs_known.proofs.known.Histories.{IsHistory, MayFollow, made_item, follows}
 use Rattle.grs_known.proofs.lists.Owners.{is_among}
 use Rattle.grs_known.proofs.system.Asking.{IsReq, IsAskedBy}
 use Rattle.grs_known.proofs.system.Says.{none, is_home_at, askers, stand_apart}
-use Rattle.grs_world.proofs.star.Answering.{Taken, tells-owners, asker-settled}
-use Rattle.grs_world.proofs.star.Ghosts.{told-free}
+use Rattle.grs_world.proofs.star.Answering.{Taken, tells-new, asker-settled}
+use Rattle.grs_world.proofs.star.Ghosts.{IsOthers, others-ask, told-free}
+use Rattle.grs_world.proofs.star.Under.{res-entry}
 use Rattle.grs_known.proofs.lists.Facts.{filter-cons_left}
 use Rattle.grs_known.proofs.lists.Placed.{put_here, put_other}
 use Rattle.grs_world.proofs.star.Members.{has_manager, one-manages, IsStep}
@@ -51,22 +51,29 @@ use Rattle.grs_world.proofs.star.Systems.{IsSystem, system-other, Away, near_at,
 use Rattle.grs_world.proofs.star.Systems.{requests_in, here}
 use Rattle.grs_world.proofs.star.Worlds.{IsIn, IsHand, AllHands, IsWhole, Hands, are_live, in_hands, items-one}
 use Rattle.grs_world.proofs.star.Worlds.{live-below, whole-placed, Fixes, StaysWhole, one_fixed}
+use Rattle.grs_wire.specs.declared.request.Want.{Want}
 
 -- the manager: another system's item is fixed, and its own tasks that became owners are told
 pub system-manages :
     (deck : Deck) (words : List ℕ) (T : List RunItem) (s : ℕ) (n : NodeState) (ms : List Mail) (later : List RunItem)
-    (out : List Req) (x : RunItem) (a : IsAsk deck x)
-    → a.req.task.system.0 ≢ s → IsHistory deck (T ++ x ∷ []) →
-    IsSystem deck words T s n ms later out → (r : Res) (entry : ℕ) → entry_of_res deck.entries r ≡ Some entry
-    → has_manager words entry s ≡ true → (ts : List TaskId)
-    → ((u : TaskId) → is_among u ts ≡ true → owns (list_of (lists (T ++ x ∷ [])) r) u ≡ true) → (o : Option StarPart) →
-    Goes deck words (T ++ x ∷ []) s (record n { tasks = tell_all n.tasks r ts; star = o }) ms later out n.tasks.told
-system-manages deck words T s n ms later out x a ne right h r entry at mine ts owned o =
-    let z = system-other deck words T s n ms later out x a ne h in
+    (out : List Req) (x : RunItem)
+    → IsOthers deck s T x → IsHistory deck (T ++ x ∷ []) →
+    IsSystem deck words T s n ms later out → (want : Want) (entry : ℕ) → entry_wanted deck.entries want ≡ Some entry
+    → has_manager words entry s ≡ true → (ts : List TaskId) →
+    ((r : Res) → res_wanted want ≡ Some r → (u : TaskId) → is_among u ts ≡ true
+    → owns (list_of (lists (T ++ x ∷ [])) r) u ≡ true)
+    → (o : Option StarPart) →
+    Goes deck words (T ++ x ∷ []) s (record n { tasks = tell_new n.tasks (res_wanted want) ts; star = o }) ms later out
+    n.tasks.told
+system-manages deck words T s n ms later out x others right h want entry at mine ts owned o =
+    let z = system-other deck words T s n ms later out x others h in
     let k : Taken deck s (T ++ x ∷ []) later out n.tasks.told n.tasks = record { good = z.at.good; told = none } in
     let told =
-    tells-owners deck s (T ++ x ∷ []) later out right n.tasks.told n.tasks k r ts owned
-    (late-calm deck words s r entry later at mine h.late) in
+    tells-new deck s (T ++ x ∷ []) later out right n.tasks.told n.tasks k (res_wanted want) ts
+    (λ r wanted. (
+      owned r wanted,
+      late-calm deck words s r entry later (res-entry deck.entries want r entry wanted at) mine h.late,
+    )) in
     record {
       system = record {
         at = record { good = told.good; own = z.at.own; shared = refl; homes = z.at.homes; apart = z.at.apart };
@@ -77,7 +84,9 @@ system-manages deck words T s n ms later out x a ne right h r entry at mine ts o
         answered = z.answered;
         fits = z.fits;
       };
-      told = told-free deck s (out ++ []) (history (T ++ x ∷ [])) n.tasks.told (tell_all n.tasks r ts).told told.told;
+      told =
+          told-free deck s (out ++ []) (history (T ++ x ∷ [])) n.tasks.told
+          (tell_new n.tasks (res_wanted want) ts).told told.told;
     }
 
 -- ---- a request among others
@@ -251,19 +260,27 @@ module _ (deck : Deck) (w : World) (g : IsWhole deck w) (c : SysId) (n : NodeSta
       asker-follows deck w.medium.words T g.right s other (inbox w.medium s) (g.later s) (g.out s) its q hand.among
       hand.idle c hand.entry hand.at hand.managed hand.apart
 
-  pub same_req : q ≡ follows-now.ask.req
+  same_req : q ≡ follows-now.ask.req
   same_req = let e : fixing.Asked q ≡ fixing.Asked follows-now.ask.req = follows-now.ask.asked in cc
 
+  -- to each system but the asker's it is of others
+  item-others : (u : ℕ) → u ≢ s → IsOthers deck u T item
+  item-others u ne =
+      others-ask deck u T item follows-now.ask
+      (λ e. ne (sym e ∙ ap (λ (y : Req). y.task.system.0) (sym same_req)))
+
   -- the manager then, whose own tasks that became owners of the resource are told
-  pub manager-after : (r : Res) (ts : List TaskId)
-      → ((u : TaskId) → is_among u ts ≡ true → owns (list_of (lists (T ++ item ∷ [])) r) u ≡ true)
-      → entry_of_res deck.entries r ≡ Some hand.entry → (o : Option StarPart) →
-      Goes deck w.medium.words (T ++ item ∷ []) c.0 (record n { tasks = tell_all n.tasks r ts; star = o })
-      (inbox w.medium c.0) (g.later c.0) (g.out c.0) n.tasks.told
-  manager-after r ts owned of_entry o =
-      system-manages deck w.medium.words T c.0 n (inbox w.medium c.0) (g.later c.0) (g.out c.0) item follows-now.ask
-      (λ e. hand.apart (ap (λ (y : Req). y.task.system.0) same_req ∙ e)) (follows deck T item g.right follows-now)
-      (g.system c.0 n at alive) r hand.entry of_entry hand.managed ts owned o
+  pub manager-after : (ts : List TaskId) →
+      ((r : Res) → res_wanted q.want ≡ Some r → (u : TaskId) → is_among u ts ≡ true
+      → owns (list_of (lists (T ++ item ∷ [])) r) u ≡ true)
+      → (o : Option StarPart) →
+      Goes deck w.medium.words (T ++ item ∷ []) c.0
+      (record n { tasks = tell_new n.tasks (res_wanted q.want) ts; star = o }) (inbox w.medium c.0) (g.later c.0)
+      (g.out c.0) n.tasks.told
+  manager-after ts owned o =
+      system-manages deck w.medium.words T c.0 n (inbox w.medium c.0) (g.later c.0) (g.out c.0) item
+      (item-others c.0 (λ e. hand.apart (sym e))) (follows deck T item g.right follows-now)
+      (g.system c.0 n at alive) q.want hand.entry hand.at hand.managed ts owned o
 
   module _ (rank : ℕ) (plain : gives_want q.want ≡ true → rank ≡ 0) (flags : ℕ) where
     abbrev answer : Mail
@@ -320,46 +337,46 @@ module _ (deck : Deck) (w : World) (g : IsWhole deck w) (c : SysId) (n : NodeSta
             (sym (other_box u apart))
             (subst (λ xs. IsSystem deck w.medium.words (T ++ item ∷ []) u k (inbox w.medium u) xs (g.out u))
             (sym (other_later u apart))
-            (system-other deck w.medium.words T u k (inbox w.medium u) (g.later u) (g.out u) item follows-now.ask
-            (λ z. apart (sym z ∙ ap (λ (r : Req). r.task.system.0) (sym same_req))) (g.system u k found lives)))
+            (system-other deck w.medium.words T u k (inbox w.medium u) (g.later u) (g.out u) item (item-others u apart)
+            (g.system u k found lives)))
 
-    pub whole-settled : (r : Res) → res_wanted q.want ≡ Some r → (ts : List TaskId)
-        → ((u : TaskId) → is_among u ts ≡ true → owns (list_of (lists (T ++ item ∷ [])) r) u ≡ true)
-        → entry_of_res deck.entries r ≡ Some hand.entry →
-        (p' : StarPart) → p'.held ≡ qs → (n' : NodeState)
-        → n' ≡ record n { tasks = tell_all n.tasks r ts; star = Some p' } →
-        IsStep deck w c n (record { medium = sent_on; step = record { node = n'; fixed = fixing.Asked q ∷ [] } })
+    -- the manager with the part that it has then
+    abbrev told_on : List TaskId → StarPart → NodeState
+    told_on ts p' = record n { tasks = tell_new n.tasks (res_wanted q.want) ts; star = Some p' }
+
+    pub whole-settled : (ts : List TaskId) →
+        ((r : Res) → res_wanted q.want ≡ Some r → (u : TaskId) → is_among u ts ≡ true
+        → owns (list_of (lists (T ++ item ∷ [])) r) u ≡ true)
+        → (p' : StarPart) → p'.held ≡ qs →
+        IsStep deck w c n
+        (record { medium = sent_on; step = record { node = told_on ts p'; fixed = fixing.Asked q ∷ [] } })
         → StaysWhole deck w g c
-        (placed w c n (record { medium = sent_on; step = record { node = n'; fixed = fixing.Asked q ∷ [] } }))
-    whole-settled r wanted ts owned of_entry p' kept n' node step =
+        (placed w c n
+        (record { medium = sent_on; step = record { node = told_on ts p'; fixed = fixing.Asked q ∷ [] } }))
+    whole-settled ts owned p' kept step =
         let away : c.0 ≢ s = λ e. hand.apart (sym e) in
-        let z = manager-after r ts owned of_entry (Some p') in
+        let z = manager-after ts owned (Some p') in
         let asked =
         (here deck s T (g.later s) (g.out s) other its.at q.task
         (asker-home deck w.medium.words T g.right s other (inbox w.medium s) (g.later s) (g.out s) its q hand.among
         hand.idle c hand.entry hand.at hand.managed hand.apart)).asked in
         whole-placed deck w g c n at alive
-        (record { medium = sent_on; step = record { node = n'; fixed = fixing.Asked q ∷ [] } }) step (T ++ item ∷ [])
+        (record { medium = sent_on; step = record { node = told_on ts p'; fixed = fixing.Asked q ∷ [] } }) step
+        (T ++ item ∷ [])
         (items-one w.fixed c (fixing.Asked q)) (later-with g.later s item) g.out (λ u ne. refl) asker_sent
         (follows deck T item g.right follows-now)
         (subst (AreNear deck w.medium.words) (sym (lists-push T item))
-        (near-want deck w.medium.words (lists T) q.task q.want (λ v e. near v (same_Some r v (sym wanted ∙ e)) of_entry)
-        g.near))
-        (subst (λ (y : NodeState).
-        IsSystem deck w.medium.words (T ++ item ∷ []) c.0 y (inbox sent_on c.0) (later-with g.later s item c.0)
-        (g.out c.0))
-        (sym node)
+        (near-want deck w.medium.words (lists T) q.task q.want near g.near))
         (subst (λ ms.
-        IsSystem deck w.medium.words (T ++ item ∷ []) c.0 (record n { tasks = tell_all n.tasks r ts; star = Some p' })
-        ms (later-with g.later s item c.0) (g.out c.0))
+        IsSystem deck w.medium.words (T ++ item ∷ []) c.0 (told_on ts p') ms (later-with g.later s item c.0)
+        (g.out c.0))
         (sym (other_box c.0 away))
         (subst (λ xs.
-        IsSystem deck w.medium.words (T ++ item ∷ []) c.0 (record n { tasks = tell_all n.tasks r ts; star = Some p' })
-        (inbox w.medium c.0) xs (g.out c.0))
-        (sym (other_later c.0 away)) z.system)))
+        IsSystem deck w.medium.words (T ++ item ∷ []) c.0 (told_on ts p') (inbox w.medium c.0) xs (g.out c.0))
+        (sym (other_later c.0 away)) z.system))
         others
         (λ k found.
-        let same : p' ≡ k = same_Some p' k (sym (ap (λ (y : NodeState). y.star) node) ∙ found) in
+        let same : p' ≡ k = same_Some p' k found in
         subst (λ (y : StarPart).
         Hands deck w.medium.words (are_live w) (later-with g.later s item) g.out c.0
         (y.held ++ requests_in (inbox sent_on c.0)))
@@ -385,20 +402,16 @@ module _ (deck : Deck) (w : World) (g : IsWhole deck w) (c : SysId) (n : NodeSta
       where
         -- a system whose tasks sent nothing isn't the asker's
         asker_sent : Fixes deck c.0 g.out T (T ++ item ∷ [])
-        asker_sent =
-            one_fixed item follows-now.ask
-            (λ u ne empty e. not_there (ap g.out (ap (λ (r : Req). r.task.system.0) same_req ∙ e) ∙ empty))
+        asker_sent = one_fixed item (λ u ne empty. item-others u (λ e. not_there (ap g.out (sym e) ∙ empty)))
           where
             not_there : g.out s ≡ [] → ⊥
             not_there e = subst (IsIn q) e hand.among
 
-        near : (v : Res) → r ≡ v → entry_of_res deck.entries r ≡ Some hand.entry
-            → is_near_res deck w.medium.words v q.task ≡ true
-        near v e f =
-            ap (λ y. near_at w.medium.words s (entry_of_res deck.entries y)) (sym e)
-            ∙ (ap (near_at w.medium.words s) f
+        near : (v : Res) → res_wanted q.want ≡ Some v → is_near_res deck w.medium.words v q.task ≡ true
+        near v e =
+            ap (near_at w.medium.words s) (res-entry deck.entries q.want v hand.entry e hand.at)
             ∙ (asker-away deck w.medium.words T g.right s other (inbox w.medium s) (g.later s) (g.out s) its q
-            hand.among hand.idle c hand.entry hand.at hand.managed hand.apart).1)
+            hand.among hand.idle c hand.entry hand.at hand.managed hand.apart).1
 
         hands_others : (m : ℕ) (k : NodeState) (v : StarPart) → m ≢ c.0 → slice_get w.nodes m ≡ Some k
             → has w.medium.removed m ≡ false → k.star ≡ Some v

@@ -1,9 +1,9 @@
 -- What holds of one system of a run in star mode, by the words, the items and its inbox; and how it is kept.
-use Rattle.std.proofs.Common.{◌≡◌, ◌≢◌, ℕ, Bool, true, false, cond, ◌&&◌, ◌||◌, List, [], ◌∷◌, ◌++◌, map, Option, Some}
+use Rattle.std.proofs.Common.{◌≡◌, ℕ, Bool, true, false, cond, ◌&&◌, ◌||◌, List, [], ◌∷◌, ◌++◌, map, Option, Some}
 use Rattle.std.proofs.Common.{None, refl, ap, sym, ◌∙◌, subst, append-nil}
 use Rattle.std.specs.Prelude.{is_some, ◌==◌}
 use Rattle.std.specs.List.{list_all, list_any}
-use Rattle.std.proofs.lemmas.Bool.{and_parts, eq-eqb, and_from, or_right}
+use Rattle.std.proofs.lemmas.Bool.{and_parts, eq-eqb, eqb-true, and_from, or_right}
 use Rattle.std.proofs.lemmas.List.{map-append}
 use Rattle.std.proofs.lemmas.List.Elements.{filter-append}
 use Rattle.contention_mgr.specs.Manager.{entry_wanted}
@@ -35,16 +35,16 @@ use Rattle.grs_known.specs.Known.{Known, last_of, outstanding, IsRight, learns_i
 use Rattle.grs_known.specs.Known.{Grants, Wants, is_answer_to, Coming}
 use Rattle.grs_known.proofs.known.Knowing.{one}
 use Rattle.grs_known.proofs.known.ItemLaws.{replies_are_answers}
-use Rattle.grs_known.proofs.known.Histories.{IsHistory, IsAsk, made_item, stays-ask}
+use Rattle.grs_known.proofs.known.Histories.{IsHistory, made_item}
 use Rattle.grs_known.proofs.lists.Facts.{list_any-push, filter-cons_kept, filter-cons_left, any-more, any-last}
 use Rattle.grs_known.proofs.lists.Owners.{is_among}
 use Rattle.grs_known.proofs.lists.Truths.{no_truth, false_by, or_off}
-use Rattle.grs_world.proofs.system.AtNode.{not-ours, opens_of, seen-known}
+use Rattle.grs_world.proofs.system.AtNode.{opens_of, seen-known}
 use Rattle.grs_known.proofs.system.Ours.{IsOurs, IsHere}
 use Rattle.grs_world.proofs.system.Puts.{home-task}
 use Rattle.grs_known.proofs.system.Says.{is_home_at, askers}
 use Rattle.grs_world.proofs.star.Answering.{Settled, asker-settled}
-use Rattle.grs_world.proofs.star.Ghosts.{ghosted, IsAt, at-other}
+use Rattle.grs_world.proofs.star.Ghosts.{ghosted, IsAt, IsOthers, at-other}
 use Rattle.grs_world.proofs.star.Members.{has_manager}
 use Rattle.grs_known.proofs.known.Blank.{blank, right-blank, coming-other, coming-sent, coming-granted}
 
@@ -271,23 +271,22 @@ module _ (deck : Deck) (s : ℕ) (T later : List RunItem) (out : List Req) (n : 
 -- another system's item is fixed
 pub system-other :
     (deck : Deck) (words : List ℕ) (T : List RunItem) (s : ℕ) (n : NodeState) (ms : List Mail) (later : List RunItem)
-    (out : List Req) (x : RunItem) (a : IsAsk deck x)
-    → a.req.task.system.0 ≢ s → IsSystem deck words T s n ms later out
-    → IsSystem deck words (T ++ x ∷ []) s n ms later out
-system-other deck words T s n ms later out x a ne h = record {
-  at = at-other deck s T later out n x a ne h.at;
+    (out : List Req) (x : RunItem)
+    → IsOthers deck s T x → IsSystem deck words T s n ms later out → IsSystem deck words (T ++ x ∷ []) s n ms later out
+system-other deck words T s n ms later out x others h = record {
+  at = at-other deck s T later out n x others h.at;
   late = h.late;
   sent = h.sent;
   near = h.near;
   coming = λ t home.
-      coming-other t (is_late t later) T x (news_of ms) (not_of t home) (stays-ask deck t x a)
+      coming-other t (is_late t later) T x (news_of ms) (others.apart t (home-is t home)) (others.stays t)
       (right-late deck s T later out n h.at t home) (h.coming t home);
   answered = h.answered;
   fits = h.fits;
 }
   where
-    not_of : (t : TaskId) → is_home_at deck s t ≡ true → is_of t x.fixed ≡ false
-    not_of t home = let o = ours deck s T later out n h.at t home in not-ours deck s n.tasks x a ne t o.0 o.1
+    home-is : (t : TaskId) → is_home_at deck s t ≡ true → t.system.0 ≡ s
+    home-is t home = eqb-true t.system.0 s (and_parts (t.system.0 == s) _ home).0
 
 -- what gives nothing up gives no resource up
 pub gives-none : (r : Res) (f : Fixed) → gives f ≡ false → gives_back r f ≡ false

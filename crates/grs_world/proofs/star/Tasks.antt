@@ -1,24 +1,30 @@
 -- What a task does by itself leaves its system's part in star mode, and the lists of all lock entries.
-use Rattle.std.proofs.Common.{◌≡◌, ℕ, false, cond, List, [], ◌∷◌, ◌++◌, Option, Some, None, refl, ap, ◌∙◌}
+use Rattle.std.proofs.Common.{◌≡◌, ℕ, zero, suc, false, cond, List, [], ◌∷◌, ◌++◌, Option, Some, None, refl, ap, ◌∙◌}
 use Rattle.std.specs.Prelude.{is_some, slice_get}
 use Rattle.contention_mgr.specs.Manager.{entry_wanted}
 use Rattle.lock_structure.specs.Entries.{entry_of_res, is_entry}
+use Rattle.grs_base.specs.Looks.{look}
 use Rattle.grs_base.specs.State.{State, is_systems}
+use Rattle.grs_base.specs.declared.look.Place.TheVariants.{Local}
 use Rattle.grs_base.specs.declared.resource.Res.{Res}
 use Rattle.grs_base.specs.declared.resource.Res.TheVariants.{Step as StepRes, System, Systems}
+use Rattle.grs_base.specs.declared.resource.SysId.{SysId}
 use Rattle.grs_base.specs.declared.resource.TaskId.{TaskId}
+use Rattle.grs_legal.specs.declared.meaning.Display.{Display}
 use Rattle.grs_legal.specs.declared.meaning.Meaning.{Meaning}
 use Rattle.grs_legal.specs.declared.meaning.Meaning.TheVariants as lines
 use Rattle.grs_node.specs.Node.{NodeState, Step, with_tasks, only, post, decide, ask, take_line, end_step, ready_step}
-use Rattle.grs_node.specs.Node.{phase_step, task_step, has_most, wait}
+use Rattle.grs_node.specs.Node.{phase_step, task_step, has_most, wait, look_home, look_around, looks_asked, show}
 use Rattle.grs_node.specs.Star.{StarPart}
 use Rattle.grs_wire.specs.Wants.{res_wanted}
+use Rattle.grs_wire.specs.declared.request.Fixed.{Fixed}
+use Rattle.grs_wire.specs.declared.request.Fixed.TheVariants as fixing
 use Rattle.grs_wire.specs.declared.request.Req.{Req}
 use Rattle.grs_wire.specs.declared.request.Want.{Want}
 use Rattle.grs_wire.specs.declared.request.Want.TheVariants.{Enq, Deq, Release, Look}
 use Rattle.grs_wire.proofs.WantLaws.{by_test}
 use Rattle.ring_mode.specs.Ring.{is_for_all}
-use Rattle.task_state.specs.View.{state_of, record_of, with_line, with_phase}
+use Rattle.task_state.specs.View.{state_of, record_of, with_line, with_phase, with_rows}
 use Rattle.task_state.specs.declared.state.Phase.{Phase}
 use Rattle.task_state.specs.declared.state.Phase.TheVariants as phases
 use Rattle.task_state.specs.declared.state.Rec.{Rec}
@@ -80,6 +86,33 @@ module _ (p : StarPart) (n : NodeState) (is : n.star ≡ Some p) where
       by_test Keeps (is_for_all (res_wanted w)) (post k t w unit) (decide k t w unit) (λ h. by_post k t w unit s o z)
       (λ h. by_decide k t w unit s o z h)
 
+  by_around : (k : NodeState) (t : TaskId) (d : Display) (count : ℕ) (fs : List Fixed) → k.star ≡ n.star
+      → k.outbox ≡ n.outbox → k.known ≡ n.known →
+      ((entries e : ℕ) (L : State) → under entries e (lists_after L fs) ≡ under entries e L)
+      → Keeps (record { node = look_around k t d count; fixed = fs })
+  by_around k t d zero fs s o z same = record { star = s; outbox = o; known = z; lists = same }
+  by_around k t d (suc more) fs s o z same = record {
+    star = s;
+    outbox = ap (λ x. cond (is_some x) k.outbox (k.outbox ++ (looks_asked t d more k.star).req ∷ [])) (s ∙ is) ∙ o;
+    known = z;
+    lists = same;
+  }
+
+  by_show : (k : NodeState) (t : TaskId) (d : Display) → k.star ≡ n.star → k.outbox ≡ n.outbox → k.known ≡ n.known
+      → Keeps (show k t d)
+  unfolding show
+  by_show k t d s o z = go d.home
+    where
+      go : (home : Option SysId)
+          → Keeps (record {
+            node = look_around (look_home k t d home).node t d d.count;
+            fixed = (look_home k t d home).fixed;
+          })
+      go None = by_around k t d d.count [] s o z (λ entries e L. refl)
+      go (Some u) =
+          by_around (with_tasks k (with_rows k.tasks t (look k.own (Local t.system) d.filter))) t d d.count
+          (fixing.LocalLook t d.filter ∷ []) s o z (λ entries e L. refl)
+
   by_line : (limit : ℕ) (k : NodeState) (t : TaskId) (l : Meaning) → k.star ≡ n.star → k.outbox ≡ n.outbox
       → k.known ≡ n.known → Keeps (take_line limit k t l)
   unfolding take_line
@@ -87,6 +120,7 @@ module _ (p : StarPart) (n : NodeState) (is : n.star ≡ Some p) where
   by_line limit k t (lines.Deq r have) s o z = by_ask k t (Deq r have) None s o z
   by_line limit k t (lines.Wait r) s o z =
       by_only (with_tasks k (wait k.tasks t r (record_of (state_of k.tasks t).records r))) s o z
+  by_line limit k t (lines.Shows d) s o z = by_show k t d s o z
   by_line limit k t lines.Nothing s o z = by_only k s o z
 
   by_end : (k : NodeState) (t : TaskId) (code : ℕ) (xs : List Rec) → k.star ≡ n.star → k.outbox ≡ n.outbox

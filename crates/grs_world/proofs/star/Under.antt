@@ -1,18 +1,27 @@
 -- The elements on the resources of a lock entry.
-use Rattle.std.proofs.Common.{◌≡◌, ℕ, Bool, true, false, cond, [], ◌∷◌, Option, Some, None, refl, ap, sym, ◌∙◌}
+use Rattle.std.proofs.Common.{◌≡◌, ◌+◌, ℕ, zero, suc, Bool, true, false, cond, ◌&&◌, [], ◌∷◌, ◌++◌, Option, Some, None}
+use Rattle.std.proofs.Common.{refl, ap, sym, ◌∙◌, arith}
+use Rattle.std.specs.Prelude.{◌==◌, nat_le, nat_lt}
 use Rattle.std.specs.List.{list_all}
-use Rattle.std.proofs.lemmas.Bool.{eqb-true, eq-eqb, and_from}
+use Rattle.std.proofs.lemmas.Bool.{eqb-true, eq-eqb, and_from, and_parts}
 use Rattle.std.proofs.lemmas.Option.{same_Some}
-use Rattle.contention_mgr.specs.Manager.{entry_wanted}
+use Rattle.contention_mgr.specs.Manager.{are_of, entry_of_looks, entry_wanted}
 use Rattle.lock_structure.specs.Entries.{entry_of_res, is_entry}
 use Rattle.grs_base.specs.Lists.{has_task}
 use Rattle.grs_base.specs.State.{State, list_of}
+use Rattle.grs_base.specs.Looks.{look, is_of_place}
+use Rattle.grs_base.specs.Slices.{slice_of, entry_of}
+use Rattle.grs_base.specs.declared.look.Filter.{Filter}
+use Rattle.grs_base.specs.declared.look.Place.TheVariants.{Slice}
 use Rattle.grs_base.specs.declared.resource.Res.{Res}
+use Rattle.grs_base.specs.declared.resource.Res.TheVariants as resources
 use Rattle.grs_base.specs.declared.resource.TaskId.{TaskId}
-use Rattle.grs_wire.specs.Wants.{after_want, answer_to, new_owners, res_wanted}
+use Rattle.grs_wire.specs.Wants.{after_want, answer_to, looks, new_owners, res_wanted}
+use Rattle.grs_wire.specs.declared.request.Answer.TheVariants.{Rows}
 use Rattle.grs_wire.specs.declared.request.Want.{Want}
 use Rattle.grs_wire.specs.declared.request.Want.TheVariants.{Enq, Deq, Release, Look}
 use Rattle.grs_known.proofs.lists.All.{has_task-all}
+use Rattle.grs_known.proofs.lists.Shows.{look-alike}
 use Rattle.grs_known.proofs.lists.Parts.{part, list_of-part, after_want-part, answer_to-part, new_owners-part}
 use Rattle.grs_known.proofs.lists.Parts.{part-want_other}
 
@@ -31,12 +40,16 @@ entry-is e None h = absurd (cc)
 entry-is e (Some n) h = ap Some (eqb-true n e h)
 
 -- the entry of a request is that of its resource
+pub want-entry : (entries : ℕ) (w : Want) (r : Res) → res_wanted w ≡ Some r
+    → entry_wanted entries w ≡ entry_of_res entries r
+want-entry entries (Enq q c ret full) r wanted = ap (entry_of_res entries) (same_Some q r wanted)
+want-entry entries (Deq q have) r wanted = ap (entry_of_res entries) (same_Some q r wanted)
+want-entry entries (Release q) r wanted = ap (entry_of_res entries) (same_Some q r wanted)
+want-entry entries (Look first count f) r wanted = absurd (cc)
+
 pub res-entry : (entries : ℕ) (w : Want) (r : Res) (e : ℕ) → res_wanted w ≡ Some r → entry_wanted entries w ≡ Some e
     → entry_of_res entries r ≡ Some e
-res-entry entries (Enq q c ret full) r e wanted is = ap (entry_of_res entries) (same_Some r q (sym wanted)) ∙ is
-res-entry entries (Deq q have) r e wanted is = ap (entry_of_res entries) (same_Some r q (sym wanted)) ∙ is
-res-entry entries (Release q) r e wanted is = ap (entry_of_res entries) (same_Some r q (sym wanted)) ∙ is
-res-entry entries (Look first count f) r e wanted is = absurd (cc)
+res-entry entries w r e wanted is = sym (want-entry entries w r wanted) ∙ is
 
 -- a request of the entry does to them what it does to all lists
 pub under-want : (entries e : ℕ) (s : State) (t : TaskId) (w : Want) → is_entry e (entry_wanted entries w) ≡ true
@@ -54,26 +67,59 @@ under-other entries e s t (Deq r have) h = part-want_other (in_entry entries e) 
 under-other entries e s t (Release r) h = part-want_other (in_entry entries e) s t (Release r) r refl h
 under-other entries e s t (Look first count f) h = refl
 
--- they answer as all lists do, and tell of the same new owners
-pub answer-under : (entries e : ℕ) (s : State) (t : TaskId) (w : Want) (r : Res) → res_wanted w ≡ Some r
-    → is_entry e (entry_wanted entries w) ≡ true → answer_to (under entries e s) t w ≡ answer_to s t w
-answer-under entries e s t (Enq q c ret full) r is h =
-    answer_to-part (in_entry entries e) s t (Enq q c ret full) q refl h
-answer-under entries e s t (Deq q have) r is h = answer_to-part (in_entry entries e) s t (Deq q have) q refl h
-answer-under entries e s t (Release q) r is h = answer_to-part (in_entry entries e) s t (Release q) q refl h
-answer-under entries e s t (Look first count f) r is h = absurd (cc)
-
-pub owners-under : (entries e : ℕ) (s : State) (t : TaskId) (w : Want) (r : Res) → res_wanted w ≡ Some r
-    → is_entry e (entry_wanted entries w) ≡ true → new_owners (under entries e s) t w ≡ new_owners s t w
-owners-under entries e s t (Enq q c ret full) r is h =
-    new_owners-part (in_entry entries e) s t (Enq q c ret full) q refl h
-owners-under entries e s t (Deq q have) r is h = new_owners-part (in_entry entries e) s t (Deq q have) q refl h
-owners-under entries e s t (Release q) r is h = new_owners-part (in_entry entries e) s t (Release q) q refl h
-owners-under entries e s t (Look first count f) r is h = absurd (cc)
-
 pub list-under : (entries e : ℕ) (s : State) (r : Res) → in_entry entries e r ≡ true
     → list_of (under entries e s) r ≡ list_of s r
 list-under entries e s r h = list_of-part (in_entry entries e) s r h
+
+-- the resources of a slice are of the slice's entry, so looks at slices of an entry show them as they show all lists
+slice-entry : (entries e n : ℕ) (q : Res) → e ≡ entry_of n entries → is_of_place (Slice n) q ≡ true
+    → in_entry entries e q ≡ true
+slice-entry entries e n (resources.Systems q r) is at =
+    eq-eqb (entry_of (slice_of q r) entries) e (ap (λ k. entry_of k entries) (eqb-true (slice_of q r) n at) ∙ sym is)
+slice-entry entries e n (resources.System s q r) is at = absurd (cc)
+slice-entry entries e n (resources.Step s j q r) is at = absurd (cc)
+
+looks-of : (entries e : ℕ) (s : State) (first count : ℕ) (f : Filter) → are_of entries e first count ≡ true
+    → looks (under entries e s) first count f ≡ looks s first count f
+looks-of entries e s first zero f h = refl
+looks-of entries e s first (suc count) f h =
+    let both = and_parts (e == entry_of first entries) (are_of entries e (first + 1) count) h in
+    ap (λ rows. rows ++ looks (under entries e s) (suc first) count f)
+    (look-alike (Slice first) f (under entries e s) s
+    (λ q at. list-under entries e s q (slice-entry entries e first q (eqb-true e (entry_of first entries) both.0) at)))
+    ∙ ap (λ rows. look s (Slice first) f ++ rows)
+    (looks-of entries e s (suc first) count f (ap (λ n. are_of entries e n count) (omega arith) ∙ both.1))
+
+looks-under : (entries e : ℕ) (s : State) (first count : ℕ) (f : Filter)
+    → is_entry e (entry_of_looks entries first count) ≡ true
+    → looks (under entries e s) first count f ≡ looks s first count f
+looks-under entries e s first count f h =
+    go (nat_lt 0 count) (nat_le (first + count) 64) (are_of entries (entry_of first entries) first count) refl h
+  where
+    go : (a b c : Bool) → are_of entries (entry_of first entries) first count ≡ c
+        → is_entry e (cond (a && b && c) (Some (entry_of first entries)) None) ≡ true
+        → looks (under entries e s) first count f ≡ looks s first count f
+    go true true true of k =
+        looks-of entries e s first count f
+        (ap (λ n. are_of entries n first count) (sym (eqb-true (entry_of first entries) e k)) ∙ of)
+    go true true false of k = absurd (cc)
+    go true false c of k = absurd (cc)
+    go false b c of k = absurd (cc)
+
+-- they answer as all lists do, and tell of the same new owners
+pub answer-under : (entries e : ℕ) (s : State) (t : TaskId) (w : Want) → is_entry e (entry_wanted entries w) ≡ true
+    → answer_to (under entries e s) t w ≡ answer_to s t w
+answer-under entries e s t (Enq q c ret full) h = answer_to-part (in_entry entries e) s t (Enq q c ret full) q refl h
+answer-under entries e s t (Deq q have) h = answer_to-part (in_entry entries e) s t (Deq q have) q refl h
+answer-under entries e s t (Release q) h = answer_to-part (in_entry entries e) s t (Release q) q refl h
+answer-under entries e s t (Look first count f) h = ap Rows (looks-under entries e s first count f h)
+
+pub owners-under : (entries e : ℕ) (s : State) (t : TaskId) (w : Want) → is_entry e (entry_wanted entries w) ≡ true
+    → new_owners (under entries e s) t w ≡ new_owners s t w
+owners-under entries e s t (Enq q c ret full) h = new_owners-part (in_entry entries e) s t (Enq q c ret full) q refl h
+owners-under entries e s t (Deq q have) h = new_owners-part (in_entry entries e) s t (Deq q have) q refl h
+owners-under entries e s t (Release q) h = new_owners-part (in_entry entries e) s t (Release q) q refl h
+owners-under entries e s t (Look first count f) h = refl
 
 -- and who has an element among them has it on a resource of the entry
 part-passes : (p : Res → Bool) (s : State) → list_all (λ h. p h.0) (part p s) ≡ true

@@ -22,10 +22,9 @@ use Rattle.grs_wire.specs.declared.deck.Choice.TheVariants as choices
 use Rattle.grs_wire.specs.declared.request.Fixed.{Fixed}
 use Rattle.grs_wire.specs.declared.request.Fixed.TheVariants as fixing
 use Rattle.grs_wire.specs.declared.request.Req.{Req}
-use Rattle.grs_wire.specs.History.{replay}
+use Rattle.grs_wire.specs.History.{replay, after_fixed}
 use Rattle.grs_known.specs.Items.{RunItem, goes_round, mine, lists, items, history}
-use Rattle.grs_known.proofs.known.Histories.{IsHistory, MayFollow, made_item, items-append, replayed, follows}
-use Rattle.grs_known.proofs.known.Histories.{wants-round, IsAsk}
+use Rattle.grs_known.proofs.known.Histories.{IsHistory, made_item, items-append, replayed, wants-round}
 use Rattle.grs_known.proofs.known.ItemLaws.{lists-push}
 use Rattle.grs_known.proofs.lists.Facts.{slice_get-set, slice_get-set_other}
 use Rattle.grs_world.specs.Kept.{kept}
@@ -33,6 +32,8 @@ use Rattle.grs_world.specs.World.{World, Turnout, fixed_by, placed, counted}
 use Rattle.grs_known.proofs.system.Says.{askers, stand_apart}
 use Rattle.grs_known.proofs.lists.Truths.{no_truth}
 use Rattle.grs_world.proofs.star.Elements.{AreNear, is_near_res, near-want}
+use Rattle.grs_world.proofs.system.AtNode.{MayFix, fix-history}
+use Rattle.grs_world.proofs.star.Ghosts.{IsOthers, others-fix}
 use Rattle.grs_world.proofs.star.OwnEvents.{Task, idle_task, local_task, system-task, want-round}
 use Rattle.grs_world.proofs.star.Tasks.{task-quiet}
 use Rattle.grs_world.proofs.star.Members.{IsMember, IsStar, IsStep, has_manager, all_lists, framed}
@@ -116,11 +117,11 @@ pub record IsWhole (deck : Deck) (w : World) : Type 0 where
       → n.star ≡ Some p → Hands deck w.medium.words (are_live w) later out m (in_hands p (inbox w.medium m))
 
 -- ---- what an event leaves
--- Behind these items an event of system c fixed nothing, or one item: of no other system whose tasks had sent nothing.
+-- Behind these items an event of system c fixed nothing, or one item: to each other system whose tasks had sent nothing
+-- it is one of others.
 pub data Fixes (deck : Deck) (c : ℕ) (out : ℕ → List Req) (T : List RunItem) : List RunItem → Type 0 where
   none_fixed : Fixes deck c out T T
-  one_fixed : (x : RunItem) (a : IsAsk deck x) → ((u : ℕ) → u ≢ c → out u ≡ [] → a.req.task.system.0 ≢ u)
-      → Fixes deck c out T (T ++ x ∷ [])
+  one_fixed : (x : RunItem) → ((u : ℕ) → u ≢ c → out u ≡ [] → IsOthers deck u T x) → Fixes deck c out T (T ++ x ∷ [])
 
 -- The world is whole after an event of system c, and what the tasks of every other system sent stays.
 pub record StaysWhole (deck : Deck) (w : World) (g : IsWhole deck w) (c : SysId) (w' : World) : Type 0 where
@@ -261,42 +262,46 @@ pub kept-whole : (deck : Deck) (w : World) → IsWhole deck w → (s : SysId) (r
 kept-whole deck w g s r all =
     kept_lists deck w g.roles s r all ∙ ap (λ st. list_of st r) (replayed deck (items w.fixed) g.right)
 
--- an item of the system's own task is none of another system
-pub fixes-own :
-    (deck : Deck) (c : SysId) (out : ℕ → List Req) (T : List RunItem) (q : Req)
-    (m : MayFollow deck T (made_item c T (fixing.Asked q)))
-    → q.task.system.0 ≡ c.0 → Fixes deck c.0 out T (T ++ made_item c T (fixing.Asked q) ∷ [])
-fixes-own deck c out T q m home =
-    one_fixed (made_item c T (fixing.Asked q)) m.ask
-    (λ u ne empty e. ne (sym e ∙ (ap (λ (z : Req). z.task.system.0) (sym asker) ∙ home)))
-  where
-    asker : q ≡ m.ask.req
-    asker = let e : fixing.Asked q ≡ fixing.Asked m.ask.req = m.ask.asked in cc
+-- what the system fixes for its own task is of others to each other system
+pub fixes-own : (deck : Deck) (c : SysId) (out : ℕ → List Req) (T : List RunItem) (f : Fixed) → MayFix deck c.0 c T f
+    → Fixes deck c.0 out T (T ++ made_item c T f ∷ [])
+fixes-own deck c out T f may =
+    one_fixed (made_item c T f) (λ u ne empty. others-fix deck c.0 u c T f may (λ e. ne (sym e)))
 
--- a request that doesn't go with the message is of no lock entry
+-- what doesn't go with the message is of no lock entry
 no_entry : (deck : Deck) (words : List ℕ) (u : TaskId) (r : Res) → is_systems r ≡ false
     → is_near_res deck words r u ≡ true
 no_entry deck words u (StepRes z j q r) e = refl
 no_entry deck words u (System z q r) e = refl
 no_entry deck words u (Systems q r) e = absurd (cc)
 
-pub near-local : (deck : Deck) (words : List ℕ) (T : List RunItem) (c : SysId) (q : Req)
-    → goes_round (fixing.Asked q) ≡ false → AreNear deck words (lists T)
-    → AreNear deck words (lists (T ++ made_item c T (fixing.Asked q) ∷ []))
-near-local deck words T c q away near =
-    subst (AreNear deck words) (sym (lists-push T (made_item c T (fixing.Asked q))))
-    (near-want deck words (lists T) q.task q.want
-    (λ r wanted. no_entry deck words q.task r (sym (wants-round q.want r wanted) ∙ away)) near)
-
-pub under-local : (deck : Deck) (T : List RunItem) (c : SysId) (q : Req) → goes_round (fixing.Asked q) ≡ false → (e : ℕ)
-    → under deck.entries e (lists (T ++ made_item c T (fixing.Asked q) ∷ [])) ≡ under deck.entries e (lists T)
-under-local deck T c q away e =
-    ap (under deck.entries e) (lists-push T (made_item c T (fixing.Asked q)))
-    ∙ under-other deck.entries e (lists T) q.task q.want (none (entry_wanted deck.entries q.want) refl)
+pub near-local : (deck : Deck) (words : List ℕ) (T : List RunItem) (c : SysId) (f : Fixed) → goes_round f ≡ false
+    → AreNear deck words (lists T) → AreNear deck words (lists (T ++ made_item c T f ∷ []))
+near-local deck words T c f away near =
+    subst (AreNear deck words) (sym (lists-push T (made_item c T f))) (by_fixed f away)
   where
-    none : (o : Option ℕ) → entry_wanted deck.entries q.want ≡ o → is_entry e o ≡ false
-    none None at = refl
-    none (Some x) at = absurd (want-round deck q.want x away at)
+    by_fixed : (k : Fixed) → goes_round k ≡ false → AreNear deck words (after_fixed (lists T) k)
+    by_fixed (fixing.Asked q) alone =
+        near-want deck words (lists T) q.task q.want
+        (λ r wanted. no_entry deck words q.task r (sym (wants-round q.want r wanted) ∙ alone)) near
+    by_fixed (fixing.LocalLook t g) alone = near
+    by_fixed (fixing.Purged target) alone = absurd (cc)
+
+pub under-local : (deck : Deck) (T : List RunItem) (c : SysId) (f : Fixed) → goes_round f ≡ false → (e : ℕ)
+    → under deck.entries e (lists (T ++ made_item c T f ∷ [])) ≡ under deck.entries e (lists T)
+under-local deck T c f away e = ap (under deck.entries e) (lists-push T (made_item c T f)) ∙ by_fixed f away
+  where
+    none : (q : Req) → goes_round (fixing.Asked q) ≡ false → (o : Option ℕ) → entry_wanted deck.entries q.want ≡ o
+        → is_entry e o ≡ false
+    none q alone None at = refl
+    none q alone (Some x) at = absurd (want-round deck q.want x alone at)
+
+    by_fixed : (k : Fixed) → goes_round k ≡ false
+        → under deck.entries e (after_fixed (lists T) k) ≡ under deck.entries e (lists T)
+    by_fixed (fixing.Asked q) alone =
+        under-other deck.entries e (lists T) q.task q.want (none q alone (entry_wanted deck.entries q.want) refl)
+    by_fixed (fixing.LocalLook t g) alone = refl
+    by_fixed (fixing.Purged target) alone = absurd (cc)
 
 -- ---- events of a system c
 module _ (deck : Deck) (w : World) (g : IsWhole deck w) (c : SysId) (n : NodeState)
@@ -305,16 +310,12 @@ module _ (deck : Deck) (w : World) (g : IsWhole deck w) (c : SysId) (n : NodeSta
   T = items w.fixed
 
   -- its own item is another system's to the others
-  pub others-item : (f : Req) (m : MayFollow deck T (made_item c T (fixing.Asked f))) → f.task.system.0 ≡ c.0
-      → (s : ℕ) (k : NodeState) → s ≢ c.0 → slice_get w.nodes s ≡ Some k → has w.medium.removed s ≡ false →
-      IsSystem deck w.medium.words (T ++ made_item c T (fixing.Asked f) ∷ []) s k (inbox w.medium s) (g.later s)
-      (g.out s)
-  others-item f m home s k ne found live =
-      system-other deck w.medium.words T s k (inbox w.medium s) (g.later s) (g.out s) (made_item c T (fixing.Asked f))
-      m.ask (λ e. ne (sym e ∙ (ap (λ (q : Req). q.task.system.0) (sym asker) ∙ home))) (g.system s k found live)
-    where
-      asker : f ≡ m.ask.req
-      asker = let e : fixing.Asked f ≡ fixing.Asked m.ask.req = m.ask.asked in cc
+  pub others-item : (f : Fixed) → MayFix deck c.0 c T f → (s : ℕ) (k : NodeState) → s ≢ c.0
+      → slice_get w.nodes s ≡ Some k → has w.medium.removed s ≡ false →
+      IsSystem deck w.medium.words (T ++ made_item c T f ∷ []) s k (inbox w.medium s) (g.later s) (g.out s)
+  others-item f may s k ne found live =
+      system-other deck w.medium.words T s k (inbox w.medium s) (g.later s) (g.out s) (made_item c T f)
+      (others-fix deck c.0 s c T f may (λ e. ne (sym e))) (g.system s k found live)
 
   -- a task goes on by itself
   pub whole-task : (t : TaskId) → may_go deck n t ≡ true
@@ -323,8 +324,11 @@ module _ (deck : Deck) (w : World) (g : IsWhole deck w) (c : SysId) (n : NodeSta
   unfolding finish_quiet
   whole-task t goes step =
       by_task (system-task deck w.medium.words T g.right c.0 n (inbox w.medium c.0) (g.later c.0) (g.out c.0)
-      (g.system c.0 n at alive) c t goes)
+      (g.system c.0 n at alive) c t me.part me.star goes)
     where
+      me : IsMember deck w.medium.words (all_lists w) c.0 n
+      me = g.roles.node c.0 n at alive
+
       same_star : (finish_quiet deck n (choices.Task t)).node.star ≡ n.star
       same_star = by_part (g.roles.node c.0 n at alive)
         where
@@ -344,13 +348,12 @@ module _ (deck : Deck) (w : World) (g : IsWhole deck w) (c : SysId) (n : NodeSta
           g.right g.near z.system (λ s k ne found lives. g.system s k found lives)
           (λ p is. g.hands c.0 n p at alive (sym same_star ∙ is))
           (λ m k p ne found lives is. g.hands m k p found lives is)
-      by_task (local_task q is_item mine_q away m z) =
-          let item : RunItem = made_item c T (fixing.Asked q) in
-          let home : q.task.system.0 ≡ c.0 = eqb-true q.task.system.0 c.0 mine_q in
+      by_task (local_task f is_item away may z) =
+          let item : RunItem = made_item c T f in
           whole-placed deck w g c n at alive (record { medium = w.medium; step = finish_quiet deck n (choices.Task t) })
           step (T ++ item ∷ [])
-          (ap (λ fs. items (w.fixed ++ fixed_by c fs)) is_item ∙ items-one w.fixed c (fixing.Asked q)) g.later g.out
-          (λ u ne. refl) (fixes-own deck c g.out T q m home)
-          (follows deck T item g.right m) (near-local deck w.medium.words T c q away g.near) z.system
-          (others-item q m home) (λ p is. g.hands c.0 n p at alive (sym same_star ∙ is))
+          (ap (λ fs. items (w.fixed ++ fixed_by c fs)) is_item ∙ items-one w.fixed c f) g.later g.out
+          (λ u ne. refl) (fixes-own deck c g.out T f may)
+          (fix-history g.right may) (near-local deck w.medium.words T c f away g.near) z.system
+          (others-item f may) (λ p is. g.hands c.0 n p at alive (sym same_star ∙ is))
           (λ k j p ne found lives is. g.hands k j p found lives is)

@@ -83,9 +83,11 @@ new_here deck t ls = record {
     codes = refl;
     posts = refl;
     phase = record { going = record { no_code = refl; no_end = refl }; free = tt; passed = refl };
+    shown = refl;
     emptied = λ e. refl;
   };
   opened = tt;
+  looks = tt;
   asked = tt;
   sent = refl;
 }

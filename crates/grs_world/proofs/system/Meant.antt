@@ -1,5 +1,7 @@
--- The resource that a line asks for is one of the whole complex, or one of its task's system alone.
-use Rattle.std.proofs.Common.{◌≡◌, ℕ, Bool, true, ◌||◌, List, [], ◌∷◌, map, Option, Some, None, refl, sym, ◌∙◌, subst}
+-- The resource that a line asks for is one of the whole complex, or one of its task's system alone; and own lists that
+-- a line shows are those of its task's system.
+use Rattle.std.proofs.Common.{◌≡◌, ℕ, Bool, true, false, ◌||◌, List, [], ◌∷◌, map, Option, Some, None, refl, sym, ◌∙◌}
+use Rattle.std.proofs.Common.{subst}
 use Rattle.std.specs.Prelude.{slice_get}
 use Rattle.std.specs.Option.{option_map}
 use Rattle.std.proofs.lemmas.Bool.{eq-eqb}
@@ -29,11 +31,17 @@ res_own scopes.Step s job q r = eq-eqb s.0 s.0 refl
 res_own scopes.System s job q r = eq-eqb s.0 s.0 refl
 res_own scopes.Systems s job q r = refl
 
--- what is asked by a line of a task of system s is for such a resource
+-- whose own lists are looked at, if any are, is the system of this number
+abbrev pub IsHome : ℕ → Option SysId → Type 0
+IsHome s None = Unit {0}
+IsHome s (Some u) = u.0 ≡ s
+
+-- what is asked by a line of a task of system s is for such a resource, or shows its own lists
 abbrev pub IsOwnLine : ℕ → Meaning → Type 0
 IsOwnLine s (lines.Enq r c ret unit) = is_own s r ≡ true
 IsOwnLine s (lines.Deq r have) = is_own s r ≡ true
 IsOwnLine s (lines.Wait r) = Unit {0}
+IsOwnLine s (lines.Shows d) = IsHome s d.home
 IsOwnLine s lines.Nothing = Unit {0}
 
 line_own : (lists : Lists) (t : TaskId) (l : Line) → IsOwnLine t.system.0 (meaning_of lists t l)
@@ -42,9 +50,10 @@ line_own lists t (written.Enq (i ∷ more) ret rnl) = res_own _ t.system t.job i
 line_own lists t (written.Reserve q r ctl unit ret rnl) = res_own _ t.system t.job q r
 line_own lists t (written.Deq q r scope have unit rnl) = res_own _ t.system t.job q r
 line_own lists t (written.Wait q r scope rnl) = tt
-line_own lists t (written.Gqscan global filter) = tt
-line_own lists t written.DisplayC = tt
-line_own lists t (written.DisplayRes q r) = tt
+line_own lists t (written.Gqscan true filter) = tt
+line_own lists t (written.Gqscan false filter) = refl
+line_own lists t written.DisplayC = refl
+line_own lists t (written.DisplayRes q r) = refl
 
 pub lines_own : (deck : Deck) (t : TaskId) (ls : List Meaning) (k : ℕ) (l : Meaning) → lines_of deck t ≡ Some ls
     → slice_get ls k ≡ Some l → IsOwnLine t.system.0 l

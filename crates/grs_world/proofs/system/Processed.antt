@@ -4,9 +4,8 @@ use Rattle.std.proofs.Common.{None, refl, ap, sym, ◌∙◌, subst}
 use Rattle.std.specs.Prelude.{is_some, ◌==◌}
 use Rattle.std.specs.List.{list_all}
 use Rattle.std.proofs.lemmas.Bool.{and_parts, eqb-true, eqb-false, not-true}
-use Rattle.std.proofs.lemmas.Option.{same_Some}
 use Rattle.grs_base.specs.Same.{same_task}
-use Rattle.grs_base.specs.State.{is_systems}
+use Rattle.grs_base.specs.State.{State}
 use Rattle.grs_base.specs.declared.resource.Res.{Res}
 use Rattle.grs_base.specs.declared.resource.TaskId.{TaskId}
 use Rattle.grs_base.proofs.SameLaws.{same_task-itself}
@@ -14,36 +13,39 @@ use Rattle.grs_legal.specs.Asks.{lines_of}
 use Rattle.grs_legal.specs.declared.meaning.Meaning.{Meaning}
 use Rattle.grs_node.specs.Node.{NodeState}
 use Rattle.grs_wire.specs.contracts.request.WantPartialEq.TheImpl.{eq-value as same_want}
+use Rattle.grs_wire.specs.History.{entries_for}
 use Rattle.grs_wire.specs.Wants.{answer_to, after_want, res_wanted, new_owners}
 use Rattle.grs_wire.specs.declared.deck.Deck.{Deck}
 use Rattle.grs_wire.specs.declared.history.HistEntry.{HistEntry}
 use Rattle.grs_wire.specs.declared.request.Answer.{Answer}
 use Rattle.grs_wire.specs.declared.request.Fixed.TheVariants as fixing
 use Rattle.grs_wire.specs.declared.request.Req.{Req}
+use Rattle.grs_wire.specs.declared.request.Want.{Want}
+use Rattle.grs_wire.specs.declared.request.Want.TheVariants.{Enq, Deq, Release, Look}
 use Rattle.ring_mode.specs.Ring.{Side, process, answer_own, is_asked}
 use Rattle.ring_mode.proofs.WantLaws.{want-itself}
-use Rattle.task_state.specs.Replies.{replied, recalled, tell_answer, tell_answer_any, tell_new, phase_asking, gives_up}
-use Rattle.task_state.specs.Replies.{is_leaving}
+use Rattle.task_state.specs.Replies.{answered, recalled, tell_answer, tell_answer_any, tell_new, gives_up, is_leaving}
 use Rattle.task_state.specs.View.{TasksView, is_task, state_of, is_sent}
 use Rattle.task_state.proofs.ViewLaws.{is_task-system}
 use Rattle.task_state.specs.declared.state.Asked.{Asked}
 use Rattle.task_state.specs.declared.state.TaskState.{TaskState}
-use Rattle.grs_known.specs.Items.{RunItem, is_of, rounds, mine, lists, history}
+use Rattle.grs_known.specs.Items.{RunItem, is_of, wants_round, rounds, mine, lists, history}
 use Rattle.grs_known.specs.Known.{outstanding}
 use Rattle.grs_known.specs.Past.{Past, past_of}
 use Rattle.grs_known.proofs.known.Knowing.{one-some}
 use Rattle.grs_known.proofs.ring.Due.{ReadBy, read_by}
 use Rattle.grs_known.proofs.known.Histories.{IsHistory, IsAsk}
-use Rattle.grs_known.proofs.known.Knows.{entry-learned}
+use Rattle.grs_known.proofs.known.Knows.{KnowsLooks, entry-learned, looks-learned}
 use Rattle.grs_known.proofs.lists.Facts.{filter-cons_kept, filter-cons_left, some_of}
 use Rattle.grs_known.proofs.lists.Owners.{is_among}
+use Rattle.grs_known.proofs.lists.Shows.{is_look, looks-are}
 use Rattle.grs_known.proofs.lists.Truths.{false_by}
 use Rattle.grs_known.proofs.tasks.Invariant.{IsTask}
 use Rattle.grs_known.proofs.system.Askers.{among-front}
-use Rattle.grs_known.proofs.system.Asking.{line_asked, unasked_by, IsAskedFor, IsOpenBy, IsReq, Opens, are_sent}
-use Rattle.grs_known.proofs.system.Asking.{task-open}
+use Rattle.grs_known.proofs.system.Asking.{line_asked, phase_seen, unasked_by, IsAskedFor, IsLooks, IsLooksBy, IsOpenBy}
+use Rattle.grs_known.proofs.system.Asking.{IsReq, Opens, are_sent, task-open}
 use Rattle.grs_world.proofs.system.AtNode.{opens_of, Seen, after-asked, not-ours}
-use Rattle.grs_known.proofs.system.Events.{StaysGood, Decides, tells_good}
+use Rattle.grs_known.proofs.system.Events.{StaysGood, Decides, Leaves, Looks, tells_good}
 use Rattle.grs_known.proofs.system.Good.{IsGood, here-kept}
 use Rattle.grs_known.proofs.system.Ours.{IsOurs, IsHere}
 use Rattle.grs_known.proofs.system.Says.{is_home_at, askers, stand_apart, own_asked, ToldBy, none}
@@ -70,7 +72,7 @@ read-shared n q = refl
 -- the tasks among which a request of the system's own was answered
 pub answers-own : (v : TasksView) (q : Req) (answer : Answer) (a : Asked) → is_task v q.task ≡ true
     → is_sent (state_of v q.task).phase ≡ true → (state_of v q.task).outstanding ≡ Some a → a.req ≡ q →
-    answer_own v q answer ≡ replied (recalled v q.task q.want) q.task q.want a.unit answer
+    answer_own v q answer ≡ answered (recalled v q.task q.want) q.task a answer
 unfolding answer_own tell_answer_any tell_answer
 answers-own v q answer a here sent opened is =
     let asked : is_asked q.want (state_of v q.task).outstanding ≡ true =
@@ -81,7 +83,7 @@ answers-own v q answer a here sent opened is =
     rw (here, sent, asked) refl in
     ap (λ b. cond b (tell_answer_any v q.task answer (state_of v q.task).outstanding) v) all
     ∙ ap (λ o. tell_answer_any v q.task answer o) opened
-    ∙ ap (λ (z : Req). replied (recalled v q.task z.want) q.task z.want a.unit answer) is
+    ∙ ap (λ (z : Req). answered (recalled v q.task z.want) q.task a answer) is
 
 pub answers-none : (v : TasksView) (q : Req) (answer : Answer) → is_task v q.task ≡ false → answer_own v q answer ≡ v
 unfolding answer_own
@@ -90,6 +92,14 @@ answers-none v q answer away =
     cond (b && (is_sent (state_of v q.task).phase && is_asked q.want (state_of v q.task).outstanding))
     (tell_answer_any v q.task answer (state_of v q.task).outstanding) v)
     away
+
+-- looks make entries of looks alone
+pub entries-look : (s : State) (t : TaskId) (w : Want) → res_wanted w ≡ None
+    → list_all is_look (entries_for s t w) ≡ true
+entries-look s t (Enq r c ret full) e = absurd (cc)
+entries-look s t (Deq r have) e = absurd (cc)
+entries-look s t (Release r) e = absurd (cc)
+entries-look s t (Look first count f) e = looks-are s t first count f
 
 -- ---- the first of the items that are due
 -- A request of the message was processed.
@@ -129,41 +139,69 @@ module _ (deck : Deck) (s : ℕ) (P before : List RunItem) (right : IsHistory de
     away : is_among q.task (askers (out ++ n.outbox)) ≡ false
     away = not-true _ (and_parts _ _ seen.apart).0
 
-    decides : (r : Res) (b : ReadBy deck P before x later q r) (h : HistEntry) → x.entries ≡ h ∷ []
-        → Decides deck os os' P P q.task p h r (new_owners (lists before) q.task q.want)
-    decides r b h one = record {
+    leaves : Leaves deck os os' P P q.task
+    leaves u ms T T' y apart told k =
+        here-kept deck os os' P T T' u ms y (sym (filter-cons_left (λ z. is_of u z.fixed) x later (others u ∙ apart)))
+        (λ a. a.1) (λ a. (and_parts _ _ a).1) told k
+
+    decides : (b : ReadBy deck P before x later q) (h : HistEntry) (r : Res) → res_wanted q.want ≡ Some r
+        → x.entries ≡ h ∷ [] → Decides deck os os' P P q.task p h r (new_owners (lists before) q.task q.want)
+    decides b h r wanted one = record {
       right = right;
       learns = entry-learned deck P x q.task here.known h right here.knows.live here.knows.right is_due.0 one;
       due = is_due.1;
-      leaves = λ u ms T T' y apart told k.
-          here-kept deck os os' P T T' u ms y (sym (filter-cons_left (λ z. is_of u z.fixed) x later (others u ∙ apart)))
-          (λ a. a.1) (λ a. (and_parts _ _ a).1) told k;
+      leaves = leaves;
       away = away;
       away_out = among-front q.task out n.outbox away;
-      owners = λ u e. ((b.owners u e).0, λ T ms y k. (b.owners u e).1 k.known k.knows.live k.knows.right k.due);
+      owners = λ u e.
+          ((b.owners r wanted u e).0, λ T ms y k. (b.owners r wanted u e).1 k.known k.knows.live k.knows.right k.due);
+    }
+
+    looks : (b : ReadBy deck P before x later q) → res_wanted q.want ≡ None
+        → Looks deck os os' P P q.task p (entries_for b.at q.task q.want)
+    looks b e = record {
+      right = right;
+      learns =
+          subst (KnowsLooks P q.task p) b.made
+          (looks-learned P x q.task here.known here.knows.live here.knows.right is_due.0
+          (ap (list_all is_look) b.made ∙ entries-look b.at q.task q.want e));
+      due = is_due.1;
+      leaves = leaves;
     }
 
     -- it asks and its request is decided, in one
-    own_read : (r : Res) → res_wanted q.want ≡ Some r → ReadBy deck P before x later q r → (unit : Option ℕ) →
-        IsTask ls p v.told (λ z. gives_up z q.want) q.task (record (state_of v q.task) {
-          line = line_asked q.want (state_of v q.task).line;
-          phase = phase_asking q.want (state_of v q.task).code;
+    own_read : (b : ReadBy deck P before x later q) (a : Asked) → a.req ≡ q →
+        IsTask ls p v.told (λ z. gives_up z a.req.want) q.task (record (state_of v q.task) {
+          line = line_asked a.req.want (state_of v q.task).line;
+          phase = phase_seen a.req.want (state_of v q.task).code;
           outstanding = None;
         })
         →
-        IsAskedFor deck.limit ls (state_of v q.task).line (state_of v q.task).records q.want unit →
+        IsAskedFor deck.limit ls (state_of v q.task).line (state_of v q.task).records a.req.want a.unit
+        → IsLooksBy ls p.asked (state_of v q.task).line a.req.want a.showing →
         StaysGood deck s os' P v.told (tell_new
-        (replied (recalled v q.task q.want) q.task q.want unit (answer_to (lists before) q.task q.want))
-        (res_wanted q.want) (new_owners (lists before) q.task q.want))
-    own_read r wanted b unit k a =
+        (answered (recalled v q.task q.want) q.task a (answer_to (lists before) q.task q.want)) (res_wanted q.want)
+        (new_owners (lists before) q.task q.want))
+    own_read b a is k f l =
+        let ts = new_owners (lists before) q.task q.want in
         subst (λ z.
-        StaysGood deck s os' P v.told (tell_new (replied (recalled v q.task q.want) q.task q.want unit z)
-        (res_wanted q.want) (new_owners (lists before) q.task q.want)))
+        StaysGood deck s os' P v.told
+        (tell_new (answered (recalled v q.task q.want) q.task a z) (res_wanted q.want) ts))
         (sym b.answer)
-        (asked-good deck s os os' P P v seen.good q.task ls ours q.want unit b.at
-        (new_owners (lists before) q.task q.want) k a
-        (λ h z is one.
-        decides z (subst (ReadBy deck P before x later q) (same_Some r z (sym wanted ∙ is)) b) h (b.made ∙ one)))
+        (subst (λ (z : Req).
+        StaysGood deck s os' P v.told (tell_new
+        (answered (recalled v q.task z.want) q.task a (answer_to b.at q.task z.want)) (res_wanted z.want) ts))
+        is
+        (asked-good deck s os os' P P v seen.good q.task ls ours a (ap (λ (z : Req). z.task) is) b.at ts k f l
+        (λ h r wanted one.
+        decides b h r (ap (λ (z : Req). res_wanted z.want) (sym is) ∙ wanted)
+        (b.made ∙ ap (λ (z : Req). entries_for b.at q.task z.want) (sym is) ∙ one))
+        (λ e. (
+          subst (λ (z : Req). Looks deck os os' P P q.task p (entries_for b.at q.task z.want)) (sym is)
+              (looks b (ap (λ (z : Req). res_wanted z.want) (sym is) ∙ e)),
+          away,
+          among-front q.task out n.outbox away,
+        ))))
 
   -- the system afterwards, given its tasks
   module _ (a : IsAsk deck x) (out0 out : List Req) (seen : Seen deck s P before (x ∷ later) out0 n)
@@ -199,9 +237,9 @@ module _ (deck : Deck) (s : ℕ) (P before : List RunItem) (right : IsHistory de
         }
 
   -- one of its own
-  read-own : (out : List Req) (a : IsAsk deck x) → is_systems a.res ≡ true
+  read-own : (out : List Req) (a : IsAsk deck x) → wants_round a.req.want ≡ true
       → Seen deck s P before (x ∷ later) (a.req ∷ out) n → Reads deck s P before x later out n a.req
-  read-own out a wide seen = by_open (state_of n.tasks t).outstanding refl (here_is.asked.0 (same_task-itself t))
+  read-own out a round seen = by_open (state_of n.tasks t).outstanding refl (here_is.asked.0 (same_task-itself t))
     where
       t : TaskId
       t = a.req.task
@@ -245,35 +283,36 @@ module _ (deck : Deck) (s : ℕ) (P before : List RunItem) (right : IsHistory de
           let rq : b.req ≡ q = subst (IsReq q) f is in
           let opened : IsOpenBy deck.limit ls q.task y (Some b) =
           subst (λ o. IsOpenBy deck.limit ls q.task y o) f here_is.opened in
-          let asked_for : IsAskedFor deck.limit ls y.line y.records q.want b.unit =
-          subst (λ (z : Req). IsAskedFor deck.limit ls y.line y.records z.want b.unit) rq opened.2 in
-          let task1 =
+          let task =
           subst (λ o. IsTask ls own_past n.tasks.told (λ r. is_leaving r o) q.task (unasked_by o y)) f k.task in
-          let task2 =
-          subst (λ (z : Req).
-          IsTask ls own_past n.tasks.told (λ r. gives_up r z.want) q.task
-          (record y { line = line_asked z.want y.line; phase = phase_asking z.want y.code }))
-          rq task1 in
           reads-by a (q ∷ out) out seen (and_parts _ _ seen.homes).1 (and_parts _ _ seen.apart).1 _
           (ap (λ z. tell_new z (res_wanted q.want) (new_owners (lists before) q.task q.want))
           (answers-own n.tasks q (answer_to (lists before) q.task q.want) b ours.here sent f rq))
           (own_read out q ls ours (ap (is_of q.task) a.asked ∙ same_task-itself q.task) seen (λ u. ap (is_of u) a.asked)
-          a.res a.wanted (read_by deck P before x later q a.res right whole a.asked a.wanted wide) b.unit
-          (task-open ls own_past n.tasks.told _ q.task _ None task2) asked_for)
+          (read_by deck P before x later q right whole a.asked round) b rq
+          (task-open ls own_past n.tasks.told _ q.task _ None task) opened.2
+          (subst (IsLooks ls own_past.asked y.line) f k.looks))
 
   -- one of another system
-  read-other : (out : List Req) (a : IsAsk deck x) → is_systems a.res ≡ true → a.req.task.system.0 ≢ s
+  read-other : (out : List Req) (a : IsAsk deck x) → wants_round a.req.want ≡ true → a.req.task.system.0 ≢ s
       → Seen deck s P before (x ∷ later) out n → Reads deck s P before x later out n a.req
   unfolding tell_new
-  read-other out a wide ne seen =
-      let q : Req = a.req in
-      let b = read_by deck P before x later q a.res right whole a.asked a.wanted wide in
+  read-other out a round ne seen =
       reads-by a out out seen seen.homes seen.apart _
       (ap (λ z. tell_new z (res_wanted q.want) (new_owners (lists before) q.task q.want))
       (answers-none n.tasks q (answer_to (lists before) q.task q.want)
-      (false_by (is_task n.tasks q.task) (λ e. absurd (ne (sym (is_task-system n.tasks q.task e) ∙ seen.good.system)))))
-      ∙ ap (λ o. tell_new n.tasks o (new_owners (lists before) q.task q.want)) a.wanted)
-      (tells_good deck s (opens_of later out n) P right n.tasks.told n.tasks (record {
+      (false_by (is_task n.tasks q.task) (λ e.
+      absurd (ne (sym (is_task-system n.tasks q.task e) ∙ seen.good.system))))))
+      (by_res (res_wanted q.want) refl)
+    where
+      q : Req
+      q = a.req
+
+      b : ReadBy deck P before x later a.req
+      b = read_by deck P before x later a.req right whole a.asked round
+
+      good : IsGood deck s (opens_of later out n) P n.tasks
+      good = record {
         tasks = record {
           each = λ u ls o.
               here-kept deck (opens_of (x ∷ later) out n) (opens_of later out n) P n.tasks.told n.tasks.told u ls _
@@ -282,16 +321,24 @@ module _ (deck : Deck) (s : ℕ) (P before : List RunItem) (right : IsHistory de
         };
         here = seen.good.here;
         system = seen.good.system;
-      }) none a.res (new_owners (lists before) q.task q.want)
-      (λ u e. ((b.owners u e).0, λ T ls y k. (b.owners u e).1 k.known k.knows.live k.knows.right k.due)))
+      }
 
-  pub read : (out : List Req) (a : IsAsk deck x) → is_systems a.res ≡ true
+      by_res : (o : Option Res) → res_wanted a.req.want ≡ o
+          → StaysGood deck s (opens_of later out n) P n.tasks.told
+          (tell_new n.tasks o (new_owners (lists before) a.req.task a.req.want))
+      by_res None wanted = record { good = good; told = none }
+      by_res (Some r) wanted =
+          tells_good deck s (opens_of later out n) P right n.tasks.told n.tasks good none r
+          (new_owners (lists before) a.req.task a.req.want) (λ u e.
+          ((b.owners r wanted u e).0, λ T ls y k. (b.owners r wanted u e).1 k.known k.knows.live k.knows.right k.due))
+
+  pub read : (out : List Req) (a : IsAsk deck x) → wants_round a.req.want ≡ true
       → Seen deck s P before (x ∷ later) (own_asked s (fixing.Asked a.req) ++ out) n
       → Reads deck s P before x later out n a.req
-  read out a wide = go (a.req.task.system.0 == s) refl
+  read out a round = go (a.req.task.system.0 == s) refl
     where
       go : (b : Bool) → (a.req.task.system.0 == s) ≡ b
           → Seen deck s P before (x ∷ later) (cond b (a.req ∷ []) [] ++ out) n
           → Reads deck s P before x later out n a.req
-      go true e seen = read-own out a wide seen
-      go false e seen = read-other out a wide (eqb-false _ _ e) seen
+      go true e seen = read-own out a round seen
+      go false e seen = read-other out a round (eqb-false _ _ e) seen

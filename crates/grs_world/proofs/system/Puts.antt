@@ -20,9 +20,10 @@ use Rattle.grs_wire.specs.declared.request.Fixed.TheVariants as fixing
 use Rattle.grs_wire.specs.declared.request.Req.{Req}
 use Rattle.grs_wire.specs.declared.request.Want.{Want}
 use Rattle.grs_wire.specs.declared.request.Want.TheVariants.{Enq, Deq, Release, Look}
-use Rattle.task_state.specs.Replies.{phase_asking, gives_up, is_leaving}
+use Rattle.task_state.specs.Replies.{gives_up, is_leaving}
 use Rattle.task_state.specs.View.{TasksView, state_of, with_phase, code_in}
 use Rattle.task_state.specs.declared.state.Asked.{Asked}
+use Rattle.task_state.specs.declared.state.Showing.{Showing}
 use Rattle.task_state.specs.declared.state.Phase.{Phase}
 use Rattle.task_state.specs.declared.state.Phase.TheVariants as phases
 use Rattle.task_state.specs.declared.state.TaskState.{TaskState}
@@ -30,17 +31,16 @@ use Rattle.grs_known.specs.Items.{RunItem, is_of, goes_round, rounds, mine, hist
 use Rattle.grs_known.specs.Known.{outstanding, falls_behind}
 use Rattle.grs_known.specs.Past.{Past, past_of, Speaks}
 use Rattle.grs_known.proofs.known.Knowing.{one, one-none, outstanding-own}
-use Rattle.grs_known.proofs.known.Following.{is_full-known, may_follow}
-use Rattle.grs_known.proofs.known.Histories.{IsHistory, MayFollow, made_item, goes-ask, stays-ask}
+use Rattle.grs_known.proofs.known.Following.{is_full-known, may_follow, may_follow_looks}
+use Rattle.grs_known.proofs.known.Histories.{IsHistory, MayFollow, made_item, stays-ask}
 use Rattle.grs_known.proofs.known.Knows.{Knows, known-all, speaks-known, knows-behind, past-behind}
 use Rattle.grs_known.proofs.lists.Facts.{all-behind, all-middle, filter-cons_kept, some_of, take-none}
-use Rattle.grs_known.proofs.lists.Parts.{systems-other}
 use Rattle.grs_known.proofs.tasks.Asked.{next-asked}
 use Rattle.grs_known.proofs.tasks.Invariant.{IsTask}
 use Rattle.grs_known.proofs.tasks.Steps.{next-ending}
-use Rattle.grs_known.proofs.system.Asking.{line_asked, unasked, unasked_by, IsAskedFor, IsOpenBy, Opens, IsReq}
-use Rattle.grs_known.proofs.system.Asking.{IsAskedBy, are_sent, task-open}
-use Rattle.grs_world.proofs.system.AtNode.{opens_of, Seen, mine-left, seen-more}
+use Rattle.grs_known.proofs.system.Asking.{line_asked, phase_seen, unasked, unasked_by, IsAskedFor, IsLooks, IsLooksBy}
+use Rattle.grs_known.proofs.system.Asking.{IsOpenBy, Opens, IsReq, IsAskedBy, are_sent, looks-asked, task-open}
+use Rattle.grs_world.proofs.system.AtNode.{opens_of, Seen, mine-left, part-round, seen-more}
 use Rattle.grs_known.proofs.system.Did.{did-none, did-phase}
 use Rattle.grs_known.proofs.system.Good.{IsGood, here-kept, here-other}
 use Rattle.grs_known.proofs.system.Ours.{IsOurs, IsHere}
@@ -93,6 +93,7 @@ put_one deck s P later out q box v good home =
       opened =
           by_opened x mine.0 x.outstanding
           (asked-middle q.task x.outstanding out q box k.asked (same_task-itself q.task)) k.opened;
+      looks = k.looks;
       asked = k.asked;
       sent = all_sent-all q.task (out ++ q ∷ []);
     })
@@ -218,16 +219,16 @@ module _ (deck : Deck) (s : ℕ) (P before later : List RunItem) (out : List Req
         (same_task-itself q.task)
 
     -- what its task asks next
-    by_want : (w : Want) (unit : Option ℕ) →
+    by_want : (w : Want) (unit : Option ℕ) (showing : Option Showing) →
         IsTask ls p n.tasks.told (λ r. gives_up r w) t (record (state_of n.tasks t) {
           line = line_asked w (state_of n.tasks t).line;
-          phase = phase_asking w (state_of n.tasks t).code;
+          phase = phase_seen w (state_of n.tasks t).code;
           outstanding = None;
         })
         →
         IsAskedFor deck.limit ls (state_of n.tasks t).line (state_of n.tasks t).records w unit
-        → MayPut deck P (record { task = t; want = w })
-    by_want (Enq r c ret full) unit k a =
+        → IsLooksBy ls p.asked (state_of n.tasks t).line w showing → MayPut deck P (record { task = t; want = w })
+    by_want (Enq r c ret full) unit showing k a l =
         let x : TaskState = state_of n.tasks t in
         record {
           round = a.2;
@@ -237,7 +238,7 @@ module _ (deck : Deck) (s : ℕ) (P before later : List RunItem) (out : List Req
               (next-asked ls p n.tasks.told (λ q. false) t (x.line - 1) x.code x.records None x.rows
               (lines.Enq r c ret unit) (AsksEnq r c ret) (record { before = k; at = a.1; asks = refl }));
         }
-    by_want (Deq r have) unit k a =
+    by_want (Deq r have) unit showing k a l =
         let x : TaskState = state_of n.tasks t in
         record {
           round = a.2;
@@ -247,7 +248,7 @@ module _ (deck : Deck) (s : ℕ) (P before later : List RunItem) (out : List Req
               (next-asked ls p n.tasks.told (λ q. same_res q r) t (x.line - 1) x.code x.records None x.rows
               (lines.Deq r have) (AsksDeq r have) (record { before = k; at = a.1; asks = refl }));
         }
-    by_want (Release r) unit k a =
+    by_want (Release r) unit showing k a l =
         let x : TaskState = state_of n.tasks t in
         record {
           round = a.1;
@@ -256,7 +257,15 @@ module _ (deck : Deck) (s : ℕ) (P before later : List RunItem) (out : List Req
               (or_left _ _ a.1) tt (AsksRelease r) refl
               (next-ending ls p n.tasks.told (λ q. same_res q r) t x.line x.code x.code x.records None x.rows k r a.0);
         }
-    by_want (Look first count f) unit k a = absurd a
+    by_want (Look first count f) unit showing k a l =
+        let x : TaskState = state_of n.tasks t in
+        record {
+          round = refl;
+          follow = λ by.
+              may_follow_looks deck P right t p speaks ls task_is.1.lines here.knows.live by first count f
+              (looks-asked ls p n.tasks.told (λ q. false) t x.line x.code x.records None x.rows k first count f showing
+              l);
+        }
 
     pub may_put : MayPut deck P q
     may_put = by_open (state_of n.tasks q.task).outstanding refl is_asked
@@ -276,9 +285,11 @@ module _ (deck : Deck) (s : ℕ) (P before later : List RunItem) (out : List Req
             let task2 =
             subst (λ (z : Req).
             IsTask ls p n.tasks.told (λ r. gives_up r z.want) q.task
-            (record x { line = line_asked z.want x.line; phase = phase_asking z.want x.code }))
+            (record x { line = line_asked z.want x.line; phase = phase_seen z.want x.code }))
             rq task1 in
-            by_want q.want a.unit (task-open ls p n.tasks.told _ q.task _ None task2) asked_for
+            by_want q.want a.unit a.showing (task-open ls p n.tasks.told _ q.task _ None task2) asked_for
+            (subst (λ (z : Req). IsLooksBy ls p.asked x.line z.want a.showing) rq
+            (subst (IsLooks ls p.asked x.line) f here.looks))
 
     -- its task is behind now, and the system has still to process it
     module _ (c : SysId) (m : MayFollow deck P (made_item c P (fixing.Asked q)))
@@ -308,6 +319,9 @@ module _ (deck : Deck) (s : ℕ) (P before later : List RunItem) (out : List Req
             (unasked (state_of n.tasks t)))
             (sym (past-behind P x t here.known own now)) here.task;
         opened = here.opened;
+        looks =
+            subst (λ (z : Past). IsLooks ls z.asked (state_of n.tasks t).line (state_of n.tasks t).outstanding)
+            (sym (past-behind P x t here.known own now)) here.looks;
         asked = here.asked;
         sent = here.sent;
       }
@@ -319,8 +333,7 @@ module _ (deck : Deck) (s : ℕ) (P before later : List RunItem) (out : List Req
 
       pub seen-put : Seen deck s (P ++ x ∷ []) before (later ++ rounds (x ∷ [])) out n
       seen-put =
-          seen-more deck s P before later out n x m.ask seen
-          (systems-other s m.ask.res (sym (goes-ask deck x m.ask) ∙ round))
+          seen-more deck s P before later out n x seen (part-round deck s P x m.ask round)
           (record { each = λ u ms o. go u ms o (same_task u t) refl })
         where
           go : (u : TaskId) (ms : List Meaning) → IsOurs deck s n.tasks u ms → (b : Bool) → same_task u t ≡ b

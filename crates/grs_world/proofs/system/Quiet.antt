@@ -1,11 +1,14 @@
 -- A task of a system goes on by itself.
-use Rattle.std.proofs.Common.{◌≡◌, ℕ, suc, Bool, true, false, cond, not, ◌&&◌, ◌||◌, List, [], ◌∷◌, ◌++◌, map, length}
-use Rattle.std.proofs.Common.{Option, Some, None, refl, ap, sym, ◌∙◌, subst, arith, append_assoc}
+use Rattle.std.proofs.Common.{◌≡◌, ◌<◌, ◌+◌, ℕ, zero, suc, Bool, true, false, cond, not, ◌&&◌, ◌||◌, List, [], ◌∷◌}
+use Rattle.std.proofs.Common.{◌++◌, map, length, Option, Some, None, refl, ap, sym, ◌∙◌, subst, arith, append-nil}
+use Rattle.std.proofs.Common.{append_assoc}
 use Rattle.std.specs.Prelude.{slice_get, is_some, nat_le}
 use Rattle.std.specs.List.{list_all, list_any}
-use Rattle.std.proofs.lemmas.Bool.{and_parts, cases_Bool, eq-eqb, or_left, or_right}
+use Rattle.std.proofs.lemmas.Bool.{and_parts, cases_Bool, or_left, or_right}
 use Rattle.grs_base.specs.Same.{same_res, same_task}
 use Rattle.grs_base.specs.Lists.{owns}
+use Rattle.grs_base.specs.Looks.{look}
+use Rattle.grs_base.specs.declared.look.Place.TheVariants.{Local}
 use Rattle.grs_base.specs.declared.resource.Row.{Row}
 use Rattle.grs_base.specs.State.{list_of, is_full, is_systems, enq_code, deq_reply}
 use Rattle.grs_base.specs.declared.resource.Res.{Res}
@@ -14,13 +17,15 @@ use Rattle.grs_base.specs.declared.resource.TaskId.{TaskId}
 use Rattle.grs_base.specs.declared.decision.Code.{Code}
 use Rattle.grs_base.specs.declared.decision.Code.TheVariants.{C00, C08}
 use Rattle.grs_base.proofs.SameLaws.{same_res-exact, same_res-itself, same_task-itself}
-use Rattle.grs_legal.specs.Asks.{AsksEnq, AsksDeq, AsksRelease, asks_in, lines_of}
+use Rattle.grs_legal.specs.Asks.{AsksEnq, AsksDeq, AsksRelease, asks_in, home_asks, lines_of}
 use Rattle.grs_legal.specs.Legal.{line_entries}
+use Rattle.grs_legal.specs.declared.meaning.Display.{Display}
 use Rattle.grs_legal.specs.declared.meaning.Meaning.{Meaning}
 use Rattle.grs_legal.specs.declared.meaning.Meaning.TheVariants as lines
-use Rattle.grs_node.proofs.InRing.{outbox-ring}
-use Rattle.grs_node.specs.Node.{NodeState, only, with_tasks, decide, post, ask, wait, has_most, take_line, end_step}
-use Rattle.grs_node.specs.Node.{ready_step, phase_step, task_step, goes_on, may_go, finish_quiet}
+use Rattle.grs_node.specs.Node.{NodeState, only, with_tasks, decide, post, ask, wait, has_most, look_home, look_around}
+use Rattle.grs_node.specs.Node.{looks_asked, show, take_line, end_step, ready_step, phase_step, task_step, goes_on}
+use Rattle.grs_node.specs.Node.{may_go, finish_quiet}
+use Rattle.grs_node.specs.Star.{StarPart}
 use Rattle.grs_wire.specs.History.{replay, entries_for}
 use Rattle.grs_wire.specs.Wants.{answer_to, res_wanted, new_owners}
 use Rattle.grs_wire.specs.declared.deck.Deck.{Deck}
@@ -32,49 +37,55 @@ use Rattle.grs_wire.specs.declared.request.Answer.TheVariants as answers
 use Rattle.grs_wire.specs.declared.request.Fixed.TheVariants as fixing
 use Rattle.grs_wire.specs.declared.request.Req.{Req}
 use Rattle.grs_wire.specs.declared.request.Want.{Want}
-use Rattle.grs_wire.specs.declared.request.Want.TheVariants.{Enq, Deq, Release}
+use Rattle.grs_wire.specs.declared.request.Want.TheVariants.{Enq, Deq, Release, Look}
 use Rattle.grs_wire.specs.declared.told.ToldLine.{ToldLine}
 use Rattle.grs_wire.specs.declared.told.ToldLine.TheVariants.{Coded, Ended}
 use Rattle.grs_wire.specs.declared.told.Verb.TheVariants as verbs
 use Rattle.grs_wire.proofs.WantLaws.{by_test}
-use Rattle.task_state.specs.Replies.{replied, tell_new, tell_code, phase_asking, is_leaving}
+use Rattle.task_state.specs.Replies.{replied, tell_new, tell_code, tell_rows, is_leaving}
 use Rattle.task_state.specs.View.{TasksView, is_task, state_of, record_of, with_line, with_phase, with_outstanding}
-use Rattle.task_state.specs.View.{telling}
+use Rattle.task_state.specs.View.{with_rows, telling}
 use Rattle.task_state.specs.declared.state.Asked.{Asked}
 use Rattle.task_state.specs.declared.state.Phase.{Phase}
 use Rattle.task_state.specs.declared.state.Phase.TheVariants as phases
 use Rattle.task_state.specs.declared.state.Rec.{Rec}
+use Rattle.task_state.specs.declared.state.Showing.{Showing}
 use Rattle.task_state.specs.declared.state.TaskState.{TaskState}
-use Rattle.grs_known.specs.Items.{RunItem, lists, history}
+use Rattle.grs_known.specs.Items.{RunItem, lists, history, rows_in}
 use Rattle.grs_known.specs.Known.{outstanding}
 use Rattle.grs_known.specs.Past.{has_own, Past, past_of, Speaks}
 use Rattle.grs_known.specs.Told.{LineAgrees, TellsWait, tells_control}
 use Rattle.grs_known.proofs.known.Knowing.{one}
-use Rattle.grs_known.proofs.known.Following.{has-known, is_full-known, may_follow}
+use Rattle.grs_known.proofs.known.Following.{has-known, is_full-known, may_follow, may_look}
 use Rattle.grs_known.proofs.known.Histories.{IsHistory, MayFollow, made_item, follows, live-push, wants-round, has-may}
 use Rattle.grs_known.proofs.known.Histories.{owns-may}
 use Rattle.grs_known.proofs.known.Knows.{IsOutstanding, known-all, knows-closed, speaks-known, owns-still}
-use Rattle.grs_known.proofs.known.Knows.{entry-decided}
+use Rattle.grs_known.proofs.known.Knows.{entry-decided, looks-decided}
 use Rattle.grs_known.proofs.ring.Reading.{owner-behind}
 use Rattle.grs_known.proofs.lists.Facts.{all-more}
 use Rattle.grs_known.proofs.lists.Owners.{is_among}
-use Rattle.grs_known.proofs.lists.Parts.{is_res_of, own-one_system, answer_to-part}
+use Rattle.grs_known.proofs.lists.Parts.{part, is_res_of, own-one_system, answer_to-part}
+use Rattle.grs_known.proofs.lists.Shows.{is_look, look-own}
 use Rattle.grs_known.proofs.lists.Truths.{or_other}
 use Rattle.grs_known.proofs.tasks.Asked.{Asks, next-asked}
 use Rattle.grs_known.proofs.tasks.Invariant.{IsRec, may_pass, IsTask, has_res, is_unsent}
 use Rattle.grs_known.proofs.tasks.Keys.{has_res-own}
+use Rattle.grs_known.proofs.tasks.Looks.{next-home}
 use Rattle.grs_known.proofs.tasks.Others.{task-leaving, task-told}
 use Rattle.grs_known.proofs.tasks.Records.{found, not_found}
 use Rattle.grs_known.proofs.tasks.Speaking.{has-speaks}
 use Rattle.grs_known.proofs.tasks.Steps.{task-skipped, task-waited, task-held, task-ending, next-ending, task-ended}
 use Rattle.grs_known.proofs.system.Askers.{among-front, apart-push}
-use Rattle.grs_known.proofs.system.Asking.{line_asked, unasked, IsAtLines, IsAskedFor, IsOpenBy, Opens, IsReq}
-use Rattle.grs_known.proofs.system.Asking.{IsAskedBy, asked-none, sent-absent, held-none, stays-open, task-open}
-use Rattle.grs_world.proofs.system.AtNode.{opens_of, Seen, QuietStep, keeps, fixes, part-same}
-use Rattle.grs_known.proofs.system.Did.{Did, did-none, did-line, did-phase, did-outstanding, did-telling}
-use Rattle.grs_known.proofs.system.Events.{StaysGood, Decides, task-closed, enq-good, deq-good, release-good}
+use Rattle.grs_known.proofs.system.Asking.{line_asked, phase_seen, unasked, IsAtLines, IsAskedFor, IsLooks, IsLooksBy}
+use Rattle.grs_known.proofs.system.Asking.{IsOpenBy, Opens, IsReq, IsAskedBy, asked-absent, asked-none, sent-absent}
+use Rattle.grs_known.proofs.system.Asking.{held-none, stays-open, task-open}
+use Rattle.grs_world.proofs.system.AtNode.{opens_of, Seen, MayFix, own_ask, own_look, QuietStep, keeps, fixes}
+use Rattle.grs_world.proofs.system.AtNode.{fix-history, part-look, part-same}
+use Rattle.grs_known.proofs.system.Did.{Did, did-none, did-line, did-phase, did-outstanding, did-rows, did-telling}
+use Rattle.grs_known.proofs.system.Displays.{looks-begun, shown-at_once}
+use Rattle.grs_known.proofs.system.Events.{StaysGood, Decides, Looks, task-closed, enq-good, deq-good, release-good}
 use Rattle.grs_known.proofs.system.Good.{IsGood, Untold, here-kept, here-other, home-ours, ours-home}
-use Rattle.grs_world.proofs.system.Meant.{is_own, lines_own}
+use Rattle.grs_world.proofs.system.Meant.{is_own, IsHome, lines_own}
 use Rattle.grs_known.proofs.system.Ours.{IsOurs, IsHere, ours-line, agrees-ours}
 use Rattle.grs_known.proofs.system.Says.{is_home_at, askers, stand_apart, ToldBy, none, more}
 use Rattle.grs_known.proofs.system.Turns.{quiet_good, state-is, plain-task}
@@ -94,7 +105,7 @@ asked-push_other u o [] q apart h = (λ e. absurd (let f : false ≡ true = sym 
 asked-push_other u o (x ∷ qs) q apart h = (h.0, asked-push_other u o qs q apart h.1)
 
 module _ (deck : Deck) (s : ℕ) (c : SysId) (P before later : List RunItem) (right : IsHistory deck P) (out : List Req)
-    (n : NodeState) (seen : Seen deck s P before later out n) (alone : n.star ≡ None) where
+    (n : NodeState) (seen : Seen deck s P before later out n) where
   abbrev os : Opens
   os = opens_of later out n
 
@@ -185,7 +196,7 @@ module _ (deck : Deck) (s : ℕ) (c : SysId) (P before later : List RunItem) (ri
           ap (λ y. tell_new (replied v0 t w unit y) (res_wanted w) (new_owners n.own t w))
           (ap (λ y. answer_to y t w) seen.own ∙ answer_to-part (is_res_of s) (lists P) t w r wanted own ∙ told_is)
           ∙ ap (λ y. tell_new (replied v0 t w unit answer) y (new_owners n.own t w)) wanted in
-          fixes q refl (eq-eqb _ _ ours.home) (wants-round w r wanted ∙ own-one_system s r own) m
+          fixes (fixing.Asked q) refl (wants-round w r wanted ∙ own-one_system s r own) (own_ask q ours.home m)
           (record {
             good = subst (λ v. IsGood deck s os (P ++ x ∷ []) v) (sym tasks) z.good;
             own = part-same (is_res_of s) P x q r refl wanted n.own seen.own own;
@@ -196,68 +207,111 @@ module _ (deck : Deck) (s : ℕ) (c : SysId) (P before later : List RunItem) (ri
           (subst (λ (v : TasksView). ToldBy deck s (out ++ n.outbox) (history (P ++ x ∷ [])) n.tasks.told v.told)
           (sym tasks) z.told)
 
-    -- a request that waits to be put into the message
+    -- what waits then to be put into the message, if a request more does; in star mode none does
+    abbrev box : Bool → Want → List Req
+    box star w = cond star n.outbox (n.outbox ++ record { task = t; want = w } ∷ [])
+
+    abbrev os_with : Bool → Want → Opens
+    os_with star w = record { later = later; out = out; all = out ++ box star w }
+
+    pushed : (w : Want) → (out ++ n.outbox) ++ record { task = t; want = w } ∷ [] ≡ out ++ box false w
+    pushed w = append_assoc out n.outbox (record { task = t; want = w } ∷ [])
+
+    box-asked : (star : Bool) (w : Want) (unit : Option ℕ) (showing : Option Showing)
+        → IsAskedBy t (Some (record { req = record { task = t; want = w }; unit = unit; showing = showing }))
+        (out ++ box star w)
+    box-asked true w unit showing =
+        let a : Asked = record { req = record { task = t; want = w }; unit = unit; showing = showing } in
+        asked-absent t (Some a) (out ++ n.outbox) free
+    box-asked false w unit showing =
+        let a : Asked = record { req = record { task = t; want = w }; unit = unit; showing = showing } in
+        subst (λ qs. IsAskedBy t (Some a) qs) (pushed w) (asked-push_own t (Some a) (out ++ n.outbox) a.req free refl)
+
+    box-others : (star : Bool) (w : Want) (u : TaskId) (o : Option Asked) → same_task u t ≡ false
+        → IsAskedBy u o (out ++ n.outbox) → IsAskedBy u o (out ++ box star w)
+    box-others true w u o apart j = j
+    box-others false w u o apart j =
+        subst (λ qs. IsAskedBy u o qs) (pushed w)
+        (asked-push_other u o (out ++ n.outbox) (record { task = t; want = w }) apart j)
+
+    box-homes : (star : Bool) (w : Want) → list_all (λ y. is_home_at deck s y.task) (out ++ box star w) ≡ true
+    box-homes true w = seen.homes
+    box-homes false w =
+        ap (list_all (λ y. is_home_at deck s y.task)) (sym (pushed w))
+        ∙ all-more (λ (y : Req). is_home_at deck s y.task) (out ++ n.outbox) (record { task = t; want = w }) seen.homes
+        (ours-home deck s n.tasks t ls ours)
+
+    box-apart : (star : Bool) (w : Want) → stand_apart (askers (out ++ box star w)) ≡ true
+    box-apart true w = seen.apart
+    box-apart false w =
+        ap (λ qs. stand_apart (askers qs)) (sym (pushed w))
+        ∙ apart-push (out ++ n.outbox) (record { task = t; want = w }) seen.apart free
+
+    -- a request that waits to be put into the message, or to be sent
     posted : (v1 : TasksView) (w : Want) (unit : Option ℕ) (x : TaskState) → Did n.tasks v1 t x n.tasks.told →
-        IsTask ls p n.tasks.told (λ q. false) t (record x { line = line_asked w x.line; phase = phase_asking w x.code })
+        IsTask ls p n.tasks.told (λ q. false) t (record x { line = line_asked w x.line; phase = phase_seen w x.code })
         →
-        IsAskedFor deck.limit ls x.line x.records w unit
+        IsAskedFor deck.limit ls x.line x.records w unit → IsLooksBy ls p.asked x.line w None
         → QuietStep deck s c P before later out n (post (with_tasks n v1) t w unit)
     unfolding post
-    posted v1 w unit x did k asked =
-        let q : Req = record { task = t; want = w } in
-        let a : Asked = record { req = q; unit = unit } in
-        let did1 = did-phase n.tasks v1 t x n.tasks.told ours.here did phases.ToSend in
-        let did2 = did-outstanding n.tasks (with_phase v1 t phases.ToSend) t _ n.tasks.told ours.here did1 (Some a) in
-        let z :
-        TaskState = record {
+    posted v1 w unit x did k asked looks = go (is_some n.star)
+      where
+        a : Asked
+        a = record { req = record { task = t; want = w }; unit = unit; showing = None }
+
+        z : TaskState
+        z = record {
           line = x.line;
           phase = phases.ToSend;
           code = x.code;
           records = x.records;
           outstanding = Some a;
           rows = x.rows;
-        } in
-        let pushed : (out ++ n.outbox) ++ q ∷ [] ≡ out ++ (n.outbox ++ q ∷ []) = append_assoc out n.outbox (q ∷ []) in
-        let os' : Opens = record { later = later; out = out; all = out ++ (n.outbox ++ q ∷ []) } in
-        let task : IsTask ls p n.tasks.told (λ r. is_leaving r (Some a)) t (unasked z) =
-        task-leaving ls p n.tasks.told (λ r. is_leaving r (Some a)) t (unasked z)
-        (task-open ls p n.tasks.told (λ q. false) t
-        (record x { line = line_asked w x.line; phase = phase_asking w x.code }) (Some a) k) in
-        let done =
-        quiet_good deck s os os' P n.tasks seen.good t ls ours
-        (with_outstanding (with_phase v1 t phases.ToSend) t (Some a)) z n.tasks.told did2
-        (record {
-          known = here.known;
-          knows = record {
-            right = here.knows.right;
-            request = subst (IsOutstanding (Some a)) (sym none_open) tt;
-            live = here.knows.live;
-          };
-          due = here.due;
-          task = task;
-          opened = (refl, refl, asked);
-          asked =
-              subst (λ qs. IsAskedBy t (Some a) qs) pushed (asked-push_own t (Some a) (out ++ n.outbox) q free refl);
-          sent = sent-absent t phases.ToSend out free_out;
-        })
-        (λ u o apart j. subst (λ qs. IsAskedBy u o qs) pushed (asked-push_other u o (out ++ n.outbox) q apart j))
-        (λ u ph apart j. j) refl (λ u ms apart z leaving y j. j) none in
-        subst (λ (qs : List Req).
-        QuietStep deck s c P before later out n
-        (only (record n { tasks = with_outstanding (with_phase v1 t phases.ToSend) t (Some a); outbox = qs })))
-        (sym (outbox-ring (with_tasks n v1) q alone))
-        (keeps refl
-        (record {
-          good = done.good;
-          own = seen.own;
-          shared = seen.shared;
-          homes =
-              ap (list_all (λ y. is_home_at deck s y.task)) (sym pushed)
-              ∙ all-more (λ (y : Req). is_home_at deck s y.task) (out ++ n.outbox) q seen.homes
-              (ours-home deck s n.tasks t ls ours);
-          apart = ap (λ qs. stand_apart (askers qs)) (sym pushed) ∙ apart-push (out ++ n.outbox) q seen.apart free;
-        })
-        done.told)
+        }
+
+        v2 : TasksView
+        v2 = with_outstanding (with_phase v1 t phases.ToSend) t (Some a)
+
+        task : IsTask ls p n.tasks.told (λ r. is_leaving r (Some a)) t (unasked z)
+        task =
+            task-leaving ls p n.tasks.told (λ r. is_leaving r (Some a)) t (unasked z)
+            (task-open ls p n.tasks.told (λ q. false) t
+            (record x { line = line_asked w x.line; phase = phase_seen w x.code }) (Some a) k)
+
+        did2 : Did n.tasks v2 t z n.tasks.told
+        did2 =
+            did-outstanding n.tasks (with_phase v1 t phases.ToSend) t _ n.tasks.told ours.here
+            (did-phase n.tasks v1 t x n.tasks.told ours.here did phases.ToSend) (Some a)
+
+        go : (star : Bool)
+            → QuietStep deck s c P before later out n (only (record n { tasks = v2; outbox = box star w }))
+        go b =
+            let done =
+            quiet_good deck s os (os_with b w) P n.tasks seen.good t ls ours v2 z n.tasks.told did2
+            (record {
+              known = here.known;
+              knows = record {
+                right = here.knows.right;
+                request = subst (IsOutstanding (Some a)) (sym none_open) tt;
+                live = here.knows.live;
+              };
+              due = here.due;
+              task = task;
+              opened = (refl, refl, asked);
+              looks = looks;
+              asked = box-asked b w unit None;
+              sent = sent-absent t phases.ToSend out free_out;
+            })
+            (λ u o apart j. box-others b w u o apart j) (λ u ph apart j. j) refl (λ u ms apart q leaving y j. j) none in
+            keeps refl
+            (record {
+              good = done.good;
+              own = seen.own;
+              shared = seen.shared;
+              homes = box-homes b w;
+              apart = box-apart b w;
+            })
+            done.told
 
     -- what makes the task one of ours after a step that leaves its open requests
     still_here : (T : List ToldLine) (x : TaskState) → x.outstanding ≡ None → IsAtLines x.phase x.code
@@ -272,6 +326,7 @@ module _ (deck : Deck) (s : ℕ) (c : SysId) (P before later : List RunItem) (ri
       due = here.due;
       task = task-closed ls p T t x o k;
       opened = subst (λ z. IsOpenBy deck.limit ls t x z) (sym o) at;
+      looks = subst (λ z. IsLooks ls p.asked x.line z) (sym o) tt;
       asked = subst (λ z. IsAskedBy t z (out ++ n.outbox)) (sym o) unasked_here;
       sent = sent-absent t x.phase out free_out;
     }
@@ -314,7 +369,7 @@ module _ (deck : Deck) (s : ℕ) (c : SysId) (P before later : List RunItem) (ri
           IsTask ls p n.tasks.told (λ q. false) t
           (record { line = m; phase = phases.Ending z; code = code; records = xs; outstanding = None; rows = ws }))
           (sym coded) k)
-          (first, all))
+          (first, all) tt)
           (λ alone.
           let own : is_res_of s y.res ≡ true = or_other (is_systems y.res) (is_res_of s y.res) proper alone in
           decided (Release y.res) y.res refl own (entries.Release t y.res) refl v None (answers.Coded C00) refl
@@ -405,10 +460,11 @@ module _ (deck : Deck) (s : ℕ) (c : SysId) (P before later : List RunItem) (ri
 
       -- a request for a resource of the whole complex waits
       kept : (w : Want) (unit : Option ℕ) → line_asked w (suc (state_of n.tasks t).line) ≡ (state_of n.tasks t).line
-          → phase_asking w (state_of n.tasks t).code ≡ phases.Ready →
+          → phase_seen w (state_of n.tasks t).code ≡ phases.Ready →
           IsAskedFor deck.limit ls (suc (state_of n.tasks t).line) (state_of n.tasks t).records w unit
+          → IsLooksBy ls p.asked (suc (state_of n.tasks t).line) w None
           → QuietStep deck s c P before later out n (post (with_tasks n (with_line n.tasks t)) t w unit)
-      kept w unit line phase asked =
+      kept w unit line phase asked looks =
           let x : TaskState = state_of n.tasks t in
           posted (with_line n.tasks t) w unit (record {
             line = suc x.line;
@@ -422,7 +478,7 @@ module _ (deck : Deck) (s : ℕ) (c : SysId) (P before later : List RunItem) (ri
           (subst (λ m.
           IsTask ls p n.tasks.told (λ q. false) t (record {
             line = m;
-            phase = phase_asking w x.code;
+            phase = phase_seen w x.code;
             code = x.code;
             records = x.records;
             outstanding = None;
@@ -433,7 +489,7 @@ module _ (deck : Deck) (s : ℕ) (c : SysId) (P before later : List RunItem) (ri
           IsTask ls p n.tasks.told (λ q. false) t
           (record { line = x.line; phase = ph; code = x.code; records = x.records; outstanding = None; rows = x.rows }))
           (sym phase) is_ready))
-          asked
+          asked looks
 
       -- a line that asks nothing and is passed
       skipped : (l : Meaning) → slice_get ls (state_of n.tasks t).line ≡ Some l → asks_in l ≡ [] → may_pass p l ≡ true
@@ -546,6 +602,198 @@ module _ (deck : Deck) (s : ℕ) (c : SysId) (P before later : List RunItem) (ri
                   is_ready at refl q refl)
                   (λ u ms apart z leaving w j. j) none
 
+      -- ---- A line that shows lists. The task has looked at its system's own lists, if the line asks for that: these
+      -- are the items then, hs what it saw, and v1 the tasks when it has the line and those rows.
+      module _ (d : Display) (at : slice_get ls (state_of n.tasks t).line ≡ Some (lines.Shows d)) (Q : List RunItem)
+          (hs : List HistEntry)
+          (looks : (qs : List Req) →
+          ((u : TaskId) (o : Option Asked) → same_task u t ≡ false → IsAskedBy u o (out ++ n.outbox)
+          → IsAskedBy u o qs)
+          → Looks deck os (record { later = later; out = out; all = qs }) P Q t p hs)
+          (all : list_all is_look hs ≡ true) (home : length hs ≡ length (home_asks d.home d.filter))
+          (own : n.own ≡ part (is_res_of s) (lists Q)) (v1 : TasksView)
+          (did :
+          Did n.tasks v1 t (record {
+            line = suc (state_of n.tasks t).line;
+            phase = phases.Ready;
+            code = (state_of n.tasks t).code;
+            records = (state_of n.tasks t).records;
+            outstanding = None;
+            rows = (state_of n.tasks t).rows ++ rows_in hs;
+          })
+          n.tasks.told) where
+        abbrev Around : NodeState → Type 0
+        Around m =
+            Seen deck s Q before later out m
+            × ToldBy deck s (out ++ m.outbox) (history Q) n.tasks.told m.tasks.told
+
+        -- it is told the rows at once
+        told_all : d.count ≡ 0 → Around (with_tasks n (tell_rows v1 t d.verb))
+        told_all none_more =
+            let x : TaskState = state_of n.tasks t in
+            let z =
+            shown-at_once deck s os os P Q n.tasks seen.good t ls ours p x.line x.code x.records x.rows is_ready d at hs
+            (looks (out ++ n.outbox) (λ u o apart j. j)) all home v1 did none_more free free_out in (
+              record {
+                good = z.good;
+                own = own;
+                shared = seen.shared;
+                homes = seen.homes;
+                apart = seen.apart;
+              },
+              z.told,
+            )
+
+        -- or looks at slices, at so many first
+        looks_more : (count left : ℕ) → 0 < count → count + left ≡ d.count → (star : Bool) →
+            Around (record n {
+              tasks =
+                  with_outstanding (with_phase v1 t phases.ToSend) t
+                  (Some (record {
+                    req = record { task = t; want = Look d.first count d.filter };
+                    unit = None;
+                    showing = Some (record { verb = d.verb; left = left });
+                  }));
+              outbox = box star (Look d.first count d.filter);
+            })
+        looks_more count left some total star =
+            let x : TaskState = state_of n.tasks t in
+            let w : Want = Look d.first count d.filter in
+            let z =
+            looks-begun deck s os (os_with star w) P Q n.tasks seen.good t ls ours p x.line x.code x.records x.rows
+            is_ready d at hs (looks (out ++ box star w) (box-others star w)) all home v1 did count left None some total
+            (box-asked star w None (Some (record { verb = d.verb; left = left }))) free_out in (
+              record {
+                good = z.good;
+                own = own;
+                shared = seen.shared;
+                homes = box-homes star w;
+                apart = box-apart star w;
+              },
+              z.told,
+            )
+
+        around : (k : ℕ) → d.count ≡ k → Around (look_around (with_tasks n v1) t d k)
+        around zero e = told_all e
+        around (suc rest) e = by_star n.star
+          where
+            by_star : (o : Option StarPart) →
+                Around (record n {
+                  tasks =
+                      with_outstanding (with_phase v1 t phases.ToSend) t (Some (looks_asked t d rest o));
+                  outbox = cond (is_some o) n.outbox (n.outbox ++ (looks_asked t d rest o).req ∷ []);
+                })
+            by_star None = looks_more (suc rest) 0 (omega arith) (omega (arith, e)) false
+            by_star (Some part_of_star) = looks_more 1 rest (omega arith) (omega (arith, e)) true
+
+      show_outcome : (d : Display) → slice_get ls (state_of n.tasks t).line ≡ Some (lines.Shows d)
+          → QuietStep deck s c P before later out n (show (with_tasks n (with_line n.tasks t)) t d)
+      unfolding show
+      show_outcome d at =
+          by_home d.home refl
+          (lines_own deck t ls (state_of n.tasks t).line (lines.Shows d) ours.lines at)
+        where
+          -- the system's own lists, as the task sees them
+          rows : List Row
+          rows = look (lists P) (Local t.system) d.filter
+
+          h : HistEntry
+          h = entries.Look t (Local t.system) d.filter rows
+
+          x : RunItem
+          x = made_item c P (fixing.LocalLook t d.filter)
+
+          seen_rows : TasksView
+          seen_rows = with_rows (with_line n.tasks t) t (look n.own (Local t.system) d.filter)
+
+          same_rows : look n.own (Local t.system) d.filter ≡ rows ++ []
+          same_rows =
+              ap (λ z. look z (Local t.system) d.filter)
+              (seen.own ∙ ap (λ z. part (is_res_of z) (lists P)) (sym ours.home))
+              ∙ look-own (lists P) t.system d.filter
+              ∙ sym (append-nil rows)
+
+          fix : (u : SysId) → d.home ≡ Some u → u.0 ≡ t.system.0 → MayFix deck s c P (fixing.LocalLook t d.filter)
+          fix u e own_system =
+              let y : TaskState = state_of n.tasks t in
+              own_look t d.filter ours.home
+              (may_look deck P right t p speaks ls ours.lines here.knows.live c d.filter
+              (next-home ls n.tasks.told (λ q. false) t y.code y.records None p y.line y.rows d t.system is_ready at
+              (e ∙ ap (λ k. Some (record { 0 = k })) own_system)))
+
+          by_home : (o : Option SysId) → d.home ≡ o → IsHome t.system.0 o → QuietStep deck s c P before later out n
+              (record {
+                node = look_around (look_home (with_tasks n (with_line n.tasks t)) t d o).node t d d.count;
+                fixed = (look_home (with_tasks n (with_line n.tasks t)) t d o).fixed;
+              })
+          by_home None e own_system =
+              let y : TaskState = state_of n.tasks t in
+              let z =
+              around d at P []
+              (λ qs others. record {
+                right = right;
+                learns = record {
+                  known = here.known;
+                  knows = record {
+                    right = here.knows.right;
+                    request = subst (IsOutstanding None) (sym none_open) tt;
+                    live = here.knows.live;
+                  };
+                  past = refl;
+                };
+                due = here.due ∙ ap one none_open;
+                leaves = λ u ms T T' w apart told k.
+                    here-kept deck os (record { later = later; out = out; all = qs }) P T T' u ms w refl
+                    (others u w.outstanding apart) (λ a. a) told k;
+              })
+              refl (ap (λ o. length (home_asks o d.filter)) (sym e)) seen.own (with_line n.tasks t)
+              (subst (λ ws.
+              Did n.tasks (with_line n.tasks t) t (record {
+                line = suc y.line;
+                phase = phases.Ready;
+                code = y.code;
+                records = y.records;
+                outstanding = None;
+                rows = ws;
+              })
+              n.tasks.told)
+              (sym (append-nil y.rows)) taken)
+              d.count refl in
+              keeps refl z.0 z.1
+          by_home (Some u) e own_system =
+              let y : TaskState = state_of n.tasks t in
+              let may : MayFix deck s c P (fixing.LocalLook t d.filter) = fix u e own_system in
+              let whole : IsHistory deck (P ++ x ∷ []) = fix-history right may in
+              let z =
+              around d at (P ++ x ∷ []) (h ∷ [])
+              (λ qs others. record {
+                right = whole;
+                learns =
+                    looks-decided P x t here.known (same_task-itself t) refl (live-push t P x here.knows.live refl)
+                    here.knows.right (known-all P t here.known here.knows.right none_open) refl;
+                due = here.due ∙ ap one none_open;
+                leaves = λ k ms T T' w apart told j.
+                    here-kept deck os (record { later = later; out = out; all = qs }) (P ++ x ∷ []) T T' k ms w refl
+                    (others k w.outstanding apart) (λ a. a) told (here-other deck os P x T k ms w apart refl j);
+              })
+              refl (ap (λ o. length (home_asks o d.filter)) (sym e))
+              (seen.own ∙ part-look (is_res_of s) P x t d.filter refl) seen_rows
+              (subst (λ ws.
+              Did n.tasks seen_rows t (record {
+                line = suc y.line;
+                phase = phases.Ready;
+                code = y.code;
+                records = y.records;
+                outstanding = None;
+                rows = y.rows ++ ws;
+              })
+              n.tasks.told)
+              same_rows
+              (did-rows n.tasks (with_line n.tasks t) t _ n.tasks.told ours.here taken
+              (look n.own (Local t.system) d.filter)))
+              d.count refl in
+              fixes (fixing.LocalLook t d.filter) refl refl may z.0 z.1
+
       -- any line
       line_outcome : (l : Meaning) → slice_get ls (state_of n.tasks t).line ≡ Some l
           → QuietStep deck s c P before later out n (take_line deck.limit (with_tasks n (with_line n.tasks t)) t l)
@@ -560,7 +808,7 @@ module _ (deck : Deck) (s : ℕ) (c : SysId) (P before later : List RunItem) (ri
           by_test (QuietStep deck s c P before later out n) (is_systems r) _ _
           (λ all.
           kept (Enq r ctl ret full) unit (omega arith) refl
-          (omega arith, ap (slice_get ls) (omega arith) ∙ at, all, most-is))
+          (omega arith, ap (slice_get ls) (omega arith) ∙ at, all, most-is) tt)
           (λ alone.
           let k :
           Asks ls p n.tasks.told (λ q. false) t x.line x.code x.records None x.rows (lines.Enq r ctl ret unit)
@@ -579,7 +827,7 @@ module _ (deck : Deck) (s : ℕ) (c : SysId) (P before later : List RunItem) (ri
           let x : TaskState = state_of n.tasks t in
           let proper : is_own s r ≡ true = own-of r (lines_own deck t ls x.line (lines.Deq r have) ours.lines at) in
           by_test (QuietStep deck s c P before later out n) (is_systems r) _ _
-          (λ all. kept (Deq r have) None (omega arith) refl (omega arith, ap (slice_get ls) (omega arith) ∙ at, all))
+          (λ all. kept (Deq r have) None (omega arith) refl (omega arith, ap (slice_get ls) (omega arith) ∙ at, all) tt)
           (λ alone.
           let k :
           Asks ls p n.tasks.told (λ q. false) t x.line x.code x.records None x.rows (lines.Deq r have)
@@ -595,6 +843,7 @@ module _ (deck : Deck) (s : ℕ) (c : SysId) (P before later : List RunItem) (ri
           (with_line n.tasks t) taken (lines.Deq r have) (deq_reply (lists P) r t have) have (λ q. false)
           (λ q apart. refl) z k None))
       line_outcome (lines.Wait r) at = wait_outcome r at
+      line_outcome (lines.Shows d) at = show_outcome d at
       line_outcome lines.Nothing at = skipped lines.Nothing at refl refl
 
       -- the next line, or the end
@@ -654,15 +903,15 @@ module _ (deck : Deck) (s : ℕ) (c : SysId) (P before later : List RunItem) (ri
       by_phase (phases.HeldLine r) e g = cc
       by_phase phases.Ended e g = cc
 
--- a task goes on
+-- A task goes on. In star mode nothing goes into the outbox.
 pub quiet :
     (deck : Deck) (s : ℕ) (c : SysId) (P before later : List RunItem) (out : List Req) (n : NodeState) (t : TaskId)
-    → n.star ≡ None → IsHistory deck P → Seen deck s P before later out n → may_go deck n t ≡ true
+    → IsHistory deck P → Seen deck s P before later out n → may_go deck n t ≡ true
     → QuietStep deck s c P before later out n (finish_quiet deck n (choices.Task t))
 unfolding may_go finish_quiet
-quiet deck s c P before later out n t alone right seen goes =
+quiet deck s c P before later out n t right seen goes =
     let here = and_parts (is_task n.tasks t) (is_some (lines_of deck t) && goes_on (state_of n.tasks t).phase) goes in
     let both = and_parts (is_some (lines_of deck t)) (goes_on (state_of n.tasks t).phase) here.1 in
     let mine = home-ours deck s n.tasks t seen.good.system both.0 here.0 in
     subst (λ o. QuietStep deck s c P before later out n (task_step deck.limit n t o)) (sym mine.ours.lines)
-    (phase_outcome deck s c P before later right out n seen alone t mine.lines mine.ours both.1)
+    (phase_outcome deck s c P before later right out n seen t mine.lines mine.ours both.1)

@@ -9,9 +9,7 @@ use Rattle.contention_mgr.specs.Manager.{Managed, after_request, entry_wanted, m
 use Rattle.lock_structure.specs.Entries.{entry_of_res}
 use Rattle.grs_base.specs.Lists.{has_task, owns}
 use Rattle.grs_base.specs.Same.{same_task}
-use Rattle.grs_base.specs.State.{State, deq_reply, enq_code, is_systems, list_of}
-use Rattle.grs_base.specs.declared.decision.Code.{Code}
-use Rattle.grs_base.specs.declared.decision.Code.TheVariants.{C00}
+use Rattle.grs_base.specs.State.{is_systems, list_of}
 use Rattle.grs_base.specs.declared.resource.Res.{Res}
 use Rattle.grs_base.specs.declared.resource.SysId.{SysId}
 use Rattle.grs_base.specs.declared.resource.TaskId.{TaskId}
@@ -21,10 +19,8 @@ use Rattle.grs_node.specs.Node.{NodeState}
 use Rattle.grs_node.specs.Star.{StarPart, request_of}
 use Rattle.grs_wire.specs.Wants.{after_want, answer_to, new_owners, res_wanted}
 use Rattle.grs_wire.specs.declared.deck.Deck.{Deck}
-use Rattle.grs_wire.specs.declared.request.Answer.TheVariants.{Coded}
 use Rattle.grs_wire.specs.declared.request.Fixed.TheVariants as fixing
 use Rattle.grs_wire.specs.declared.request.Want.{Want}
-use Rattle.grs_wire.specs.declared.request.Want.TheVariants.{Enq, Deq, Release, Look}
 use Rattle.star_client.specs.Client.{tell_answer_ranked}
 use Rattle.task_state.specs.Replies.{tell_new}
 use Rattle.task_state.specs.View.{TasksView, is_sent, is_task, state_of}
@@ -47,7 +43,7 @@ use Rattle.grs_world.proofs.star.Systems.{ours}
 use Rattle.grs_world.proofs.star.Under.{res-entry}
 use Rattle.grs_world.proofs.star.Worlds.{IsWhole, in_hands, items-one}
 use Rattle.grs_world.proofs.star.hearing.Elements.{idle-element, idle-silent, recorded-here, records-distinct}
-use Rattle.grs_world.proofs.star.hearing.Gains.{gained-among, gained-res, has-gain, own-gain, untold_of}
+use Rattle.grs_world.proofs.star.hearing.Gains.{gained-among, gained-res, has-gain, own-gain, untold_of, gain-asks}
 use Rattle.grs_world.proofs.star.hearing.Gentle.{Answered, Gentle, GentleTo, answered, gentle-new, new-marked}
 use Rattle.grs_world.proofs.star.hearing.Mails.{answers, hears-recorded}
 use Rattle.grs_world.proofs.star.hearing.Managing.{gained-then, next-then, untold-then}
@@ -71,19 +67,11 @@ one-place deck w g s n at alive t u home own = go (u.task == t.task) refl
         let y = ours deck s (items w.fixed) (g.later s) (g.out s) n k t home in
         inl (same_task-exact u t (same_place deck s n.tasks u t x.0 y.0 x.1 y.1 (eqb-true u.task t.task e)))
 
--- what is asked of a resource is answered by a code
-pub coded-answer : (s : State) (t : TaskId) (w : Want) (r : Res) → res_wanted w ≡ Some r
-    → (code : Code) × (answer_to s t w ≡ Coded code)
-coded-answer s t (Enq q c ret full) r wanted = (enq_code s q t c ret full, refl)
-coded-answer s t (Deq q have) r wanted = (deq_reply s q t have, refl)
-coded-answer s t (Release q) r wanted = (C00, refl)
-coded-answer s t (Look first count f) r wanted = absurd (cc)
-
 module _ (deck : Deck) (w : World) (g : IsWhole deck w) (c : SysId) (n : NodeState)
     (at : slice_get w.nodes c.0 ≡ Some n) (alive : has w.medium.removed c.0 ≡ false) (words : List ℕ) (flags : ℕ)
     (t : TaskId) (home : is_home_at deck c.0 t ≡ true) (a : Asked) (free : is_among t (askers (g.out c.0)) ≡ false)
     (entry : ℕ) (of_entry : entry_wanted deck.entries a.req.want ≡ Some entry)
-    (managing : has_manager words entry c.0 ≡ true) (r : Res) (wanted : res_wanted a.req.want ≡ Some r) (rank : ℕ)
+    (managing : has_manager words entry c.0 ≡ true) (rank : ℕ)
     (p q : StarPart) (star : n.star ≡ Some p) (fits : IsPart deck words (lists (items w.fixed)) c.0 q)
     (held : q.held ≡ p.held)
     (begins : (v : Res) (u : TaskId) → untold_of p.manager v u ≡ true → untold_of q.manager v u ≡ true)
@@ -137,18 +125,10 @@ module _ (deck : Deck) (w : World) (g : IsWhole deck w) (c : SysId) (n : NodeSta
   here : (u : TaskId) → is_home_at deck c.0 u ≡ true → is_task n.tasks u ≡ true
   here u own = (g.system c.0 n at alive).at.good.here u own
 
-  abbrev code : Code
-  code = (coded-answer (lists (items w.fixed)) t a.req.want r wanted).0
-
-  code-is : answer_to (lists (items w.fixed)) t a.req.want ≡ Coded code
-  code-is = (coded-answer (lists T) t want r wanted).1
-
   k :
       Answered n.tasks (tell_answer_ranked n.tasks t a (answer_to (lists (items w.fixed)) t a.req.want) rank) t
-      a.req.want code
-  k =
-      subst (λ z. Answered n.tasks (tell_answer_ranked n.tasks t a z rank) t a.req.want code) (sym code-is)
-      (answered n.tasks t (here t home) a code rank)
+      a.req.want (grants (answer_to (lists (items w.fixed)) t a.req.want))
+  k = answered n.tasks t (here t home) a (answer_to (lists T) t want) rank
 
   gentle : Gentle v1 v2
   gentle = gentle-new v1 (res_wanted want) (new_owners (lists T) t want)
@@ -198,15 +178,17 @@ module _ (deck : Deck) (w : World) (g : IsWhole deck w) (c : SysId) (n : NodeSta
   owner-marked g' u v own ne wide before after =
       let apart : same_task t u ≡ false =
       false_by (same_task t u) (λ e. absurd (ne (ap (λ (z : TaskId). z.task) (sym (same_task-exact t u e))))) in
-      let new = gained-among (lists T) t want r v u wanted apart before after in
+      let asks = gain-asks (lists T) t want v u before after in
+      let new = gained-among (lists T) t want asks.0 v u asks.1 apart before after in
       let sys' = g'.system c.0 n' (slice_get-set w.nodes c.0 n n' at) alive in
       let has =
       recorded-here deck words (items (w.fixed ++ fixed_by c (fixing.Asked (request_of t a) ∷ []))) g'.right c.0 n'
       (inbox w.medium c.0) (g'.later c.0) (g'.out c.0) sys' u own v
       (owns-has (list_of (lists (items (w.fixed ++ fixed_by c (fixing.Asked (request_of t a) ∷ [])))) v) u
       (ap (λ es. owns es u) (lists-are v) ∙ after))
-      entry (ap (entry_of_res deck.entries) new.0 ∙ res-entry deck.entries want r entry wanted of_entry) managing in
-      new-marked v1 (res_wanted want) v (new_owners (lists T) t want) u (wanted ∙ ap Some (sym new.0)) wide new.1
+      entry (ap (entry_of_res deck.entries) new.0 ∙ res-entry deck.entries want asks.0 entry asks.1 of_entry)
+      managing in
+      new-marked v1 (res_wanted want) v (new_owners (lists T) t want) u (asks.1 ∙ ap Some (sym new.0)) wide new.1
       (k.did.changed.here u ∙ here u own) (sym ((gentle.each u).has v wide) ∙ has)
 
   -- the asker
@@ -243,15 +225,15 @@ module _ (deck : Deck) (w : World) (g : IsWhole deck w) (c : SysId) (n : NodeSta
     -- it owns by this answer
     asker-gains : owns (list_of (lists (items w.fixed)) v) t ≡ false → had_by n' t v ≡ true
     asker-gains before =
-        let res : v ≡ r = gained-res (lists T) t want r v t wanted before after in
-        let gain = own-gain (lists T) t want v (wanted ∙ ap Some (sym res)) before after in
-        let granted : grants (Coded code) ≡ true = sym (ap grants code-is) ∙ gain.0 in
+        let asks = gain-asks (lists T) t want v t before after in
+        let res : v ≡ asks.0 = gained-res (lists T) t want asks.0 v t asks.1 before after in
+        let gain = own-gain (lists T) t want v (asks.1 ∙ ap Some (sym res)) before after in
         let none : has_res v (state_of n.tasks t).records ≡ false = false_by (has_res v (state_of n.tasks t).records)
         (λ e.
         no_truth (has_task (list_of (lists T) v) t) (idle-element deck w.medium.words T g.right c.0 n
         (inbox w.medium c.0) (g.later c.0) (g.out c.0) (g.system c.0 n at alive) t home idle v e)
         gain.1) in
-        asker-marks (k.replied.made v (wanted ∙ ap Some (sym res)) granted none asker-has)
+        asker-marks (k.replied.made v (asks.1 ∙ ap Some (sym res)) gain.0 none asker-has)
 
   pub heard-decided : IsWhole deck (placed w c n o) → StaysHeard deck w c n o
   unfolding placed
@@ -267,12 +249,12 @@ module _ (deck : Deck) (w : World) (g : IsWhole deck w) (c : SysId) (n : NodeSta
         (one-place deck w g c.0 n at alive t u home own) (owns (list_of (lists T) v) u) refl;
     told = λ s y u v z ne found l own wide owned known untold.
         inr (untold-here deck w g c n at alive o refl s u v p' ne refl
-        (untold-then deck words (lists T) c.0 q fits t want r wanted entry of_entry managed.0 managed.1 v u
+        (untold-then deck words (lists T) c.0 q fits t want entry of_entry managed.0 managed.1 v u
         (sym (ap (λ es. owns es u) (lists-are v)) ∙ owned)
         (begins v u (ap (λ x. is_untold_by x u v) (part z known) ∙ untold))));
     gained = λ s y u v ne found l own wide before after.
         inr (untold-here deck w g c n at alive o refl s u v p' ne refl
-        (gained-then deck words (lists T) c.0 q fits t want r wanted entry of_entry managed.0 managed.1 v u
+        (gained-then deck words (lists T) c.0 q fits t want entry of_entry managed.0 managed.1 v u
         (false_by (same_task t u) (λ e. absurd (ne (elsewhere s u own e))))
         (λ same. ne (sym (eqb-true u.system.0 s (and_parts (u.system.0 == s) _ own).0) ∙ same)) before
         (sym (ap (λ es. owns es u) (lists-are v)) ∙ after)));
@@ -281,7 +263,7 @@ module _ (deck : Deck) (w : World) (g : IsWhole deck w) (c : SysId) (n : NodeSta
         (has-gain (lists T) t want v u before (sym (ap (λ es. has_task es u) (lists-are v)) ∙ after)))
         ∙ same_task-itself t)));
     ranks = λ v e x known is. subst (λ xs. x.next ≤ suc (enq_count xs)) (sym grown_items)
-        (next-then deck words (lists T) c.0 q fits t want r wanted entry of_entry managed.0 managed.1 T item (λ z. z)
+        (next-then deck words (lists T) c.0 q fits t want entry of_entry managed.0 managed.1 T item (λ z. z)
         (enq_count-grown T (item ∷ [])) (low (enq_count T) (λ i z managed. h.ranks c.0 n p i z at alive star managed)) e
         x (ap (λ (z : StarPart). managed_at z.manager e) (same_Some p' v known) ∙ is));
   })

@@ -20,8 +20,6 @@ use Rattle.grs_wire.specs.declared.medium.Mail.TheVariants.{Answered}
 use Rattle.grs_wire.specs.declared.request.Answer.{Answer}
 use Rattle.grs_wire.specs.declared.request.Fixed.TheVariants as fixing
 use Rattle.grs_wire.specs.declared.request.Req.{Req}
-use Rattle.grs_wire.specs.declared.request.Want.{Want}
-use Rattle.grs_wire.specs.declared.request.Want.TheVariants.{Enq, Deq, Release, Look}
 use Rattle.task_state.specs.View.{state_of, is_sent}
 use Rattle.task_state.specs.declared.state.Asked.{Asked}
 use Rattle.grs_known.specs.Items.{RunItem, mine, lists, reply_in}
@@ -35,8 +33,8 @@ use Rattle.grs_known.proofs.known.Knowing.{one}
 use Rattle.grs_known.proofs.known.Knows.{IsOutstanding, speaks-known}
 use Rattle.grs_known.proofs.lists.Owners.{is_among}
 use Rattle.grs_known.proofs.lists.Truths.{no_truth}
-use Rattle.grs_known.proofs.system.Asking.{IsAskedFor, IsOpenBy, records-unasked}
-use Rattle.grs_known.proofs.system.Busy.{busy-behind, busy-idle}
+use Rattle.grs_known.proofs.system.Asking.{IsOpenBy, records-unasked}
+use Rattle.grs_known.proofs.system.Busy.{busy-behind, busy-idle, busy-looks}
 use Rattle.grs_known.proofs.system.Says.{askers, is_home_at}
 use Rattle.grs_known.proofs.tasks.Invariant.{has_res, is_distinct, key}
 use Rattle.grs_known.proofs.tasks.Keys.{has_res-own}
@@ -48,6 +46,10 @@ use Rattle.grs_world.proofs.star.Systems.{Away, IsLate, IsSystem, behind-late, h
 use Rattle.grs_world.proofs.star.hearing.Mails.{answers}
 use Rattle.grs_world.proofs.system.AtNode.{opens_of}
 use Rattle.grs_world.proofs.system.Puts.{home-task}
+use Rattle.grs_world.proofs.star.Answering.{want-looks}
+use Rattle.grs_known.proofs.lists.Shows.{is_look}
+use Rattle.grs_world.proofs.star.Under.{res-entry}
+use Rattle.std.specs.List.{list_all}
 
 -- An item of task t that is still to come, of the entry of resource r, which another system manages: it is what the
 -- task's outstanding request asked.
@@ -79,24 +81,6 @@ module _ (deck : Deck) (words : List ℕ) (T : List RunItem) (right : IsHistory 
       go None is z = absurd (subst (λ o. IsOutstanding o (Some y)) is z)
       go (Some a) is z = (a, is, subst (λ o. IsOutstanding o (Some y)) is z)
 
-  asks_some : (a : Asked) → (state_of n.tasks t).outstanding ≡ Some a
-      → (q : Res) × (res_wanted a.req.want ≡ Some q)
-      × (entry_wanted deck.entries a.req.want ≡ entry_of_res deck.entries q)
-  asks_some a is =
-      go a.req.want (subst (λ o.
-      IsOpenBy deck.limit (home-task deck s (opens_of later out (ghosted n)) T n.tasks t h.at.good home).0 t
-      (state_of n.tasks t) o)
-      is (here deck s T later out n h.at t home).opened).2
-    where
-      go : (w : Want)
-          → IsAskedFor deck.limit (home-task deck s (opens_of later out (ghosted n)) T n.tasks t h.at.good home).0
-          (state_of n.tasks t).line (state_of n.tasks t).records w a.unit
-          → (q : Res) × (res_wanted w ≡ Some q) × (entry_wanted deck.entries w ≡ entry_of_res deck.entries q)
-      go (Enq q c ret full) z = (q, refl, refl)
-      go (Deq q have) z = (q, refl, refl)
-      go (Release q) z = (q, refl, refl)
-      go (Look first count f) z = absurd z
-
   -- an element is on record, or its item is still to come
   pub recorded-or-due : (r : Res) → has_task (list_of (lists T) r) t ≡ true
       → (has_res r (state_of n.tasks t).records ≡ true) ⊎ IsDueOn deck words s n later t r
@@ -110,7 +94,6 @@ module _ (deck : Deck) (words : List ℕ) (T : List RunItem) (right : IsHistory 
           (here deck s T later out n h.at t home) r e has)
       go (Some y) e =
           let rq = request y e in
-          let some = asks_some rq.0 rq.1 in
           let due : mine t later ≡ y ∷ [] = (here deck s T later out n h.at t home).due ∙ ap one e in
           let i = late-in deck words s t y [] later due h.late in
           let same : fixing.Asked i.req ≡ fixing.Asked (rq.0).req = sym i.asked ∙ rq.2 in
@@ -124,14 +107,12 @@ module _ (deck : Deck) (words : List ℕ) (T : List RunItem) (right : IsHistory 
           i.made
           ∙ (ap (λ (q : Req). entries_for i.lists q.task q.want) req
           ∙ ap (λ z. entries_for i.lists z (rq.0).req.want) asker) in
-          decide rq.0 rq.1 some.0 some.1 i
-          (sym some.2 ∙ (ap (λ (q : Req). entry_wanted deck.entries q.want) (sym req) ∙ i.at)) due
-          (busy-behind deck (opens_of later out (ghosted n)) T right n.tasks.told t
-          (home-task deck s (opens_of later out (ghosted n)) T n.tasks t h.at.good home).0 (state_of n.tasks t)
-          (here deck s T later out n h.at t home) r rq.0 y i.lists e made some.0 some.1 has)
+          by_res rq.0 rq.1 i (ap (λ (q : Req). entry_wanted deck.entries q.want) (sym req) ∙ i.at) due made
+          (res_wanted (rq.0).req.want) refl
         where
-          decide : (a : Asked) → (state_of n.tasks t).outstanding ≡ Some a → (q : Res) → res_wanted a.req.want ≡ Some q
-              → (i : IsLate deck words s y) → entry_of_res deck.entries q ≡ Some i.entry → mine t later ≡ y ∷ [] →
+          decide : (a : Asked) → (state_of n.tasks t).outstanding ≡ Some a → (q : Res)
+              → res_wanted a.req.want ≡ Some q → (i : IsLate deck words s y)
+              → entry_wanted deck.entries a.req.want ≡ Some i.entry → mine t later ≡ y ∷ [] →
               (has_res r (state_of n.tasks t).records ≡ true) ⊎ (q ≡ r)
               → (has_res r (state_of n.tasks t).records ≡ true) ⊎ IsDueOn deck words s n later t r
           decide a is q wanted i at due (inl z) = inl z
@@ -143,9 +124,24 @@ module _ (deck : Deck) (words : List ℕ) (T : List RunItem) (right : IsHistory 
                 is = is;
                 wanted = wanted ∙ ap Some z;
                 entry = i.entry;
-                at = ap (entry_of_res deck.entries) (sym z) ∙ at;
+                at = res-entry deck.entries a.req.want r i.entry (wanted ∙ ap Some z) at;
                 away = i.away;
               })
+
+          -- looks queue none
+          by_res : (a : Asked) → (state_of n.tasks t).outstanding ≡ Some a → (i : IsLate deck words s y)
+              → entry_wanted deck.entries a.req.want ≡ Some i.entry → mine t later ≡ y ∷ []
+              → y.entries ≡ entries_for i.lists t a.req.want → (o : Option Res) → res_wanted a.req.want ≡ o
+              → (has_res r (state_of n.tasks t).records ≡ true) ⊎ IsDueOn deck words s n later t r
+          by_res a is i at due made None none =
+              inl (busy-looks deck (opens_of later out (ghosted n)) T right n.tasks.told t
+              (home-task deck s (opens_of later out (ghosted n)) T n.tasks t h.at.good home).0 (state_of n.tasks t)
+              (here deck s T later out n h.at t home) r y e
+              (ap (list_all is_look) made ∙ want-looks i.lists t a.req.want none) has)
+          by_res a is i at due made (Some q) wanted =
+              decide a is q wanted i at due (busy-behind deck (opens_of later out (ghosted n)) T right n.tasks.told t
+              (home-task deck s (opens_of later out (ghosted n)) T n.tasks t h.at.good home).0 (state_of n.tasks t)
+              (here deck s T later out n h.at t home) r a y i.lists e made q wanted has)
 
   -- so it is on record where the system itself manages the entry
   pub recorded-here : (r : Res) → has_task (list_of (lists T) r) t ≡ true → (e : ℕ)
@@ -211,8 +207,6 @@ pub record IsAnswered (n : NodeState) (t : TaskId) (answer : Answer) : Type 0 wh
   pub is : (state_of n.tasks t).outstanding ≡ Some asked
   pub lists : State
   pub reply : answer ≡ answer_to lists t asked.req.want
-  pub res : Res
-  pub wanted : res_wanted asked.req.want ≡ Some res
   pub sent : is_sent (state_of n.tasks t).phase ≡ true
 
 pub answer-awaited : (deck : Deck) (words : List ℕ) (T : List RunItem) → IsHistory deck T
@@ -228,7 +222,6 @@ answer-awaited deck words T right s n t answer rank ms later out h home =
     ap (λ b. cond b (last_of (mine t T)) None) (behind-late deck s T later out n h.at t home) ∙ z.1 in
     let due : mine t later ≡ z.0 ∷ [] = k.due ∙ ap one out_is in
     let rq = request deck words T right s n (Answered t answer rank ∷ ms) later out h t home z.0 out_is in
-    let some = asks_some deck words T right s n (Answered t answer rank ∷ ms) later out h t home rq.0 rq.1 in
     let i : IsLate deck words s z.0 = late-in deck words s t z.0 [] later due h.late in
     let same : fixing.Asked i.req ≡ fixing.Asked (rq.0).req = sym i.asked ∙ rq.2 in
     let req : i.req ≡ (rq.0).req = cc in
@@ -238,15 +231,12 @@ answer-awaited deck words T right s n t answer rank ms later out h home =
     (state_of n.tasks t) o)
     rq.1 k.opened).0 in
     let made : (z.0).entries ≡ entries_for i.lists t (rq.0).req.want =
-    i.made
-    ∙ (ap (λ (q : Req). entries_for i.lists q.task q.want) req
-    ∙ ap (λ u. entries_for i.lists u (rq.0).req.want) asker) in
+    subst (λ u. (z.0).entries ≡ entries_for i.lists u (rq.0).req.want) asker
+    (subst (λ (q : Req). (z.0).entries ≡ entries_for i.lists q.task q.want) req i.made) in
     record {
       asked = rq.0;
       is = rq.1;
       lists = i.lists;
       reply = sym z.2 ∙ (ap reply_in made ∙ replies_are_answers i.lists t (rq.0).req.want);
-      res = some.0;
-      wanted = some.1;
       sent = (due-sent deck words T right s n (Answered t answer rank ∷ ms) later out h t home z.0 due).1;
     }

@@ -152,6 +152,14 @@ has-gain s t w r u before after = go (speaks_of w r) refl
         before
 
 -- ---- others
+-- who becomes owner by a request does by one for a resource
+pub gain-asks : (s : State) (t : TaskId) (w : Want) (r : Res) (u : TaskId) → owns (list_of s r) u ≡ false
+    → owns (list_of (after_want s t w) r) u ≡ true → (q : Res) × (res_wanted w ≡ Some q)
+gain-asks s t (Enq q c ret full) r u before after = (q, refl)
+gain-asks s t (Deq q have) r u before after = (q, refl)
+gain-asks s t (Release q) r u before after = (q, refl)
+gain-asks s t (Look first count f) r u before after = no_truth (owns (list_of s r) u) after before
+
 -- a list changes only where the request speaks of its resource
 pub gained-res : (s : State) (t : TaskId) (w : Want) (q r : Res) (u : TaskId) → res_wanted w ≡ Some q
     → owns (list_of s r) u ≡ false → owns (list_of (after_want s t w) r) u ≡ true → r ≡ q

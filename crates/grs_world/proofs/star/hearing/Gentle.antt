@@ -1,26 +1,34 @@
 -- What becomes of the tasks of a system, as far as sent requests and resources of the whole complex go: where control
 -- is told, where a task goes on by itself, and where an answer is told.
-use Rattle.std.proofs.Common.{◌≡◌, ◌≢◌, ◌+◌, ℕ, suc, Bool, true, false, cond, ◌&&◌, ◌||◌, List, [], ◌∷◌, ◌++◌, Option}
+use Rattle.std.proofs.Common.{◌≡◌, ◌≢◌, ◌+◌, ℕ, zero, suc, Bool, true, false, cond, ◌&&◌, ◌||◌, List, [], ◌∷◌, ◌++◌}
+use Rattle.std.proofs.Common.{Option}
 use Rattle.std.proofs.Common.{Some, None, refl, ap, sym, ◌∙◌, subst}
 use Rattle.std.specs.Prelude.{◌==◌, get_or, slice_get}
 use Rattle.std.proofs.lemmas.Bool.{and_from, eqb-true, eqb-false}
 use Rattle.std.proofs.lemmas.Option.{same_Some}
 use Rattle.grs_base.specs.Same.{same_res, same_task}
+use Rattle.grs_base.specs.Looks.{look}
 use Rattle.grs_base.specs.State.{is_systems}
 use Rattle.grs_base.specs.declared.decision.Code.{Code}
 use Rattle.grs_base.specs.declared.decision.Code.TheVariants.{C00, C04, C08, C14, C18, Wait, End}
 use Rattle.grs_base.specs.declared.resource.Ctl.{Ctl}
 use Rattle.grs_base.specs.declared.resource.Ctl.TheVariants as ctls
+use Rattle.grs_base.specs.declared.look.Filter.{Filter}
+use Rattle.grs_base.specs.declared.look.Place.TheVariants.{Local}
 use Rattle.grs_base.specs.declared.resource.Res.{Res}
 use Rattle.grs_base.specs.declared.resource.Ret.{Ret}
+use Rattle.grs_base.specs.declared.resource.Row.{Row}
+use Rattle.grs_base.specs.declared.resource.SysId.{SysId}
 use Rattle.grs_base.specs.declared.resource.TaskId.{TaskId}
 use Rattle.grs_base.proofs.SameLaws.{same_res-exact, same_res-itself, same_task-exact}
+use Rattle.grs_legal.specs.declared.meaning.Display.{Display}
 use Rattle.grs_legal.specs.declared.meaning.Meaning.{Meaning}
 use Rattle.grs_legal.specs.declared.meaning.Meaning.TheVariants as lines
 use Rattle.grs_node.specs.Node.{NodeState, Step, ask, decide, end_step, phase_step, post, ready_step, take_line}
-use Rattle.grs_node.specs.Node.{task_step, wait, with_tasks}
+use Rattle.grs_node.specs.Node.{task_step, wait, with_tasks, posted, looks_asked, look_home, look_around, show}
 use Rattle.grs_wire.specs.Wants.{new_owners, res_wanted}
-use Rattle.grs_wire.specs.declared.request.Answer.TheVariants.{Coded as CodedAnswer}
+use Rattle.grs_wire.specs.declared.request.Answer.{Answer}
+use Rattle.grs_wire.specs.declared.request.Answer.TheVariants.{Coded as CodedAnswer, Rows}
 use Rattle.grs_wire.specs.declared.request.Want.{Want}
 use Rattle.grs_wire.specs.declared.request.Want.TheVariants.{Enq, Deq, Release, Look}
 use Rattle.grs_wire.specs.declared.told.ToldLine.{ToldLine}
@@ -31,19 +39,23 @@ use Rattle.ring_mode.specs.Ring.{is_for_all}
 use Rattle.star_client.specs.Client.{tell_answer_ranked, unrecorded, with_rank_of}
 use Rattle.task_state.specs.Replies.{after_code, is_changed, is_granted, is_queued, phase_after, phase_asking, recalled}
 use Rattle.task_state.specs.Replies.{replied, tell_all, tell_answer, tell_code, tell_control, tell_new, tell_untold}
+use Rattle.task_state.specs.Replies.{answered as answered_by, looked, goes_on_looking, next_asked, tell_rows}
 use Rattle.task_state.specs.View.{TasksView, code_in, is_sent, is_task, new_task, on_record, record_of, state_of}
 use Rattle.task_state.specs.View.{telling, with_last, with_last_by, with_line, with_phase, with_rank, without_first}
+use Rattle.task_state.specs.View.{with_rows}
 use Rattle.task_state.specs.declared.state.Asked.{Asked}
 use Rattle.task_state.specs.declared.state.Phase.{Phase}
 use Rattle.task_state.specs.declared.state.Phase.TheVariants as phases
 use Rattle.task_state.specs.declared.state.Rec.{Rec}
+use Rattle.task_state.specs.declared.state.Showing.{Showing}
 use Rattle.task_state.specs.declared.state.TaskState.{TaskState}
 use Rattle.task_state.proofs.ViewLaws.{is_task-telling, state_of-telling}
 use Rattle.grs_known.proofs.lists.Facts.{any-last, any-more}
 use Rattle.grs_known.proofs.lists.Owners.{is_among}
 use Rattle.grs_known.proofs.lists.Truths.{false_by, no_truth}
 use Rattle.grs_known.proofs.system.Did.{Did, did-after_code_deq, did-after_code_enq, did-after_code_release, did-line}
-use Rattle.grs_known.proofs.system.Did.{did-none, did-outstanding, did-phase, did-state, did-telling}
+use Rattle.grs_known.proofs.system.Did.{did-none, did-outstanding, did-phase, did-rows, did-shown, did-state}
+use Rattle.grs_known.proofs.system.Did.{did-telling}
 use Rattle.grs_known.proofs.tasks.Asked.{told_after}
 use Rattle.grs_known.proofs.tasks.Decided.{enq_records}
 use Rattle.grs_known.proofs.tasks.Invariant.{has_res, is_distinct}
@@ -51,6 +63,7 @@ use Rattle.grs_known.proofs.tasks.Keys.{gone-without}
 use Rattle.grs_known.proofs.tasks.Records.{found_has}
 use Rattle.grs_world.proofs.rest.Control.{Controlled, controlled, hears-has, hears-marked, hears-marks, hears-phase}
 use Rattle.grs_world.proofs.rest.Marks.{is_marked}
+use Rattle.grs_world.proofs.star.Heard.{grants}
 
 -- ---- tasks that lose nothing
 -- From one state to another no request becomes a sent one, and of the resources of the whole complex the same are on
@@ -273,15 +286,15 @@ marked-without q r (x ∷ xs) apart = go (same_res r x.res) refl (marked-without
     go false e h = ap (λ b. (same_res q x.res && x.told) || b) h
 
 -- ---- an answer
--- What an answer with this code to this request makes of a task's state: marks stay on what stays on record, other
--- resources stay, and a record that a granted request makes is marked.
-pub record Replied (w : Want) (code : Code) (x y : TaskState) : Type 0 where
+-- What an answer to this request, which gives control or doesn't, makes of a task's state: marks stay on what stays on
+-- record, other resources stay, and a record that a granted request makes is marked.
+pub record Replied (w : Want) (gives : Bool) (x y : TaskState) : Type 0 where
   pub sent : is_sent y.phase ≡ true → is_sent x.phase ≡ true
   pub others : (q r : Res) → res_wanted w ≡ Some r → same_res q r ≡ false
       → (is_marked q y.records ≡ is_marked q x.records) × (has_res q y.records ≡ has_res q x.records)
   pub kept : is_distinct x.records ≡ true → (q : Res) → has_res q y.records ≡ true → is_marked q x.records ≡ true
       → is_marked q y.records ≡ true
-  pub made : (r : Res) → res_wanted w ≡ Some r → is_granted code ≡ true → has_res r x.records ≡ false
+  pub made : (r : Res) → res_wanted w ≡ Some r → gives ≡ true → has_res r x.records ≡ false
       → has_res r y.records ≡ true → is_marked r y.records ≡ true
 
 unsent-after : (code : Code) → is_sent (phase_after code) ≡ false
@@ -296,7 +309,7 @@ unsent-after (End n) = refl
 -- by the records
 replied-enq : (x y : TaskState) (r : Res) (c : Ctl) (ret : Ret) (full : Bool) (unit : Option ℕ) (code : Code)
     → y.records ≡ enq_records r c unit ret code x.line x.records → (is_sent y.phase ≡ true → is_sent x.phase ≡ true)
-    → Replied (Enq r c ret full) code x y
+    → Replied (Enq r c ret full) (is_granted code) x y
 replied-enq x y r c ret full unit code same phase = record {
   sent = phase;
   others = λ q p wanted apart.
@@ -348,10 +361,10 @@ replied-enq x y r c ret full unit code same phase = record {
         no_truth (has_res r x.records) (sym (has-on exclusive (λ z. refl) r r x.records) ∙ has) none
     make granted none false false has = no_truth (has_res r x.records) has none
 
-replied-gone : (x y : TaskState) (w : Want) (r : Res) (code : Code) → res_wanted w ≡ Some r → (b : Bool)
+replied-gone : (x y : TaskState) (w : Want) (r : Res) (gives : Bool) → res_wanted w ≡ Some r → (b : Bool)
     → y.records ≡ cond b (without_first x.records r) x.records → (is_sent y.phase ≡ true → is_sent x.phase ≡ true)
-    → Replied w code x y
-replied-gone x y w r code wants b same phase = record {
+    → Replied w gives x y
+replied-gone x y w r gives wants b same phase = record {
   sent = phase;
   others = λ q p wanted apart.
       subst (λ zs. (is_marked q zs ≡ is_marked q x.records) × (has_res q zs ≡ has_res q x.records)) (sym same)
@@ -397,23 +410,33 @@ replied-gone x y w r code wants b same phase = record {
     before false h = h
 
 -- what is done to a task that is told an answer
-pub record Told (v w : TasksView) (t : TaskId) (want : Want) (code : Code) (x : TaskState) : Type 0 where
+pub record Told (v w : TasksView) (t : TaskId) (want : Want) (gives : Bool) (x : TaskState) : Type 0 where
   pub state : TaskState
   pub told : List ToldLine
   pub did : Did v w t state told
-  pub replied : Replied want code x state
+  pub replied : Replied want gives x state
 
 -- looks leave it, and are none of its answers
-replied-look : (x : TaskState) (first count : ℕ) (f : _) (code : Code) → Replied (Look first count f) code x x
-replied-look x first count f code = record {
+replied-look : (x : TaskState) (first count : ℕ) (f : Filter) (gives : Bool) → Replied (Look first count f) gives x x
+replied-look x first count f gives = record {
   sent = λ h. h;
   others = λ q p wanted apart. absurd (cc);
   kept = λ distinct q has marked. marked;
   made = λ p wanted granted none has. absurd (cc);
 }
 
+-- and so are rows, which leave all that is on record
+replied-rows : (w : Want) (x y : TaskState) → y.records ≡ x.records → (is_sent y.phase ≡ true → is_sent x.phase ≡ true)
+    → Replied w false x y
+replied-rows w x y same phase = record {
+  sent = phase;
+  others = λ q p wanted apart. (ap (is_marked q) same, ap (has_res q) same);
+  kept = λ distinct q has marked. ap (is_marked q) same ∙ marked;
+  made = λ p wanted granted none has. absurd (cc);
+}
+
 told-code : (v w : TasksView) (t : TaskId) (x : TaskState) (T : List ToldLine) → is_task v t ≡ true → Did v w t x T
-    → (want : Want) (unit : Option ℕ) (code : Code) → Told v (after_code w t want unit code) t want code x
+    → (want : Want) (unit : Option ℕ) (code : Code) → Told v (after_code w t want unit code) t want (is_granted code) x
 unfolding after_code
 told-code v w t x T here d (Enq r c ret full) unit code =
     let y :
@@ -448,7 +471,7 @@ told-code v w t x T here d (Deq r have) unit code =
       told = told_after T t x.line verbs.Deq code;
       did = did-after_code_deq v w t x T here d r have unit code;
       replied =
-          replied-gone x y (Deq r have) r code refl (is_granted code) refl
+          replied-gone x y (Deq r have) r (is_granted code) refl (is_granted code) refl
           (λ h. no_truth (is_sent (phase_after code)) h (unsent-after code));
     }
 told-code v w t x T here d (Release r) unit code =
@@ -457,15 +480,16 @@ told-code v w t x T here d (Release r) unit code =
       told = T;
       did = did-after_code_release v w t x T here d r unit code;
       replied =
-          replied-gone x (record x { records = without_first x.records r }) (Release r) r code refl true refl (λ h. h);
+          replied-gone x (record x { records = without_first x.records r }) (Release r) r (is_granted code) refl true
+          refl (λ h. h);
     }
 told-code v w t x T here d (Look first count f) unit
-    code = record { state = x; told = T; did = d; replied = replied-look x first count f code }
+    code = record { state = x; told = T; did = d; replied = replied-look x first count f (is_granted code) }
 
 -- a record gets a rank
-ranked-replied : (want : Want) (code : Code) (x y : TaskState) (r : Res) (rank : ℕ) → Replied want code x y
-    → Replied want code x (record y { records = on_record r (λ z. record z { rank = rank }) y.records })
-ranked-replied want code x y r rank k = record {
+ranked-replied : (want : Want) (gives : Bool) (x y : TaskState) (r : Res) (rank : ℕ) → Replied want gives x y
+    → Replied want gives x (record y { records = on_record r (λ z. record z { rank = rank }) y.records })
+ranked-replied want gives x y r rank k = record {
   sent = k.sent;
   others = λ q p wanted apart. let both = k.others q p wanted apart in (same-mark q ∙ both.0, same-has q ∙ both.1);
   kept = λ distinct q has marked. same-mark q ∙ k.kept distinct q (sym (same-has q) ∙ has) marked;
@@ -483,25 +507,25 @@ ranked-replied want code x y r rank k = record {
         → has_res q (on_record r (λ (z : Rec). record z { rank = rank }) y.records) ≡ has_res q y.records
     same-has q = has-on ranked (λ z. refl) q r y.records
 
-told-rank : (v w : TasksView) (t : TaskId) (want : Want) (code : Code) (x : TaskState) → is_task v t ≡ true
-    → Told v w t want code x → (o : Option Res) (rank : ℕ) → Told v (with_rank_of w t o rank) t want code x
+told-rank : (v w : TasksView) (t : TaskId) (want : Want) (gives : Bool) (x : TaskState) → is_task v t ≡ true
+    → Told v w t want gives x → (o : Option Res) (rank : ℕ) → Told v (with_rank_of w t o rank) t want gives x
 unfolding with_rank
-told-rank v w t want code x here k None rank = k
-told-rank v w t want code x here k (Some r) rank = record {
+told-rank v w t want gives x here k None rank = k
+told-rank v w t want gives x here k (Some r) rank = record {
   state = record k.state { records = on_record r (λ z. record z { rank = rank }) (k.state).records };
   told = k.told;
   did =
       did-state v w t k.state k.told (λ y. record y { records = on_record r (λ z. record z { rank = rank }) y.records })
       here k.did;
-  replied = ranked-replied want code x k.state r rank k.replied;
+  replied = ranked-replied want gives x k.state r rank k.replied;
 }
 
 -- A task whose outstanding request is answered stands as having sent none.
-pub record Answered (v w : TasksView) (t : TaskId) (want : Want) (code : Code) : Type 0 where
+pub record Answered (v w : TasksView) (t : TaskId) (want : Want) (gives : Bool) : Type 0 where
   pub state : TaskState
   pub told : List ToldLine
   pub did : Did v w t state told
-  pub replied : Replied want code (state_of v t) state
+  pub replied : Replied want gives (state_of v t) state
   pub unsent : is_sent state.phase ≡ false
 
 unsent-asking : (want : Want) (code : ℕ) → is_sent (phase_asking want code) ≡ false
@@ -510,10 +534,39 @@ unsent-asking (Deq r have) code = refl
 unsent-asking (Release r) code = refl
 unsent-asking (Look first count f) code = refl
 
-pub answered : (v : TasksView) (t : TaskId) → is_task v t ≡ true → (a : Asked) (code : Code) (rank : ℕ)
-    → Answered v (tell_answer_ranked v t a (CodedAnswer code) rank) t a.req.want code
+-- one that is shown rows is told all rows of its line, or waits to send its next request
+told-changed : (v w : TasksView) (t : TaskId) (want : Want) (x y : TaskState) (T : List ToldLine) → Did v w t y T
+    → y.records ≡ x.records → (is_sent y.phase ≡ true → is_sent x.phase ≡ true) → Told v w t want false x
+told-changed v w t want x y T d same phase =
+    record { state = y; told = T; did = d; replied = replied-rows want x y same phase }
+
+told-rows : (v w : TasksView) (t : TaskId) (x : TaskState) (T : List ToldLine) → is_task v t ≡ true → Did v w t x T
+    → (a : Asked) (rows : List Row) (o : Option Showing) → Told v (looked w t a rows o) t a.req.want false x
+unfolding goes_on_looking
+told-rows v w t x T here d a rows None = told-changed v w t a.req.want x x T d refl (λ h. h)
+told-rows v w t x T here d a rows (Some s) = by_left s.left
+  where
+    y : TaskState
+    y = record x { rows = x.rows ++ rows }
+
+    shown : Did v (with_rows w t rows) t (record x { rows = x.rows ++ rows }) T
+    shown = did-rows v w t x T here d rows
+
+    by_left : (left : ℕ) → Told v (goes_on_looking (with_rows w t rows) t a s.verb left) t a.req.want false x
+    by_left zero =
+        told-changed v (tell_rows (with_rows w t rows) t s.verb) t a.req.want x (record x { rows = [] }) _
+        (did-shown v (with_rows w t rows) t (record x { rows = x.rows ++ rows }) T here shown s.verb) refl (λ h. h)
+    by_left (suc left) =
+        told-changed v _ t a.req.want x _ T
+        (did-outstanding v (with_phase (with_rows w t rows) t phases.ToSend) t _ T here
+        (did-phase v (with_rows w t rows) t (record x { rows = x.rows ++ rows }) T here shown phases.ToSend)
+        (Some (next_asked t a s.verb left)))
+        refl (λ h. absurd (cc))
+
+pub answered : (v : TasksView) (t : TaskId) → is_task v t ≡ true → (a : Asked) (answer : Answer) (rank : ℕ)
+    → Answered v (tell_answer_ranked v t a answer rank) t a.req.want (grants answer)
 unfolding tell_answer_ranked tell_answer recalled replied
-answered v t here a code rank =
+answered v t here a answer rank =
     let w : Want = a.req.want in
     let x : TaskState = state_of v t in
     let p : Phase = phase_asking w x.code in
@@ -529,10 +582,9 @@ answered v t here a code rank =
     let d : Did v (recalled v t w) t y v.told =
     did-outstanding v (with_phase v t p) t (record x { phase = p; code = code_in p x.code }) v.told here
     (did-phase v v t x v.told here (did-none v t) p) None in
-    let k : Told v (after_code (recalled v t w) t w a.unit code) t w code y =
-    told-code v (recalled v t w) t y v.told here d w a.unit code in
-    let z : Told v (tell_answer_ranked v t a (CodedAnswer code) rank) t w code y =
-    told-rank v (after_code (recalled v t w) t w a.unit code) t w code y here k (unrecorded v t (res_wanted w)) rank in
+    let z : Told v (tell_answer_ranked v t a answer rank) t w (grants answer) y =
+    told-rank v (answered_by (recalled v t w) t a answer) t w (grants answer) y here
+    (by_answer (recalled v t w) y d answer) (unrecorded v t (res_wanted w)) rank in
     record {
       state = z.state;
       told = z.told;
@@ -546,6 +598,11 @@ answered v t here a code rank =
       unsent =
           false_by (is_sent (z.state).phase) (λ h. no_truth (is_sent p) (z.replied.sent h) (unsent-asking w x.code));
     }
+  where
+    by_answer : (u : TasksView) (y : TaskState) → Did v u t y v.told → (b : Answer)
+        → Told v (answered_by u t a b) t a.req.want (grants b) y
+    by_answer u y d (CodedAnswer code) = told-code v u t y v.told here d a.req.want a.unit code
+    by_answer u y d (Rows rows) = told-rows v u t y v.told here d a rows a.showing
 
 -- ---- a task goes on by itself
 -- a resource of the whole complex isn't one of another kind
@@ -553,9 +610,9 @@ apart-kinds : (q r : Res) → is_systems q ≡ true → is_systems r ≡ false �
 apart-kinds q r wide narrow =
     false_by (same_res q r) (λ e. no_truth (is_systems q) wide (ap is_systems (same_res-exact q r e) ∙ narrow))
 
-gentle-told : (v w : TasksView) (t : TaskId) (want : Want) (code : Code) (r : Res) → res_wanted want ≡ Some r
-    → is_systems r ≡ false → Told v w t want code (state_of v t) → Gentle v w
-gentle-told v w t want code r wanted narrow k = gentle-did v w t k.state k.told k.did (record {
+gentle-told : (v w : TasksView) (t : TaskId) (want : Want) (gives : Bool) (r : Res) → res_wanted want ≡ Some r
+    → is_systems r ≡ false → Told v w t want gives (state_of v t) → Gentle v w
+gentle-told v w t want gives r wanted narrow k = gentle-did v w t k.state k.told k.did (record {
   sent = k.replied.sent;
   marked = λ q wide h. (k.replied.others q r wanted (apart-kinds q r wide narrow)).0 ∙ h;
   has = λ q wide. (k.replied.others q r wanted (apart-kinds q r wide narrow)).1;
@@ -576,24 +633,26 @@ module _ (t : TaskId) where
       gentle-changed v (telling v l) (state_of v t) (v.told ++ l ∷ [])
       (did-telling v v t (state_of v t) v.told l (did-none v t)) refl (λ h. h)
 
-  gentle-posted : (n : NodeState) (w : Want) (unit : Option ℕ) → is_task n.tasks t ≡ true
+  gentle-posted : (n : NodeState) (a : Asked) → is_task n.tasks t ≡ true → Gentle n.tasks (posted n t a).tasks
+  gentle-posted n a here =
+      let v : TasksView = n.tasks in
+      let w : TasksView = with_phase v t phases.ToSend in
+      gentle-then v w _ (gentle-to v here phases.ToSend refl)
+      (gentle-changed w _ (record (state_of w t) { outstanding = Some a }) w.told
+      (did-outstanding w w t (state_of w t) w.told ((gentle-to v here phases.ToSend refl).here t ∙ here) (did-none w t)
+      (Some a))
+      refl (λ h. h))
+
+  gentle-post : (n : NodeState) (w : Want) (unit : Option ℕ) → is_task n.tasks t ≡ true
       → Gentle n.tasks (post n t w unit).node.tasks
   unfolding post
-  gentle-posted n w unit here =
-      let v : TasksView = n.tasks in
-      let a : TasksView = with_phase v t phases.ToSend in
-      gentle-then v a _ (gentle-to v here phases.ToSend refl)
-      (gentle-changed a _
-      (record (state_of a t) { outstanding = Some (record { req = record { task = t; want = w }; unit = unit }) })
-      a.told
-      (did-outstanding a a t (state_of a t) a.told ((gentle-to v here phases.ToSend refl).here t ∙ here) (did-none a t)
-      (Some (record { req = record { task = t; want = w }; unit = unit })))
-      refl (λ h. h))
+  gentle-post n w unit here =
+      gentle-posted n (record { req = record { task = t; want = w }; unit = unit; showing = None }) here
 
   gentle-coded : (v : TasksView) → is_task v t ≡ true → (w : Want) (unit : Option ℕ) (code : Code) (r : Res)
       → res_wanted w ≡ Some r → is_systems r ≡ false → Gentle v (after_code v t w unit code)
   gentle-coded v here w unit code r wanted narrow =
-      gentle-told v (after_code v t w unit code) t w code r wanted narrow
+      gentle-told v (after_code v t w unit code) t w (is_granted code) r wanted narrow
       (told-code v v t (state_of v t) v.told here (did-none v t) w unit code)
 
   gentle-decided : (n : NodeState) (w : Want) (unit : Option ℕ) → is_task n.tasks t ≡ true
@@ -615,7 +674,7 @@ module _ (t : TaskId) where
   unfolding ask
   gentle-asked n w unit here =
       by_test (λ (st : Step). Gentle n.tasks st.node.tasks) (is_for_all (res_wanted w)) (post n t w unit)
-      (decide n t w unit) (λ h. gentle-posted n w unit here) (λ h. gentle-decided n w unit here h)
+      (decide n t w unit) (λ h. gentle-post n w unit here) (λ h. gentle-decided n w unit here h)
 
   gentle-waits : (v : TasksView) (r : Res) (o : Option Rec) → is_task v t ≡ true → Gentle v (wait v t r o)
   unfolding wait tell_code
@@ -624,12 +683,37 @@ module _ (t : TaskId) where
       by_test (Gentle v) x.told (tell_code v t verbs.Wait C00) (with_phase v t (phases.HeldLine r))
       (λ h. gentle-telling v _) (λ h. gentle-to v here (phases.HeldLine r) refl)
 
+  -- a line that shows lists
+  gentle-around : (n : NodeState) (d : Display) (count : ℕ) → is_task n.tasks t ≡ true
+      → Gentle n.tasks (look_around n t d count).tasks
+  gentle-around n d zero here =
+      gentle-changed n.tasks (tell_rows n.tasks t d.verb) (record (state_of n.tasks t) { rows = [] })
+      _ (did-shown n.tasks n.tasks t (state_of n.tasks t) (n.tasks).told here (did-none n.tasks t) d.verb) refl (λ h. h)
+  gentle-around n d (suc more) here = gentle-posted n (looks_asked t d more n.star) here
+
+  gentle-home : (n : NodeState) (d : Display) (o : Option SysId) → is_task n.tasks t ≡ true
+      → Gentle n.tasks (look_home n t d o).node.tasks
+  gentle-home n d None here = gentle-none n.tasks
+  gentle-home n d (Some s) here =
+      gentle-changed n.tasks (with_rows n.tasks t (look n.own (Local t.system) d.filter)) _ (n.tasks).told
+      (did-rows n.tasks n.tasks t (state_of n.tasks t) (n.tasks).told here (did-none n.tasks t)
+      (look n.own (Local t.system) d.filter))
+      refl (λ h. h)
+
+  gentle-shows : (n : NodeState) (d : Display) → is_task n.tasks t ≡ true → Gentle n.tasks (show n t d).node.tasks
+  unfolding show
+  gentle-shows n d here =
+      let k = gentle-home n d d.home here in
+      gentle-then n.tasks (look_home n t d d.home).node.tasks _ k
+      (gentle-around (look_home n t d d.home).node d d.count (k.here t ∙ here))
+
   gentle-line : (limit : ℕ) (n : NodeState) (l : Meaning) → is_task n.tasks t ≡ true
       → Gentle n.tasks (take_line limit n t l).node.tasks
   unfolding take_line
   gentle-line limit n (lines.Enq r c ret unit) here = gentle-asked n _ unit here
   gentle-line limit n (lines.Deq r have) here = gentle-asked n _ None here
   gentle-line limit n (lines.Wait r) here = gentle-waits n.tasks r (record_of (state_of n.tasks t).records r) here
+  gentle-line limit n (lines.Shows d) here = gentle-shows n d here
   gentle-line limit n lines.Nothing here = gentle-none n.tasks
 
   gentle-ends : (n : NodeState) (code : ℕ) (xs : List Rec) → is_task n.tasks t ≡ true

@@ -13,7 +13,7 @@ use Rattle.grs_base.specs.State.{State, list_of}
 use Rattle.grs_base.specs.declared.resource.Res.{Res}
 use Rattle.grs_base.specs.declared.resource.TaskId.{TaskId}
 use Rattle.grs_node.specs.Star.{StarPart}
-use Rattle.grs_wire.specs.Wants.{after_want, res_wanted}
+use Rattle.grs_wire.specs.Wants.{after_want}
 use Rattle.grs_wire.specs.declared.deck.Deck.{Deck}
 use Rattle.grs_wire.specs.declared.request.Want.{Want}
 use Rattle.grs_known.specs.Items.{RunItem}
@@ -22,10 +22,10 @@ use Rattle.grs_world.proofs.star.Heard.{enq_count, is_enq, is_enq_want}
 use Rattle.grs_world.proofs.star.Members.{IsPart}
 use Rattle.grs_world.proofs.star.Under.{entry-same, in_entry, list-under, res-entry, under, under-want}
 use Rattle.grs_world.proofs.star.hearing.Gains.{gained-among, next-bound, request-gained, request-next, request-untold}
-use Rattle.grs_world.proofs.star.hearing.Gains.{untold_of}
+use Rattle.grs_world.proofs.star.hearing.Gains.{untold_of, gain-asks}
 
 module _ (deck : Deck) (words : List ℕ) (L : State) (s : ℕ) (p : StarPart) (k : IsPart deck words L s p) (t : TaskId)
-    (w : Want) (r : Res) (wanted : res_wanted w ≡ Some r) (e : ℕ) (of_entry : entry_wanted deck.entries w ≡ Some e)
+    (w : Want) (e : ℕ) (of_entry : entry_wanted deck.entries w ≡ Some e)
     (x : Managed) (is : managed_at p.manager e ≡ Some x) where
   at : entry_wanted (length p.manager.entries) w ≡ Some e
   at = ap (λ i. entry_wanted i w) k.entries ∙ of_entry
@@ -60,10 +60,11 @@ module _ (deck : Deck) (words : List ℕ) (L : State) (s : ℕ) (p : StarPart) (
   pub gained-then : (q : Res) (u : TaskId) → same_task t u ≡ false → u.system.0 ≢ s → owns (list_of L q) u ≡ false
       → owns (list_of (after_want L t w) q) u ≡ true → untold_of (after_request p.manager t w) q u ≡ true
   gained-then q u apart away before after =
-      let z = gained-among L t w r q u wanted apart before after in
+      let asks = gain-asks L t w q u before after in
+      let z = gained-among L t w asks.0 q u asks.1 apart before after in
       let here : in_entry deck.entries e q ≡ true =
       ap (in_entry deck.entries e) z.0
-      ∙ entry-same e (entry_of_res deck.entries r) (res-entry deck.entries w r e wanted of_entry) in
+      ∙ entry-same e (entry_of_res deck.entries asks.0) (res-entry deck.entries w asks.0 e asks.1 of_entry) in
       request-gained p.manager t w e at x is q u (in-same q ∙ here)
       (four (owns_by (after_want (plain x.items) t w) q u) (not (owns_by (plain x.items) q u)) (not (same_task t u))
       (is_elsewhere p.manager.system.0 q u)

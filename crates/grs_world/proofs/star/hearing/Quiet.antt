@@ -5,7 +5,7 @@ use Rattle.std.specs.Prelude.{◌==◌, slice_get}
 use Rattle.std.proofs.lemmas.Bool.{and_parts}
 use Rattle.contention_mgr.specs.Manager.{Managed, items_of, managed_at}
 use Rattle.grs_base.specs.Same.{same_res}
-use Rattle.grs_base.specs.State.{is_systems, list_of}
+use Rattle.grs_base.specs.State.{is_systems, list_of, State}
 use Rattle.grs_base.specs.declared.resource.Res.{Res}
 use Rattle.grs_base.specs.declared.resource.SysId.{SysId}
 use Rattle.grs_base.specs.declared.resource.TaskId.{TaskId}
@@ -22,7 +22,7 @@ use Rattle.grs_wire.specs.declared.request.Want.{Want}
 use Rattle.grs_wire.specs.declared.request.Want.TheVariants.{Enq, Deq, Release, Look}
 use Rattle.grs_wire.proofs.WantLaws.{list_of-want_other, speaks_of}
 use Rattle.task_state.specs.View.{is_task, state_of}
-use Rattle.grs_known.specs.Items.{RunItem, items, lists, wants_round}
+use Rattle.grs_known.specs.Items.{RunItem, items, lists, wants_round, goes_round}
 use Rattle.grs_known.proofs.known.Histories.{made_item}
 use Rattle.grs_known.proofs.known.ItemLaws.{lists-push}
 use Rattle.grs_known.proofs.lists.Truths.{false_by, no_truth}
@@ -37,6 +37,8 @@ use Rattle.grs_world.proofs.star.hearing.Own.{Holds, heard-calm}
 use Rattle.grs_world.proofs.star.hearing.Passing.{enq_count-grown}
 use Rattle.grs_world.specs.World.{World, fixed_by, placed}
 use Rattle.grs_wire.specs.Masks.{has}
+use Rattle.grs_wire.specs.declared.request.Fixed.{Fixed}
+use Rattle.grs_wire.specs.History.{after_fixed}
 
 -- the same part
 pub holds-same : (p : StarPart) (T T' : List RunItem) → enq_count T ≤ enq_count T'
@@ -76,6 +78,14 @@ module _ (deck : Deck) (w : World) (g : IsWhole deck w) (c : SysId) (n : NodeSta
   other-kind (Release p) r wide narrow =
       false_by (same_res r p) (λ e. no_truth (is_systems r) wide (ap is_systems (same_res-exact r p e) ∙ narrow))
   other-kind (Look first count f) r wide narrow = refl
+
+  -- and so does all that doesn't go with it
+  other-fixed : (s : State) (f : Fixed) (r : Res) → is_systems r ≡ true → goes_round f ≡ false
+      → list_of (after_fixed s f) r ≡ list_of s r
+  other-fixed s (fixing.Asked q) r wide narrow =
+      list_of-want_other s q.task q.want r (other-kind q.want r wide narrow)
+  other-fixed s (fixing.LocalLook t f) r wide narrow = refl
+  other-fixed s (fixing.Purged target) r wide narrow = absurd (cc)
 
   task_gentle : (t : TaskId) → may_go deck n t ≡ true → Gentle n.tasks (finish_quiet deck n (choices.Task t)).node.tasks
   unfolding finish_quiet may_go
@@ -117,15 +127,15 @@ module _ (deck : Deck) (w : World) (g : IsWhole deck w) (c : SysId) (n : NodeSta
             λ r wide. ap (λ T. list_of (lists T) r) same,
             subst (λ T. enq_count (items w.fixed) ≤ enq_count T) (sym same) (omega arith),
           )
-      by-fixed (local_task q one mine away m y) =
-          let item : RunItem = made_item c (items w.fixed) (fixing.Asked q) in
+      by-fixed (local_task f one away may y) =
+          let item : RunItem = made_item c (items w.fixed) f in
           let same : items (w.fixed ++ fixed_by c (finish_quiet deck n (choices.Task t)).fixed)
           ≡ items w.fixed ++ item ∷ [] =
-          ap (λ fs. items (w.fixed ++ fixed_by c fs)) one ∙ items-one w.fixed c (fixing.Asked q) in (
+          ap (λ fs. items (w.fixed ++ fixed_by c fs)) one ∙ items-one w.fixed c f in (
             λ r wide.
                 ap (λ T. list_of (lists T) r) same
                 ∙ (ap (λ s. list_of s r) (lists-push (items w.fixed) item)
-                ∙ list_of-want_other (lists (items w.fixed)) q.task q.want r (other-kind q.want r wide away)),
+                ∙ other-fixed (lists (items w.fixed)) f r wide away),
             subst (λ T. enq_count (items w.fixed) ≤ enq_count T) (sym same)
                 (enq_count-grown (items w.fixed) (item ∷ [])),
           )

@@ -44,7 +44,7 @@ use Rattle.grs_world.proofs.star.Systems.{requests_in}
 use Rattle.grs_world.proofs.star.Under.{res-entry}
 use Rattle.grs_world.proofs.star.Worlds.{IsHand, IsWhole, in_hands, items-one, are_live, live-below}
 use Rattle.grs_world.proofs.star.hearing.Elements.{idle-element, idle-silent, recorded-here}
-use Rattle.grs_world.proofs.star.hearing.Gains.{gained-among, gained-res, has-gain, own-gain, rank-timely}
+use Rattle.grs_world.proofs.star.hearing.Gains.{gained-among, gained-res, has-gain, own-gain, rank-timely, gain-asks}
 use Rattle.grs_world.proofs.star.hearing.Gentle.{Gentle, gentle-new, new-marked}
 use Rattle.grs_world.proofs.star.hearing.Mails.{hears-answer}
 use Rattle.grs_world.proofs.star.hearing.Managing.{gained-then, next-then, untold-then}
@@ -58,7 +58,7 @@ module _ (deck : Deck) (w : World) (g : IsWhole deck w) (c : SysId) (n : NodeSta
     (at : slice_get w.nodes c.0 ≡ Some n) (alive : has w.medium.removed c.0 ≡ false) (p : StarPart)
     (star : n.star ≡ Some p) (fits : IsPart deck w.medium.words (lists (items w.fixed)) c.0 p)
     (q : Req) (qs : List Req) (held : p.held ≡ q ∷ qs)
-    (hand : IsHand deck w.medium.words (are_live w) g.later g.out c.0 q) (r : Res) (wanted : res_wanted q.want ≡ Some r)
+    (hand : IsHand deck w.medium.words (are_live w) g.later g.out c.0 q)
     (same_owners : owners_by p q ≡ new_owners (lists (items w.fixed)) q.task q.want) (flags : ℕ) where
   abbrev T : List RunItem
   T = items w.fixed
@@ -199,14 +199,15 @@ module _ (deck : Deck) (w : World) (g : IsWhole deck w) (c : SysId) (n : NodeSta
         ∙ (ap (λ i. inbox w.medium i ++ answer ∷ []) (sym there)
         ∙ ap (λ z. inbox w.medium s ++ Answered z (answer_to (lists T) q.task q.want) (rank_of p q) ∷ [])
         (sym task))) in
-        let res : v ≡ r = gained-res (lists T) q.task q.want r v u wanted before after in
-        let gain = own-gain (lists T) q.task q.want r wanted
-        (ap (λ z. owns (list_of (lists T) r) z) (sym task)
+        let asks = gain-asks (lists T) q.task q.want v u before after in
+        let res : v ≡ asks.0 = gained-res (lists T) q.task q.want asks.0 v u asks.1 before after in
+        let gain = own-gain (lists T) q.task q.want asks.0 asks.1
+        (ap (λ z. owns (list_of (lists T) asks.0) z) (sym task)
         ∙ (ap (λ z. owns (list_of (lists T) z) u) (sym res) ∙ before))
-        (ap (λ z. owns (list_of (after_want (lists T) q.task q.want) r) z) (sym task)
+        (ap (λ z. owns (list_of (after_want (lists T) q.task q.want) asks.0) z) (sym task)
         ∙ (ap (λ z. owns (list_of (after_want (lists T) q.task q.want) z) u) (sym res) ∙ after)) in
         let none : has_task (list_of (lists T) v) u ≡ false =
-        ap (λ z. has_task (list_of (lists T) z) u) res ∙ (ap (has_task (list_of (lists T) r)) task ∙ gain.1) in
+        ap (λ z. has_task (list_of (lists T) z) u) res ∙ (ap (has_task (list_of (lists T) asks.0)) task ∙ gain.1) in
         let unrecorded : has_res v (state_of y.tasks u).records ≡ false =
         false_by (has_res v (state_of y.tasks u).records) (λ e.
         no_truth (has_task (list_of (lists T) v) u)
@@ -223,16 +224,18 @@ module _ (deck : Deck) (w : World) (g : IsWhole deck w) (c : SysId) (n : NodeSta
       → owns (list_of (after_want (lists T) q.task q.want) v) u ≡ true → had_by n' u v ≡ true
   unfolding placed
   owner-marked g' u v home wide before after =
-      let new = gained-among (lists T) q.task q.want r v u wanted (not-asker u home) before after in
+      let asks = gain-asks (lists T) q.task q.want v u before after in
+      let new = gained-among (lists T) q.task q.want asks.0 v u asks.1 (not-asker u home) before after in
       let sys' = g'.system c.0 n' (slice_get-set w.nodes c.0 n n' at) alive in
       let has =
       recorded-here deck w.medium.words (items (w.fixed ++ fixed_by c (fixing.Asked q ∷ []))) g'.right c.0 n'
       (inbox sent_on c.0) (g'.later c.0) (g'.out c.0) sys' u home v
       (owns-has (list_of (lists (items (w.fixed ++ fixed_by c (fixing.Asked q ∷ [])))) v) u
       (ap (λ es. owns es u) (lists-are v) ∙ after))
-      hand.entry (ap (entry_of_res deck.entries) new.0 ∙ res-entry deck.entries q.want r hand.entry wanted hand.at)
+      hand.entry
+      (ap (entry_of_res deck.entries) new.0 ∙ res-entry deck.entries q.want asks.0 hand.entry asks.1 hand.at)
       hand.managed in
-      new-marked n.tasks (res_wanted q.want) v (owners_by p q) u (wanted ∙ ap Some (sym new.0)) wide
+      new-marked n.tasks (res_wanted q.want) v (owners_by p q) u (asks.1 ∙ ap Some (sym new.0)) wide
       (ap (is_among u) same_owners ∙ new.1) ((g.system c.0 n at alive).at.good.here u home)
       (sym ((gentle.each u).has v wide) ∙ has)
 
@@ -251,7 +254,7 @@ module _ (deck : Deck) (w : World) (g : IsWhole deck w) (c : SysId) (n : NodeSta
         owner u v home wide (sym (ap (λ es. owns es u) (lists-are v)) ∙ owned) (owns (list_of (lists T) v) u) refl;
     told = λ s y u v z ne found lives home wide owned known untold.
         inr (untold-here deck w g c n at alive o refl s u v p' ne refl
-        (untold-then deck w.medium.words (lists T) c.0 p fits q.task q.want r wanted hand.entry hand.at managed.0
+        (untold-then deck w.medium.words (lists T) c.0 p fits q.task q.want hand.entry hand.at managed.0
         managed.1 v u (sym (ap (λ es. owns es u) (lists-are v)) ∙ owned)
         (ap (λ x. is_untold_by x u v) (part z known) ∙ untold)));
     gained = λ s y u v ne found lives home wide before after.
@@ -261,7 +264,7 @@ module _ (deck : Deck) (w : World) (g : IsWhole deck w) (c : SysId) (n : NodeSta
         timely-last few ranks s u home
         (has-gain (lists T) q.task q.want v u before (sym (ap (λ es. has_task es u) (lists-are v)) ∙ after));
     ranks = λ v e x known is. subst (λ xs. x.next ≤ suc (enq_count xs)) (sym grown_items)
-        (next-then deck w.medium.words (lists T) c.0 p fits q.task q.want r wanted hand.entry hand.at managed.0
+        (next-then deck w.medium.words (lists T) c.0 p fits q.task q.want hand.entry hand.at managed.0
         managed.1 T item (λ z. z) (enq_count-grown T (item ∷ [])) ranks e x
         (ap (λ (z : StarPart). managed_at z.manager e) (same_Some p' v known) ∙ is));
   })
@@ -297,6 +300,6 @@ module _ (deck : Deck) (w : World) (g : IsWhole deck w) (c : SysId) (n : NodeSta
           inl (asker-hears few ranks s y u v found lives home e before after)
       gains-control s y u v ne found lives home before after false e =
           inr (untold-here deck w g c n at alive o refl s u v p' ne refl
-          (gained-then deck w.medium.words (lists T) c.0 p fits q.task q.want r wanted hand.entry hand.at managed.0
+          (gained-then deck w.medium.words (lists T) c.0 p fits q.task q.want hand.entry hand.at managed.0
           managed.1 v u (task_swap u q.task e)
           (λ same. ne (sym (eqb-true u.system.0 s (and_parts (u.system.0 == s) _ home).0) ∙ same)) before after))

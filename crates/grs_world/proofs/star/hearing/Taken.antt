@@ -33,7 +33,6 @@ use Rattle.grs_wire.specs.declared.deck.Deck.{Deck}
 use Rattle.grs_wire.specs.declared.medium.Mail.{Mail}
 use Rattle.grs_wire.specs.declared.medium.Mail.TheVariants.{Request, Answered, Granted}
 use Rattle.grs_wire.specs.declared.request.Answer.{Answer}
-use Rattle.grs_wire.specs.declared.request.Answer.TheVariants.{Coded}
 use Rattle.grs_wire.specs.declared.request.Req.{Req}
 use Rattle.grs_wire.specs.declared.request.Want.{Want}
 use Rattle.grs_wire.specs.declared.request.Want.TheVariants.{Enq, Deq, Release, Look}
@@ -57,7 +56,7 @@ use Rattle.grs_world.proofs.star.Members.{IsPart, all_lists, has_manager}
 use Rattle.grs_world.proofs.star.Settling.{asker-home}
 use Rattle.grs_world.proofs.star.Systems.{IsSystem, requests_in}
 use Rattle.grs_world.proofs.star.Worlds.{AllHands, IsHand, IsWhole, in_hands, items-none, are_live, live-below}
-use Rattle.grs_world.proofs.star.hearing.Decided.{coded-answer, one-place}
+use Rattle.grs_world.proofs.star.hearing.Decided.{one-place}
 use Rattle.grs_world.proofs.star.hearing.Elements.{IsAnswered, IsDueOn, answer-awaited, recorded-or-due}
 use Rattle.grs_world.proofs.star.hearing.Elements.{records-distinct}
 use Rattle.grs_world.proofs.star.hearing.Gentle.{Answered as AnsweredBy, Gentle, answered, control-marks}
@@ -68,6 +67,7 @@ use Rattle.grs_world.proofs.star.hearing.Passing.{Grown, Hearable, Requested, ha
 use Rattle.grs_world.proofs.star.hearing.Passing.{is_untold_by, own-recorded-ready, untold-here, untold-own}
 use Rattle.grs_world.specs.World.{World, Turnout, fixed_by, placed}
 use Rattle.grs_wire.specs.Masks.{has}
+use Rattle.grs_world.proofs.star.Shown.{can-show}
 
 -- ---- what a task can be answered
 same-code : (c : Code) → same_code c c ≡ true
@@ -154,11 +154,11 @@ gets-enq Absent ret full false =
 gets-deq : (st : Standing) (have : Bool) → is_code_of (deq_codes have) (deq_code st have) ≡ true
 gets-deq st have = grind arith
 
-gets : (s : State) (t : TaskId) (w : Want) (r : Res) → res_wanted w ≡ Some r → can_get w (answer_to s t w) ≡ true
-gets s t (Enq q c ret full) r wanted = gets-enq (standing_of (list_of s q) t) ret full (can_have (list_of s q) c)
-gets s t (Deq q have) r wanted = gets-deq (standing_of (list_of s q) t) have
-gets s t (Release q) r wanted = refl
-gets s t (Look first count f) r wanted = absurd (cc)
+gets : (s : State) (t : TaskId) (w : Want) → can_get w (answer_to s t w) ≡ true
+gets s t (Enq q c ret full) = gets-enq (standing_of (list_of s q) t) ret full (can_have (list_of s q) c)
+gets s t (Deq q have) = gets-deq (standing_of (list_of s q) t) have
+gets s t (Release q) = refl
+gets s t (Look first count f) = can-show s first count f
 
 -- ---- the first mail is taken
 module _ (deck : Deck) (w : World) (g : IsWhole deck w) (c : SysId) (n : NodeState)
@@ -433,7 +433,7 @@ module _ (deck : Deck) (w : World) (g : IsWhole deck w) (c : SysId) (n : NodeSta
         (and_from (is_task n.tasks t) (is_sent (state_of n.tasks t).phase) (here t home) z.sent)
         (and_from (nat_le rank last_number) (is_awaited answer (state_of n.tasks t).outstanding) low
         (ap (is_awaited answer) z.is
-        ∙ (ap (can_get z.asked.req.want) z.reply ∙ gets z.lists t z.asked.req.want z.res z.wanted)))
+        ∙ (ap (can_get z.asked.req.want) z.reply ∙ gets z.lists t z.asked.req.want)))
 
     -- it has none: it has a rank out of time, or is of no task of the system
     takes-nothing : (is_home_at deck c.0 t ≡ true → has_effect n.tasks t answer rank ≡ false)
@@ -479,16 +479,8 @@ module _ (deck : Deck) (w : World) (g : IsWhole deck w) (c : SysId) (n : NodeSta
       abbrev a : Asked
       a = z.asked
 
-      abbrev code : Code
-      code = (coded-answer z.lists t z.asked.req.want z.res z.wanted).0
-
-      code-is : answer ≡ Coded code
-      code-is = z.reply ∙ (coded-answer z.lists t z.asked.req.want z.res z.wanted).1
-
-      k : AnsweredBy n.tasks (tell_answer_ranked n.tasks t z.asked answer rank) t z.asked.req.want code
-      k =
-          subst (λ y. AnsweredBy n.tasks (tell_answer_ranked n.tasks t z.asked y rank) t z.asked.req.want code)
-          (sym code-is) (answered n.tasks t (here t own) z.asked code rank)
+      k : AnsweredBy n.tasks (tell_answer_ranked n.tasks t z.asked answer rank) t z.asked.req.want (grants answer)
+      k = answered n.tasks t (here t own) z.asked answer rank
 
       abbrev v : TasksView
       v = tell_answer_ranked n.tasks t z.asked answer rank
@@ -570,7 +562,7 @@ module _ (deck : Deck) (w : World) (g : IsWhole deck w) (c : SysId) (n : NodeSta
               ⊎ (hears t r true rest ≡ true)
               → (is_marked r (state_of v t).records ≡ true) ⊎ (hears t r (has_res r (state_of v t).records) rest ≡ true)
           own-heard r owned (inl y) =
-              inl (marks r (k.replied.made r (asks-it r owned y.0) (sym (ap grants code-is) ∙ y.1) y.0
+              inl (marks r (k.replied.made r (asks-it r owned y.0) y.1 y.0
               (sym (stands r) ∙ recorded g' r owned)))
           own-heard r owned (inr e) = inr (ap (λ b. hears t r b rest) (recorded g' r owned) ∙ e)
 
@@ -631,11 +623,9 @@ module _ (deck : Deck) (w : World) (g : IsWhole deck w) (c : SysId) (n : NodeSta
             (heard-by deck w g c n at alive p star (Answered t answer rank) rest is flags
             (tell_answer_ranked n.tasks t (z own low).asked answer rank) p (takes-answered own low)))
 
-    pub heard-missed : is_of_deck deck t ≡ false
+    pub heard-missed : is_home_at deck c.0 t ≡ false
         → IsWhole deck (placed w c n (to deck w g c n at alive p star (Answered t answer rank) rest is flags n.tasks p))
         → StaysHeard deck w c n (to deck w g c n at alive p star (Answered t answer rank) rest is flags n.tasks p)
-    heard-missed strange =
+    heard-missed away =
         heard-by deck w g c n at alive p star (Answered t answer rank) rest is flags n.tasks p
-        (λ g'.
-        takes-nothing
-        (λ home. no_truth (is_of_deck deck t) (and_parts (t.system.0 == c.0) (is_of_deck deck t) home).1 strange))
+        (λ g'. takes-nothing (λ home. no_truth (is_home_at deck c.0 t) home away))

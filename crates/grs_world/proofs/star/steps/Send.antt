@@ -33,8 +33,6 @@ use Rattle.grs_wire.specs.declared.medium.Mail.TheVariants as mails
 use Rattle.grs_wire.specs.declared.medium.Reply.TheVariants as replies
 use Rattle.grs_wire.specs.declared.request.Fixed.TheVariants as fixing
 use Rattle.grs_wire.specs.declared.request.Req.{Req}
-use Rattle.grs_wire.specs.declared.request.Want.{Want}
-use Rattle.grs_wire.specs.declared.request.Want.TheVariants.{Enq, Deq, Release, Look}
 use Rattle.grs_wire.proofs.WantLaws.{by_test}
 use Rattle.lock_structure.specs.Laws.{manager_at}
 use Rattle.lock_structure.specs.Words.{route, route_by, submitted_words}
@@ -45,14 +43,13 @@ use Rattle.task_state.specs.View.{TasksView, is_task, is_sent, state_of}
 use Rattle.task_state.specs.declared.state.Asked.{Asked}
 use Rattle.task_state.specs.declared.state.Phase.{Phase}
 use Rattle.task_state.specs.declared.state.Phase.TheVariants as phases
-use Rattle.task_state.specs.declared.state.Rec.{Rec}
 use Rattle.task_state.proofs.ViewLaws.{is_task-system}
 use Rattle.grs_known.specs.Items.{RunItem, lists, items}
 use Rattle.grs_known.proofs.known.Histories.{made_item}
 use Rattle.grs_known.proofs.known.ItemLaws.{lists-push}
 use Rattle.grs_known.proofs.lists.Owners.{is_among, new-owns}
 use Rattle.grs_world.specs.World.{World, carry_out, chosen}
-use Rattle.grs_known.proofs.system.Asking.{IsAskedFor, IsOpenBy, are_sent}
+use Rattle.grs_known.proofs.system.Asking.{are_sent}
 use Rattle.grs_world.proofs.system.AtNode.{opens_of}
 use Rattle.grs_known.proofs.system.Ours.{IsOurs}
 use Rattle.grs_world.proofs.system.Puts.{home-task}
@@ -92,18 +89,10 @@ waits-free t p (q ∷ qs) waits h = go (same_task t q.task) h (waits-free t p qs
     go true f more = absurd (not_both p waits (and_parts (is_sent p) (are_sent t p qs) f).0)
     go false f more = more f
 
--- what is asked is of a resource
-pub asks-res : (limit : ℕ) (ls : List Meaning) (line : ℕ) (xs : List Rec) (w : Want) (unit : Option ℕ)
-    → IsAskedFor limit ls line xs w unit → (r : Res) × (res_wanted w ≡ Some r)
-asks-res limit ls line xs (Enq r c ret full) unit h = (r, refl)
-asks-res limit ls line xs (Deq r have) unit h = (r, refl)
-asks-res limit ls line xs (Release r) unit h = (r, refl)
-asks-res limit ls line xs (Look first count f) unit h = absurd h
-
 -- A manager decides by its lists as all lists would.
 module _ (deck : Deck) (words : List ℕ) (L : State) (s : ℕ) (p : StarPart) (k : IsPart deck words L s p) (x : ℕ)
-    (mine : manages p x ≡ true) (v : TasksView) (t : TaskId) (a : Asked) (r : Res)
-    (wanted : res_wanted a.req.want ≡ Some r) (at : entry_wanted deck.entries a.req.want ≡ Some x) where
+    (mine : manages p x ≡ true) (v : TasksView) (t : TaskId) (a : Asked)
+    (at : entry_wanted deck.entries a.req.want ≡ Some x) where
   lists-are : Alike (lists_for p a.req.want) (under deck.entries x L)
   lists-are =
       subst (λ o. Alike (plain (items_of (kept_for p.manager.entries o))) (under deck.entries x L))
@@ -122,7 +111,7 @@ module _ (deck : Deck) (words : List ℕ) (L : State) (s : ℕ) (p : StarPart) (
       ap (λ z.
       tell_new (tell_answer_ranked v t a z (rank_of p (request_of t a))) (res_wanted a.req.want)
       (owners_by p (request_of t a)))
-      (answer-alike (lists_for p a.req.want) (under deck.entries x L) t a.req.want r wanted lists-are)
+      (answer-alike (lists_for p a.req.want) (under deck.entries x L) t a.req.want lists-are)
       ∙ ap (λ z.
       tell_new (tell_answer_ranked v t a (answer_to (under deck.entries x L) t a.req.want) (rank_of p (request_of t a)))
       (res_wanted a.req.want) z)
@@ -130,11 +119,11 @@ module _ (deck : Deck) (words : List ℕ) (L : State) (s : ℕ) (p : StarPart) (
       ∙ ap (λ z.
       tell_new (tell_answer_ranked v t a z (rank_of p (request_of t a))) (res_wanted a.req.want)
       (new_owners (under deck.entries x L) t a.req.want))
-      (answer-under deck.entries x L t a.req.want r wanted here_at)
+      (answer-under deck.entries x L t a.req.want here_at)
       ∙ ap (λ z.
       tell_new (tell_answer_ranked v t a (answer_to L t a.req.want) (rank_of p (request_of t a)))
       (res_wanted a.req.want) z)
-      (owners-under deck.entries x L t a.req.want r wanted here_at)
+      (owners-under deck.entries x L t a.req.want here_at)
       )
 
 module _ (deck : Deck) (some : 0 < deck.entries) (w : World) (g : IsWhole deck w) (c : SysId) (inside : c.0 < 8)
@@ -183,20 +172,14 @@ module _ (deck : Deck) (some : 0 < deck.entries) (w : World) (g : IsWhole deck w
 
     -- what it asks
     module _ (a : Asked) (is : (state_of n.tasks t).outstanding ≡ Some a) where
-      resource : (r : Res) × (res_wanted a.req.want ≡ Some r)
-      resource = asks-res deck.limit lines.0 (state_of n.tasks t).line (state_of n.tasks t).records a.req.want a.unit
-          (subst (λ o. IsOpenBy deck.limit lines.0 t (state_of n.tasks t) o) is
-          (here deck c.0 (items w.fixed) (g.later c.0) (g.out c.0) n h.at t home).opened).2
-
-      owned : (u : TaskId) → is_among u (new_owners (all_lists w) t a.req.want) ≡ true
-          → owns (list_of (lists (items w.fixed ++ made_item c (items w.fixed) (fixing.Asked (request_of t a)) ∷ []))
-          resource.0)
+      owned : (r : Res) → res_wanted a.req.want ≡ Some r → (u : TaskId)
+          → is_among u (new_owners (all_lists w) t a.req.want) ≡ true
+          → owns (list_of (lists (items w.fixed ++ made_item c (items w.fixed) (fixing.Asked (request_of t a)) ∷ [])) r)
           u
           ≡ true
-      owned u among =
-          subst (λ s. owns (list_of s resource.0) u ≡ true)
-          (sym (lists-push T (made_item c T (fixing.Asked (request_of t a)))))
-          (new-owns L t a.req.want resource.0 u resource.1 among)
+      owned r wanted u among =
+          subst (λ s. owns (list_of s r) u ≡ true) (sym (lists-push T (made_item c T (fixing.Asked (request_of t a)))))
+          (new-owns L t a.req.want r u wanted among)
 
       -- of which entry
       module _ (x : ℕ) (asks : entry_for p a.req.want ≡ Some x) where
@@ -229,12 +212,12 @@ module _ (deck : Deck) (some : 0 < deck.entries) (w : World) (g : IsWhole deck w
                     fixed = fixing.Asked (request_of t a) ∷ [];
                   });
             }))
-            (decides-as deck ws L c.0 q fits x mine n.tasks t a resource.0 resource.1 of_entry)
+            (decides-as deck ws L c.0 q fits x mine n.tasks t a of_entry)
             (outcome-decided deck w g c n at alive ws grow flags t lines.0 lines.1 home a is free x of_entry
-            (sym (fits.roles x) ∙ mine) resource.0 resource.1 (new_owners L t a.req.want) (rank_of q (request_of t a)) p
+            (sym (fits.roles x) ∙ mine) (new_owners L t a.req.want) (rank_of q (request_of t a)) p
             (record q { manager = after_request q.manager t a.req.want }) me.star held owned
             (heard-decided deck w g c n at alive ws flags t home a free x of_entry (sym (fits.roles x) ∙ mine)
-            resource.0 resource.1 (rank_of q (request_of t a)) p q me.star fits held begins low))
+            (rank_of q (request_of t a)) p q me.star fits held begins low))
 
         -- the system manages the entry itself
         alone : manages p x ≡ true → ComesBy deck w g c n at alive (choices.Send t) Alone

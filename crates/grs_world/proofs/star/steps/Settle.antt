@@ -4,7 +4,6 @@ use Rattle.std.proofs.Common.{false}
 use Rattle.std.specs.Prelude.{drop, slice_get}
 use Rattle.std.proofs.lemmas.Option.{same_Some}
 use Rattle.contention_mgr.specs.Manager.{Managed, plain, items_of, kept_for, entry_wanted, after_request, rank_for}
-use Rattle.lock_structure.specs.Entries.{entry_of_res}
 use Rattle.grs_base.specs.Lists.{owns}
 use Rattle.grs_base.specs.State.{list_of}
 use Rattle.grs_base.specs.declared.resource.SysId.{SysId}
@@ -35,11 +34,11 @@ use Rattle.grs_wire.specs.declared.request.Want.TheVariants.{Enq, Deq, Release, 
 use Rattle.grs_wire.proofs.WantLaws.{by_test}
 use Rattle.grs_world.specs.World.{World, chosen, fixed_by}
 use Rattle.grs_known.proofs.told.News.{ToldNews, told-news}
-use Rattle.task_state.specs.Replies.{tell_all, tell_new}
+use Rattle.task_state.specs.Replies.{tell_new}
 use Rattle.grs_world.proofs.star.Members.{IsMember, all_lists}
-use Rattle.grs_world.proofs.star.Settling.{follows-now, hand, manager-after, same_req, whole-settled}
+use Rattle.grs_world.proofs.star.Settling.{follows-now, hand, manager-after, whole-settled}
 use Rattle.grs_world.proofs.star.Systems.{gives_want}
-use Rattle.grs_world.proofs.star.Under.{under, answer-under, entry-same, owners-under, res-entry}
+use Rattle.grs_world.proofs.star.Under.{under, answer-under, entry-same, owners-under}
 use Rattle.grs_world.proofs.star.Worlds.{IsHand, IsWhole, are_live, items-one}
 use Rattle.grs_world.proofs.star.hearing.Settled.{heard-settled}
 use Rattle.grs_world.proofs.star.steps.Outcome.{Comes, ComesBy, ComesOf, comes-called, comes-finished, comes-needs}
@@ -47,6 +46,7 @@ use Rattle.grs_world.proofs.star.steps.Outcome.{comes-none}
 use Rattle.grs_known.proofs.lists.Alike.{Alike, answer-alike, owners-alike}
 use Rattle.grs_world.proofs.run.Desks.{tells_tasks}
 use Rattle.grs_world.proofs.rest.StarTasks.{dated-by, keeps-new}
+use Rattle.grs_base.specs.declared.resource.Res.{Res}
 
 -- what gives something up puts nothing into a list
 rank-plain : (o : Option Managed) (t : TaskId) (w : Want) → gives_want w ≡ true → rank_for o t w ≡ 0
@@ -85,14 +85,6 @@ module _ (deck : Deck) (w : World) (g : IsWhole deck w) (c : SysId) (n : NodeSta
     abbrev follow : MayFollow deck T item
     follow = follows-now deck w g c n at alive p me.star q (drop 1 p.held) held
 
-    wanted : res_wanted q.want ≡ Some follow.ask.res
-    wanted =
-        ap (λ (z : Req). res_wanted z.want) (same_req deck w g c n at alive p me.star q (drop 1 p.held) held)
-        ∙ follow.ask.wanted
-
-    of_entry : entry_of_res deck.entries follow.ask.res ≡ Some its.entry
-    of_entry = res-entry deck.entries q.want follow.ask.res its.entry wanted its.at
-
     -- its lists of the entry are what all lists have of it
     lists-here : Alike (lists_for p q.want) (under deck.entries its.entry (lists T))
     lists-here =
@@ -103,31 +95,25 @@ module _ (deck : Deck) (w : World) (g : IsWhole deck w) (c : SysId) (n : NodeSta
     -- so they answer the same, and give the same tasks control
     same-answer : answer_for p q ≡ answer_to (lists T) q.task q.want
     same-answer =
-        answer-alike (lists_for p q.want) (under deck.entries its.entry (lists T)) q.task q.want follow.ask.res wanted
-        lists-here
-        ∙ answer-under deck.entries its.entry (lists T) q.task q.want follow.ask.res wanted
+        answer-alike (lists_for p q.want) (under deck.entries its.entry (lists T)) q.task q.want lists-here
+        ∙ answer-under deck.entries its.entry (lists T) q.task q.want
         (entry-same its.entry (entry_wanted deck.entries q.want) its.at)
 
     same-owners : owners_by p q ≡ new_owners (lists T) q.task q.want
     same-owners =
         owners-alike (lists_for p q.want) (under deck.entries its.entry (lists T)) q.task q.want lists-here
-        ∙ owners-under deck.entries its.entry (lists T) q.task q.want follow.ask.res wanted
+        ∙ owners-under deck.entries its.entry (lists T) q.task q.want
         (entry-same its.entry (entry_wanted deck.entries q.want) its.at)
 
-    own : (u : TaskId) → is_among u (owners_by p q) ≡ true
-        → owns (list_of (lists (T ++ item ∷ [])) follow.ask.res) u ≡ true
-    own u among =
-        ap (λ z. owns (list_of z follow.ask.res) u) (lists-push T item)
-        ∙ new-owns (lists T) q.task q.want follow.ask.res u wanted (sym (ap (is_among u) same-owners) ∙ among)
+    own : (r : Res) → res_wanted q.want ≡ Some r → (u : TaskId) → is_among u (owners_by p q) ≡ true
+        → owns (list_of (lists (T ++ item ∷ [])) r) u ≡ true
+    own r wanted u among =
+        ap (λ z. owns (list_of z r) u) (lists-push T item)
+        ∙ new-owns (lists T) q.task q.want r u wanted (sym (ap (is_among u) same-owners) ∙ among)
 
     -- the system then
     abbrev after : StarPart
     after = record p { manager = after_request p.manager q.task q.want; held = drop 1 p.held }
-
-    node-is : record n { tasks = tell_new n.tasks (res_wanted q.want) (owners_by p q); star = Some after }
-        ≡ record n { tasks = tell_all n.tasks follow.ask.res (owners_by p q); star = Some after }
-    unfolding tell_new
-    node-is = ap (λ o. record n { tasks = tell_new n.tasks o (owners_by p q); star = Some after }) wanted
 
     news :
         ToldNews deck c.0 (history (items (w.fixed ++ fixed_by c (fixes.Asked q ∷ [])))) n.tasks.told
@@ -136,9 +122,8 @@ module _ (deck : Deck) (w : World) (g : IsWhole deck w) (c : SysId) (n : NodeSta
         subst (λ xs.
         ToldNews deck c.0 (history xs) n.tasks.told (tell_new n.tasks (res_wanted q.want) (owners_by p q)).told)
         (sym (items-one w.fixed c (fixes.Asked q)))
-        (subst (λ (k : NodeState). ToldNews deck c.0 (history (T ++ item ∷ [])) n.tasks.told k.tasks.told) (sym node-is)
-        (told-news (manager-after deck w g c n at alive p me.star q (drop 1 p.held) held follow.ask.res (owners_by p q)
-        own of_entry (Some after)).told))
+        (told-news (manager-after deck w g c n at alive p me.star q (drop 1 p.held) held (owners_by p q) own
+        (Some after)).told)
 
     -- the medium, where this answer is sent
     abbrev answered : Answer → MediumState
@@ -156,12 +141,11 @@ module _ (deck : Deck) (w : World) (g : IsWhole deck w) (c : SysId) (n : NodeSta
     by-history step = record {
       stays =
           whole-settled deck w g c n at alive p me.star q (drop 1 p.held) held (rank_of p q)
-          (rank-plain _ q.task q.want) (awake w.medium c) follow.ask.res wanted (owners_by p q) own of_entry after refl
-          _ node-is step;
+          (rank-plain _ q.task q.want) (awake w.medium c) (owners_by p q) own after refl step;
       news = tells_tasks news refl refl;
       heard =
-          heard-settled deck w g c n at alive p me.star me.fits q (drop 1 p.held) held its follow.ask.res wanted
-          same-owners (awake w.medium c);
+          heard-settled deck w g c n at alive p me.star me.fits q (drop 1 p.held) held its same-owners
+          (awake w.medium c);
       dated = λ h.
           dated-by deck c.0 n (with_star n (settled_first n.tasks p q)).node refl h
           (keeps-new deck n.tasks (res_wanted q.want) (owners_by p q) h.date);

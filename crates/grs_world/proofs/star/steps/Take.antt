@@ -14,7 +14,7 @@ use Rattle.grs_medium.specs.Apply.{row, take_row, take_from}
 use Rattle.grs_medium.specs.Inboxes.{without_first}
 use Rattle.grs_medium.specs.Medium.{MediumState, inbox, awake}
 use Rattle.grs_node.specs.Node.{NodeState, prepare, finish, finish_call, finish_star, with_star, is_of_deck}
-use Rattle.grs_node.specs.Node.{is_for_deck, take_mail}
+use Rattle.grs_node.specs.Node.{is_for_deck, names_of_deck, take_mail}
 use Rattle.grs_node.specs.Star.{StarPart, StarStep, entry_for, manages, fixing_none, took_mail}
 use Rattle.lock_structure.specs.Entries.{is_entry}
 use Rattle.grs_wire.specs.Masks.{has}
@@ -40,7 +40,7 @@ use Rattle.grs_known.proofs.told.News.{ToldNews, told-news}
 use Rattle.grs_known.proofs.system.Says.{askers, stand_apart, none}
 use Rattle.grs_world.proofs.star.Answering.{others_of, without_asker, mine-others}
 use Rattle.grs_world.proofs.star.Mailed.{TookAnswer, learns, leaves, took-request, took-control, took-answer}
-use Rattle.grs_world.proofs.star.Mailed.{strange-answer, strange-control}
+use Rattle.grs_world.proofs.star.Mailed.{not_here, strange-answer, strange-control}
 use Rattle.grs_world.proofs.star.Heard.{StaysHeard}
 use Rattle.grs_world.proofs.star.Members.{IsMember, IsPart, all_lists}
 use Rattle.grs_world.proofs.star.hearing.Taken.{heard-answered, heard-control, heard-dropped, heard-held, heard-missed}
@@ -168,7 +168,7 @@ module _ (deck : Deck) (w : World) (g : IsWhole deck w) (c : SysId) (n : NodeSta
       Goes deck w.medium.words T c.0 (record n { tasks = v; star = Some q }) rest (later c.0) (out c.0) n.tasks.told
       → Hands deck w.medium.words (are_live w) g.later g.out c.0 (in_hands q rest) →
       (IsWhole deck (placed w c n (to v q)) → StaysHeard deck w c n (to v q))
-      → (AllDate deck n.tasks → Keeps deck n.tasks v) → Comes deck w g c n (to v q)
+      → (AllDate false deck n.tasks → Keeps deck n.tasks v) → Comes deck w g c n (to v q)
   took-mail later out same_later same_out stay v q goes own heard keeps step = record {
     stays =
         whole-placed deck w g c n at alive (to v q) step T (items-none w.fixed c) later out same_out none_fixed g.right
@@ -208,7 +208,7 @@ module _ (deck : Deck) (w : World) (g : IsWhole deck w) (c : SysId) (n : NodeSta
       →
       Hands deck w.medium.words (are_live w) g.later g.out c.0 (in_hands q rest)
       → (IsWhole deck (placed w c n (to v q)) → StaysHeard deck w c n (to v q))
-      → (AllDate deck n.tasks → Keeps deck n.tasks v) → Comes deck w g c n (to v q)
+      → (AllDate false deck n.tasks → Keeps deck n.tasks v) → Comes deck w g c n (to v q)
   took-same v q goes own heard keeps step =
       took-mail g.later g.out (λ s ne. refl) (λ s ne. refl) (λ m qs h. h) v q goes own heard keeps step
 
@@ -219,7 +219,7 @@ module _ (deck : Deck) (w : World) (g : IsWhole deck w) (c : SysId) (n : NodeSta
       →
       Hands deck w.medium.words (are_live w) g.later g.out c.0 (in_hands q rest)
       → (IsWhole deck (placed w c n (to v q)) → StaysHeard deck w c n (to v q))
-      → (AllDate deck n.tasks → Keeps deck n.tasks v) → Comes deck w g c n (to v q)
+      → (AllDate false deck n.tasks → Keeps deck n.tasks v) → Comes deck w g c n (to v q)
   took-learned t v q late goes own heard keeps step =
       let xs = others_of t (g.later c.0) in
       let qs = without_asker t (g.out c.0) in
@@ -326,7 +326,7 @@ module _ (deck : Deck) (w : World) (g : IsWhole deck w) (c : SysId) (n : NodeSta
           (λ k. keeps-mail deck n.tasks t answer rank of_deck k)
 
   drops_answer : (t : TaskId) (answer : Answer) (rank : ℕ) (is : inbox w.medium c.0 ≡ Answered t answer rank ∷ rest)
-      → is_of_deck deck t ≡ false
+      → is_for_deck deck (Answered t answer rank) ≡ false
       → Comes deck w g c n (to deck w g c n at alive (Answered t answer rank) rest is n.tasks p)
   drops_answer t answer rank is strange =
       took-same deck w g c n at alive (Answered t answer rank) rest is n.tasks p
@@ -337,7 +337,9 @@ module _ (deck : Deck) (w : World) (g : IsWhole deck w) (c : SysId) (n : NodeSta
         told = none;
       })
       (hands_now (Answered t answer rank) is)
-      (heard-missed deck w g c n at alive p star fits rest (awake w.medium c) t answer rank is strange)
+      (heard-missed deck w g c n at alive p star fits rest (awake w.medium c) t answer rank is
+      (not_here deck words (items w.fixed) g.right c.0 n rest (g.later c.0) (g.out c.0) t answer rank
+      (system_now (Answered t answer rank) is) strange))
       (λ k. keeps-none deck n.tasks k)
 
   -- control
@@ -381,8 +383,10 @@ module _ (deck : Deck) (w : World) (g : IsWhole deck w) (c : SysId) (n : NodeSta
       (λ f. drops_request e from q is (λ k. f)))
       (λ h. drops_request e from q is (λ k. no_truth (is_for_deck deck (Request e from q)) k h))
   takes (Answered t answer rank) is =
-      by_test Takes (is_of_deck deck t) (took_mail n.tasks p (Answered t answer rank)) (fixing_none n.tasks p)
-      (λ h. takes_answer t answer rank is h) (λ h. drops_answer t answer rank is h)
+      by_test Takes (is_for_deck deck (Answered t answer rank)) (took_mail n.tasks p (Answered t answer rank))
+      (fixing_none n.tasks p)
+      (λ h. takes_answer t answer rank is (and_parts (is_of_deck deck t) (names_of_deck deck answer) h).0)
+      (λ h. drops_answer t answer rank is h)
   takes (Granted t r) is =
       by_test Takes (is_of_deck deck t) (took_mail n.tasks p (Granted t r)) (fixing_none n.tasks p)
       (λ h. takes_control t r is h) (λ h. drops_control t r is h)

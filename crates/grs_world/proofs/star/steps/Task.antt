@@ -9,7 +9,6 @@ use Rattle.grs_node.specs.declared.prepared.Prepared.TheVariants.{Quiet, Nothing
 use Rattle.grs_wire.specs.Masks.{has}
 use Rattle.grs_wire.specs.declared.deck.Choice.TheVariants as choices
 use Rattle.grs_wire.specs.declared.deck.Deck.{Deck}
-use Rattle.grs_wire.specs.declared.request.Fixed.TheVariants as fixing
 use Rattle.grs_wire.proofs.WantLaws.{by_test}
 use Rattle.grs_known.specs.Items.{history, items}
 use Rattle.grs_world.specs.World.{World, carry_out, chosen, fixed_by}
@@ -35,9 +34,9 @@ module _ (deck : Deck) (w : World) (g : IsWhole deck w) (c : SysId) (n : NodeSta
   task-news st (idle_task none_fixed z) =
       subst (λ U. ToldNews deck c.0 (history U) n.tasks.told st.node.tasks.told)
       (sym (ap (λ fs. items (w.fixed ++ fixed_by c fs)) none_fixed ∙ items-none w.fixed c)) (told-news z.told)
-  task-news st (local_task q one_fixed mine_q away m z) =
+  task-news st (local_task f one_fixed away may z) =
       subst (λ U. ToldNews deck c.0 (history U) n.tasks.told st.node.tasks.told)
-      (sym (ap (λ fs. items (w.fixed ++ fixed_by c fs)) one_fixed ∙ items-one w.fixed c (fixing.Asked q)))
+      (sym (ap (λ fs. items (w.fixed ++ fixed_by c fs)) one_fixed ∙ items-one w.fixed c f))
       (told-news z.told)
 
   -- and its tasks stay up to date
@@ -57,11 +56,12 @@ module _ (deck : Deck) (w : World) (g : IsWhole deck w) (c : SysId) (n : NodeSta
     news =
         tells_tasks (task-news (finish_quiet deck n (choices.Task t))
         (system-task deck w.medium.words (items w.fixed) g.right c.0 n (inbox w.medium c.0) (g.later c.0) (g.out c.0)
-        (g.system c.0 n at alive) c t goes))
+        (g.system c.0 n at alive) c t (g.roles.node c.0 n at alive).part (g.roles.node c.0 n at alive).star goes))
         (stays-task deck.limit n t (lines_of deck t)).done refl;
     heard =
         heard-task deck w g c n at alive t goes (system-task deck w.medium.words (items w.fixed) g.right c.0 n
-        (inbox w.medium c.0) (g.later c.0) (g.out c.0) (g.system c.0 n at alive) c t goes);
+        (inbox w.medium c.0) (g.later c.0) (g.out c.0) (g.system c.0 n at alive) c t (g.roles.node c.0 n at alive).part
+        (g.roles.node c.0 n at alive).star goes);
     dated = own-dated t goes;
   }
 

@@ -1,0 +1,161 @@
+-- Worked runs by which ranks and orders are checked: which rank an element gets, that its record has the same, who is
+-- told first that it owns, and who manages an entry behind the change to star mode.
+use Rattle.std.proofs.Common.{◌≡◌, ℕ, true, false, List, [], ◌∷◌, ◌++◌, map, Option, Some, None, refl}
+use Rattle.std.specs.Prelude.{slice_get}
+use Rattle.contention_mgr.specs.Manager.{Managed, managed_at}
+use Rattle.grs_base.specs.declared.decision.Code.TheVariants.{Wait}
+use Rattle.grs_base.specs.declared.line.Scope.TheVariants.{Systems}
+use Rattle.grs_base.specs.declared.resource.Ctl.TheVariants.{E, S}
+use Rattle.grs_base.specs.declared.resource.Ret.TheVariants.{RetNone}
+use Rattle.grs_medium.specs.Apply.{row, apply, turn_row, switch_row, submit_row, take_row, mail_row}
+use Rattle.grs_medium.specs.Medium.{inbox}
+use Rattle.grs_node.specs.Node.{NodeState, post, ask, take_line, end_step, ready_step, phase_step, may_go, may_send}
+use Rattle.grs_node.specs.Node.{star_call, prepare, finish_quiet, finish_star, finish_call, finish, first_node}
+use Rattle.grs_node.specs.Node.{read_entries, all_sent, put_in, switched, desk_told, change_to_star}
+use Rattle.grs_node.specs.Node.{turned as system_turned}
+use Rattle.grs_node.specs.Star.{StarPart, decide_own, took_mail}
+use Rattle.grs_wire.specs.LockWords.{manager, lock_word, submitted}
+use Rattle.grs_wire.specs.Masks.{has, without, with_also}
+use Rattle.grs_wire.specs.Unseen.{unseen}
+use Rattle.grs_wire.specs.declared.deck.Deck.{Deck}
+use Rattle.grs_wire.specs.declared.deck.Event.{Event}
+use Rattle.grs_wire.specs.declared.deck.Order.TheVariants as orders
+use Rattle.grs_wire.specs.declared.deck.SystemDef.{SystemDef}
+use Rattle.grs_wire.specs.declared.medium.Mail.TheVariants as mails
+use Rattle.grs_wire.specs.declared.request.Answer.TheVariants as answers
+use Rattle.lock_structure.specs.Words.{route}
+use Rattle.ring_mode.specs.Ring.{answer_own, process, process_entry}
+use Rattle.rsa_message.specs.Message.{any_unseen, cleared, closed_by, first_after, rest_after_turn, stamped, turn_reply}
+use Rattle.rsa_message.specs.Message.{turned, wakes}
+use Rattle.star_client.specs.Client.{tell_answer_ranked, after_mail}
+use Rattle.task_state.specs.Replies.{after_code, passes_wait, recalled, record_enq, replied, tell_all, tell_answer}
+use Rattle.task_state.specs.Replies.{tell_answer_any, tell_code, tell_control, tell_line, tell_new, tell_untold}
+use Rattle.task_state.specs.View.{state_of, telling, with_exclusive, with_line, with_outstanding, with_phase, with_rank}
+use Rattle.task_state.specs.View.{with_record, with_state, with_told, without_record}
+use Rattle.grs_world.specs.Interest.{manages_at}
+use Rattle.grs_world.specs.World.{World, first_world, carry_out, chosen, placed, happens_at, happens, run}
+use Rattle.grs_world.proofs.samples.Samples.{system, task_of, shared, enq, deq, deck_of, goes, turn}
+use Rattle.grs_world.proofs.samples.StarSamples.{sends, settles, star_of, takes, tells}
+use Rattle.grs_world.proofs.samples.SwitchSamples.{switches}
+
+-- the ranks of the records of each task of a system, and those of the elements of the only lock entry where it manages
+-- that
+abbrev on_record : NodeState → List (List ℕ)
+on_record n = map (λ t. map (λ r. r.rank) t.records) n.tasks.tasks
+
+abbrev in_entry : Option Managed → List ℕ
+in_entry None = []
+in_entry (Some m) = map (λ x. x.rank) m.items
+
+abbrev in_part : Option StarPart → List ℕ
+in_part None = []
+in_part (Some p) = in_entry (managed_at p.manager 0)
+
+abbrev records_of : World → List (List (List ℕ))
+records_of w = map on_record w.nodes
+
+abbrev elements_of : World → List (List ℕ)
+elements_of w = map (λ n. in_part n.star) w.nodes
+
+-- ---- star mode
+-- A task of the manager has two resources, for which tasks of the other system wait: one for the second by name, and
+-- then two for the first, of which the later by number asks sooner.
+abbrev queues : Deck
+queues =
+    star_of (((enq 66 E Systems RetNone ∷ enq 65 E Systems RetNone ∷ deq 66 Systems ∷ deq 65 Systems ∷ []) ∷ [])
+    ∷ ((enq 66 E Systems RetNone ∷ []) ∷ (enq 65 S Systems RetNone ∷ []) ∷ (enq 65 S Systems RetNone ∷ []) ∷ []) ∷ [])
+
+abbrev has_both : List Event
+has_both = goes 0 0 ∷ sends 0 0 ∷ goes 0 0 ∷ sends 0 0 ∷ []
+
+-- a request of a task of the other system is settled, and its answer is taken
+abbrev settled : ℕ → List Event
+settled n = goes 1 n ∷ sends 1 n ∷ takes 0 ∷ settles 0 ∷ []
+
+abbrev one_waits : List Event
+one_waits = has_both ++ settled 0
+
+abbrev all_wait : List Event
+all_wait = one_waits ++ takes 1 ∷ settled 2 ++ takes 1 ∷ settled 1 ++ takes 1 ∷ []
+
+-- both are given back
+abbrev given_back : List Event
+given_back = all_wait ++ goes 0 0 ∷ sends 0 0 ∷ goes 0 0 ∷ sends 0 0 ∷ []
+
+abbrev told_all : List Event
+told_all = given_back ++ tells 0 ∷ tells 0 ∷ tells 0 ∷ []
+
+-- A new element gets the next rank of its entry, whatever its resource. The answer has it with it, and then the record;
+-- it stays when control is told.
+pub ranks_go_on :
+    (elements_of (run queues has_both) ≡ (1 ∷ 2 ∷ []) ∷ [] ∷ [])
+    × (records_of (run queues has_both) ≡ ((1 ∷ 2 ∷ []) ∷ []) ∷ ([] ∷ [] ∷ [] ∷ []) ∷ [])
+    × (inbox (run queues one_waits).medium 1 ≡ mails.Answered (task_of 1 0) (answers.Coded Wait) 3 ∷ [])
+    × (elements_of (run queues all_wait) ≡ (1 ∷ 2 ∷ 3 ∷ 4 ∷ 5 ∷ []) ∷ [] ∷ [])
+    × (records_of (run queues all_wait)
+    ≡ ((1 ∷ 2 ∷ []) ∷ []) ∷ ((3 ∷ []) ∷ (5 ∷ []) ∷ (4 ∷ []) ∷ []) ∷ [])
+    × (elements_of (run queues given_back) ≡ (3 ∷ 4 ∷ 5 ∷ []) ∷ [] ∷ [])
+    × (records_of (run queues (told_all ++ takes 1 ∷ takes 1 ∷ takes 1 ∷ []))
+    ≡ ([] ∷ []) ∷ ((3 ∷ []) ∷ (5 ∷ []) ∷ (4 ∷ []) ∷ []) ∷ [])
+unfolding state_of with_state with_line with_phase with_outstanding with_record without_record with_told with_exclusive
+    with_rank telling tell_code record_enq after_code replied passes_wait tell_line tell_untold tell_control tell_all
+    tell_new recalled tell_answer tell_answer_any tell_answer_ranked after_mail decide_own took_mail post ask take_line
+    end_step ready_step phase_step may_go may_send star_call prepare finish_quiet finish_star finish_call finish has
+    without with_also manager lock_word submitted route submit_row take_row mail_row row apply first_node first_world
+    carry_out chosen placed happens_at happens
+ranks_go_on = (refl, refl, refl, refl, refl, refl, refl)
+
+-- The owners are told by the order of the resources, though the second by name was given back sooner; on one resource
+-- in the order of its list.
+pub told_in_order :
+    (inbox (run queues given_back).medium 1 ≡ [])
+    × (inbox (run queues told_all).medium 1
+    ≡ mails.Granted (task_of 1 2) (shared 65) ∷ mails.Granted (task_of 1 1) (shared 65)
+    ∷ mails.Granted (task_of 1 0) (shared 66) ∷ [])
+unfolding state_of with_state with_line with_phase with_outstanding with_record without_record with_told with_exclusive
+    with_rank telling tell_code record_enq after_code replied passes_wait tell_line tell_untold tell_control tell_all
+    tell_new recalled tell_answer tell_answer_any tell_answer_ranked after_mail decide_own took_mail post ask take_line
+    end_step ready_step phase_step may_go may_send star_call prepare finish_quiet finish_star finish_call finish has
+    without with_also manager lock_word submitted route submit_row take_row mail_row row apply first_node first_world
+    carry_out chosen placed happens_at happens
+told_in_order = (refl, refl)
+
+-- ---- the change
+-- Each of two systems has a task that shares a resource; the desk of the second orders the change.
+abbrev sharing : Deck
+sharing = deck_of (((enq 66 S Systems RetNone ∷ []) ∷ []) ∷ ((enq 66 S Systems RetNone ∷ []) ∷ []) ∷ [])
+
+abbrev changing : Deck
+changing =
+    record sharing {
+      systems =
+          map (λ (s : SystemDef). record s { desk = record { at = 0; order = orders.Star } ∷ [] }) sharing.systems;
+    }
+
+-- The first asks sooner. Each processes both requests, and then the second changes, and the first behind it.
+abbrev shared_by_both : List Event
+shared_by_both = goes 1 0 ∷ goes 0 0 ∷ turn 0 ∷ turn 1 ∷ turn 0 ∷ turn 1 ∷ []
+
+-- The least system that has an element there manages the entry, whoever ordered the change: the word has it as 1, which
+-- is its number and one, and holds both. The records get the ranks of the elements there.
+pub least_manages :
+    ((run changing (shared_by_both ++ switches 1 ∷ [])).medium.words ≡ 259 ∷ [])
+    × (manages_at changing (run changing (shared_by_both ++ switches 1 ∷ [])) (system 0)
+    (slice_get (run changing (shared_by_both ++ switches 1 ∷ [])).nodes 0) 0
+    ≡ true)
+    × (manages_at changing (run changing (shared_by_both ++ switches 1 ∷ [])) (system 1)
+    (slice_get (run changing (shared_by_both ++ switches 1 ∷ [])).nodes 1) 0
+    ≡ false)
+    × (records_of (run changing shared_by_both) ≡ ((0 ∷ []) ∷ []) ∷ ((0 ∷ []) ∷ []) ∷ [])
+    × (records_of (run changing (shared_by_both ++ switches 1 ∷ turn 0 ∷ []))
+    ≡ ((1 ∷ []) ∷ []) ∷ ((2 ∷ []) ∷ []) ∷ [])
+    × (elements_of (run changing (shared_by_both ++ switches 1 ∷ turn 0 ∷ [])) ≡ (1 ∷ 2 ∷ []) ∷ [] ∷ [])
+unfolding state_of with_state with_line with_phase with_outstanding with_record without_record with_told with_exclusive
+    with_rank telling tell_code record_enq after_code replied passes_wait tell_line tell_untold tell_control tell_all
+    tell_new recalled tell_answer tell_answer_any tell_answer_ranked after_mail decide_own took_mail post ask take_line
+    end_step ready_step phase_step may_go may_send star_call prepare finish_quiet finish_star finish_call finish
+    read_entries all_sent put_in switched desk_told change_to_star system_turned answer_own process process_entry has
+    without with_also manager lock_word submitted route turn_row switch_row submit_row take_row mail_row row apply
+    first_after unseen any_unseen cleared stamped turn_reply wakes rest_after_turn closed_by turned first_node
+    first_world carry_out chosen placed happens_at happens
+least_manages = (refl, refl, refl, refl, refl, refl)

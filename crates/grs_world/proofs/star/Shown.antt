@@ -1,0 +1,142 @@
+-- What looks show of any lists looks can show.
+use Rattle.std.proofs.Common.{◌≡◌, ◌<◌, ◌+◌, ℕ, zero, suc, Bool, true, false, cond, ◌&&◌, List, [], ◌∷◌, ◌++◌, Some}
+use Rattle.std.proofs.Common.{refl, ap, ◌∙◌, arith}
+use Rattle.std.specs.Prelude.{◌==◌, nat_le, nat_lt}
+use Rattle.std.specs.List.{list_all}
+use Rattle.std.specs.Ordering.{is_lt}
+use Rattle.std.specs.Prelude.{filter}
+use Rattle.std.proofs.lemmas.Bool.{and_from, and_parts, or_left, or_right, leb-true, ltb-true, le-leb, lt-ltb, eqb-true}
+use Rattle.std.proofs.lemmas.Bool.{eq-eqb}
+use Rattle.std.proofs.lemmas.List.Folds.{list_all-append}
+use Rattle.grs_base.specs.Lists.{owners}
+use Rattle.grs_base.specs.Looks.{look, is_of_place, is_shown, matches, is_contended}
+use Rattle.grs_base.specs.ResOrder.{res_order}
+use Rattle.grs_base.specs.Rows.{rows_of}
+use Rattle.grs_base.specs.Slices.{slice_of}
+use Rattle.grs_base.specs.State.{State}
+use Rattle.grs_base.specs.declared.look.Filter.{Filter}
+use Rattle.grs_base.specs.declared.look.Place.TheVariants.{Slice}
+use Rattle.grs_base.specs.declared.resource.Res.{Res}
+use Rattle.grs_base.specs.declared.resource.Res.TheVariants as resources
+use Rattle.grs_base.specs.declared.resource.Row.{Row}
+use Rattle.grs_wire.specs.Wants.{looks}
+use Rattle.star_client.specs.Client.{slice_in, is_among, tells_owners, can_show, can_show_all, is_before_in}
+use Rattle.star_client.specs.Client.{is_shown_before, are_in_order}
+use Rattle.grs_known.proofs.lists.Facts.{all-filter}
+use Rattle.grs_known.proofs.lists.Rows.{rows-tell}
+use Rattle.grs_known.proofs.lists.Shows.{do_rise, is_before_all, look-rises}
+
+-- each of these rows is of this slice, or of one behind it
+abbrev AreAt : ℕ → List Row → Type 0
+AreAt n [] = Unit {0}
+AreAt n (x ∷ xs) = (slice_in x.res ≡ Some n) × AreAt n xs
+
+abbrev AreBehind : ℕ → List Row → Type 0
+AreBehind n [] = Unit {0}
+AreBehind n (x ∷ xs) = ((k : ℕ) × (slice_in x.res ≡ Some k) × (n < k)) × AreBehind n xs
+
+-- ---- in order
+before-slice : (a b : Res) (n k : ℕ) → slice_in a ≡ Some n → slice_in b ≡ Some k → n < k → is_shown_before a b ≡ true
+before-slice a b n k at there less =
+    ap (λ o. is_before_in o (slice_in b) (is_lt (res_order a b))) at
+    ∙ ap (λ o. is_before_in (Some n) o (is_lt (res_order a b))) there
+    ∙ or_left (nat_lt n k) ((n == k) && is_lt (res_order a b)) (lt-ltb n k less)
+
+before-name : (a b : Res) (n : ℕ) → slice_in a ≡ Some n → slice_in b ≡ Some n → is_lt (res_order a b) ≡ true
+    → is_shown_before a b ≡ true
+before-name a b n at there less =
+    ap (λ o. is_before_in o (slice_in b) (is_lt (res_order a b))) at
+    ∙ ap (λ o. is_before_in (Some n) o (is_lt (res_order a b))) there
+    ∙ or_right (nat_lt n n) ((n == n) && is_lt (res_order a b))
+    (and_from (n == n) (is_lt (res_order a b)) (eq-eqb n n refl) less)
+
+in-order : (n : ℕ) (xs ys : List Row) → AreAt n xs → AreBehind n ys → do_rise res_order xs ≡ true
+    → are_in_order ys ≡ true → are_in_order (xs ++ ys) ≡ true
+in-order n [] ys at behind rise order = order
+in-order n (x ∷ []) [] at behind rise order = refl
+in-order n (x ∷ []) (y ∷ ys) at behind rise order =
+    and_from (is_shown_before x.res y.res) (are_in_order (y ∷ ys))
+    (before-slice x.res y.res n behind.0.0 at.0 behind.0.1 behind.0.2) order
+in-order n (x ∷ z ∷ xs) ys at behind rise order =
+    let both = and_parts (is_before_all res_order x.res (z ∷ xs)) (do_rise res_order (z ∷ xs)) rise in
+    and_from (is_shown_before x.res z.res) (are_in_order (z ∷ xs ++ ys))
+    (before-name x.res z.res n at.0 at.1.0
+    (and_parts (is_lt (res_order x.res z.res)) (is_before_all res_order x.res xs) both.0).0)
+    (in-order n (z ∷ xs) ys at.1 behind both.1 order)
+
+-- ---- row by row
+slice-is : (n : ℕ) (q : Res) → is_of_place (Slice n) q ≡ true → slice_in q ≡ Some n
+slice-is n (resources.Systems q r) e = ap Some (eqb-true (slice_of q r) n e)
+slice-is n (resources.System s q r) e = absurd (cc)
+slice-is n (resources.Step s j q r) e = absurd (cc)
+
+among-first : (n count : ℕ) (q : Res) → slice_in q ≡ Some n → is_among n (suc count) q ≡ true
+among-first n count (resources.Systems q r) e =
+    let is : slice_of q r ≡ n = cc in
+    and_from (nat_le n (slice_of q r)) (nat_lt (slice_of q r) (n + suc count))
+    (le-leb n (slice_of q r) (omega (arith, is))) (lt-ltb (slice_of q r) (n + suc count) (omega (arith, is)))
+among-first n count (resources.System s q r) e = absurd (cc)
+among-first n count (resources.Step s j q r) e = absurd (cc)
+
+among-more : (n count : ℕ) (q : Res) → is_among (suc n) count q ≡ true
+    → (is_among n (suc count) q ≡ true) × ((k : ℕ) × (slice_in q ≡ Some k) × (n < k))
+among-more n count (resources.Systems q r) e =
+    let both = and_parts (nat_le (suc n) (slice_of q r)) (nat_lt (slice_of q r) (suc n + count)) e in
+    let low = leb-true (suc n) (slice_of q r) both.0 in
+    let high = ltb-true (slice_of q r) (suc n + count) both.1 in (
+      and_from (nat_le n (slice_of q r)) (nat_lt (slice_of q r) (n + suc count))
+          (le-leb n (slice_of q r) (omega (arith, low))) (lt-ltb (slice_of q r) (n + suc count) (omega (arith, high))),
+      (slice_of q r, refl, omega (arith, low)),
+    )
+among-more n count (resources.System s q r) e = absurd (cc)
+among-more n count (resources.Step s j q r) e = absurd (cc)
+
+-- the rows of one slice
+module _ (n count : ℕ) (f : Filter) where
+  -- each is shown, and tells its owners
+  first-rows : (rows : List Row) → list_all tells_owners rows ≡ true → list_all (is_shown (Slice n) f) rows ≡ true
+      → (list_all (can_show n (suc count) f) rows ≡ true) × AreAt n rows
+  first-rows [] tells shown = (refl, tt)
+  first-rows (x ∷ xs) tells shown =
+      let t = and_parts (tells_owners x) (list_all tells_owners xs) tells in
+      let s = and_parts (is_shown (Slice n) f x) (list_all (is_shown (Slice n) f) xs) shown in
+      let here = and_parts (is_of_place (Slice n) x.res) (matches f x.res (is_contended x)) s.0 in
+      let at = slice-is n x.res here.0 in
+      let more = first-rows xs t.1 s.1 in
+      (and_from _ _ (and_from _ _ (among-first n count x.res at) (and_from _ _ here.1 t.0)) more.0, (at, more.1))
+
+  -- and those of the slices behind it
+  more-rows : (rows : List Row) → list_all (can_show (suc n) count f) rows ≡ true
+      → (list_all (can_show n (suc count) f) rows ≡ true) × AreBehind n rows
+  more-rows [] shown = (refl, tt)
+  more-rows (x ∷ xs) shown =
+      let s = and_parts (can_show (suc n) count f x) (list_all (can_show (suc n) count f) xs) shown in
+      let here = and_parts (is_among (suc n) count x.res) (matches f x.res (is_contended x) && tells_owners x) s.0 in
+      let wide = among-more n count x.res here.0 in
+      let more = more-rows xs s.1 in
+      (and_from _ _ (and_from _ _ wide.0 here.1) more.0, (wide.1, more.1))
+
+filter-all : (p : Row → Bool) (rows : List Row) → list_all p (filter p rows) ≡ true
+filter-all p [] = refl
+filter-all p (x ∷ xs) = go (p x) refl (filter-all p xs)
+  where
+    go : (b : Bool) → p x ≡ b → list_all p (filter p xs) ≡ true
+        → list_all p (cond b (x ∷ filter p xs) (filter p xs)) ≡ true
+    go true e h = and_from _ _ e h
+    go false e h = h
+
+pub can-show : (s : State) (first count : ℕ) (f : Filter) → can_show_all first count f (looks s first count f) ≡ true
+can-show s first zero f = refl
+can-show s first (suc count) f =
+    let rest =
+    and_parts (list_all (can_show (suc first) count f) (looks s (suc first) count f))
+    (are_in_order (looks s (suc first) count f)) (can-show s (suc first) count f) in
+    let here =
+    first-rows first count f (look s (Slice first) f)
+    (all-filter tells_owners (is_shown (Slice first) f) (rows_of s) (rows-tell s))
+    (filter-all (is_shown (Slice first) f) (rows_of s)) in
+    let more = more-rows first count f (looks s (suc first) count f) rest.0 in
+    and_from _ _ (list_all-append (can_show first (suc count) f) (look s (Slice first) f) (looks s (suc first) count f)
+    ∙ and_from _ _ here.0 more.0)
+    (in-order first (look s (Slice first) f) (looks s (suc first) count f) here.1 more.1 (look-rises s (Slice first) f)
+    rest.1)

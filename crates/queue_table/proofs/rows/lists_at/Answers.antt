@@ -1,0 +1,75 @@
+use Rattle.std.proofs.Common.{◌≡◌, ◌<◌, ◌∙◌, sym, ap, subst, refl, ℕ, Bool, cond, map, Option, Some, None, nat_eq}
+use Rattle.grs_base.specs.State.{list_at}
+use Rattle.queue_table.specs.Classes.{class_at, class_of}
+use Rattle.queue_table.specs.Shown.{plain, with_list, may_show}
+use Rattle.queue_table.proofs.ClassLemmas.{classes_of, class-may_show, way_left, way-less}
+use Rattle.queue_table.proofs.PurgeLemmas.{number_at-live}
+use Rattle.queue_table.proofs.RowLemmas.{Gathers, gathers-begins, gathers-next, gathers-ends, gathers-class}
+use Rattle.queue_table.proofs.RowLemmas.{gathers-there}
+use Rattle.queue_table.proofs.rows.lists_at.Goals as goal
+
+pub places-init : goal.places-init
+places-init g c =
+    gathers-begins (may_show (Some c.args.place) c.args.chosen.now) (class_at c.args.place) c.args.numbers.now.entries
+    (g.Q.Queues.elements c.args.queues.now) (plain c.new-lists.result.entries) c.last_of-next.result
+    (ap plain c.new-lists.ensures.empty) c.last_of-next.ensures
+
+pub add_list_shown-requires : goal.add_list_shown-requires
+add_list_shown-requires g c =
+    number_at-live (g.Q.Queues.is_live c.args.queues.now) c.args.numbers.now.entries c.in-Some.at
+    (c.in-Some-entry.res.now, c.in-Some-entry.queue) c.requires.table.live_numbers c.in-Some-entry.ensures.entry
+
+pub unreachable-requires : goal.unreachable-requires
+unreachable-requires g c =
+    let shown = may_show (Some c.args.place) c.args.chosen.now in
+    let elements = g.Q.Queues.elements c.args.queues.now in
+    gathers-there shown (class_at c.args.place) c.args.numbers.now.entries elements (plain c.places.lists.entries)
+    c.in-Some.at
+    (subst (Gathers shown (class_at c.args.place) c.args.numbers.now.entries elements (plain c.places.lists.entries))
+    c.in-Some.is c.places.invariant)
+    c.in-None.ensures.none
+
+pub before-next-requires : goal.before-next-requires
+before-next-requires g c =
+    let shown = may_show (Some c.args.place) c.args.chosen.now in
+    let elements = g.Q.Queues.elements c.args.queues.now in
+    gathers-class shown (class_at c.args.place) c.args.numbers.now.entries elements (plain c.places.lists.entries)
+    c.in-Some.at
+    (subst (Gathers shown (class_at c.args.place) c.args.numbers.now.entries elements (plain c.places.lists.entries))
+    c.in-Some.is c.places.invariant)
+
+pub places-smaller : goal.places-smaller
+places-smaller g c =
+    subst (λ (o : Option ℕ). way_left c.before-next.result < way_left o) (sym c.in-Some.is)
+    (way-less (class_at c.args.place) (classes_of c.args.numbers.now.entries) c.in-Some.at c.before-next.result
+    c.before-next.ensures)
+
+pub places-preserved : goal.places-preserved
+places-preserved g c =
+    let shown = may_show (Some c.args.place) c.args.chosen.now in
+    let elements = g.Q.Queues.elements c.args.queues.now in
+    let lists = plain c.places.lists.entries in
+    gathers-next shown (class_at c.args.place) c.args.numbers.now.entries elements lists
+    (plain c.add_list_shown.new.lists.entries) c.in-Some.at c.before-next.result
+    (c.in-Some-entry.res.now, c.in-Some-entry.queue)
+    (subst (Gathers shown (class_at c.args.place) c.args.numbers.now.entries elements lists) c.in-Some.is
+    c.places.invariant)
+    c.in-Some-entry.ensures.entry
+    (c.in_ok-add_list_shown-in-Some-entry.ensures
+    ∙ ap (λ (b : Bool).
+    cond b (with_list c.in-Some-entry.res.now (list_at nat_eq elements c.in-Some-entry.queue) lists) lists)
+    c.may_be_shown-shown.ensures)
+    c.before-next.ensures
+
+none-left : (o : Option ℕ) → ((p : ℕ) → o ≡ Some p → ⊥) → o ≡ None
+none-left None h = refl
+none-left (Some p) h = absurd (h p refl)
+
+pub returns : goal.returns
+returns g c =
+    let shown = may_show (Some c.args.place) c.args.chosen.now in
+    let elements = g.Q.Queues.elements c.args.queues.now in
+    gathers-ends shown (class_at c.args.place) c.args.numbers.now.entries elements (plain c.places.lists.entries)
+    c.requires.table.paired (λ q f. class-may_show c.args.place c.args.chosen.now q f)
+    (subst (Gathers shown (class_at c.args.place) c.args.numbers.now.entries elements (plain c.places.lists.entries))
+    (none-left c.places.next c.in_default.not-Some) c.places.invariant)
