@@ -33,7 +33,6 @@ use Rattle.deck_form.specs.Words.{short_at, parted, dotted_at, written_number, n
 use Rattle.deck_form.specs.Complex.{no_setup, mode_of, entries_of, limit_of, with_operand, operand_at, complex_at}
 use Rattle.deck_form.specs.Command.{setgrs_at, vary_at, order_at, command_at}
 use Rattle.deck_form.specs.Event.{event_word, pair_at, entry_at, act_at, event_at}
-use Rattle.deck_form.specs.UnbuiltWord.{is_unbuilt_word}
 use Rattle.deck_form.specs.Form.{key, plain_form, keyed, first_form, event_form, form}
 use Rattle.deck_form.specs.Spelled.{IsName, Operand, Mode, Entries, Limit, operand, IsFreeOperand, set_operand}
 use Rattle.deck_form.specs.Spelled.{IsComplex, IsOrder, IsCommand, IsFirst, IsAct, IsEvent, Spells}
@@ -106,72 +105,19 @@ command_again ts c h =
 
 -- ---- statements before SCHEDULE
 
--- a word that isn't built is no other word
-other_word : (w v : List ℕ) → is_unbuilt_word w ≡ true → is_unbuilt_word v ≡ false → bytes_eq w v ≡ false
-other_word w v h k = go (bytes_eq w v) refl
-  where
-    go : (b : Bool) → bytes_eq w v ≡ b → b ≡ false
-    go true e =
-        let same : w ≡ v = same_bytes w v e in absurd (let z : true ≡ false = sym h ∙ ap is_unbuilt_word same ∙ k in cc)
-    go false e = refl
-
-built_complex : is_unbuilt_word (codes "COMPLEX") ≡ false
-unfolding is_unbuilt_word
-built_complex = refl
-
-built_system : is_unbuilt_word (codes "SYSTEM") ≡ false
-unfolding is_unbuilt_word
-built_system = refl
-
-built_job : is_unbuilt_word (codes "JOB") ≡ false
-unfolding is_unbuilt_word
-built_job = refl
-
-built_task : is_unbuilt_word (codes "TASK") ≡ false
-unfolding is_unbuilt_word
-built_task = refl
-
-built_rnldef : is_unbuilt_word (codes "RNLDEF") ≡ false
-unfolding is_unbuilt_word
-built_rnldef = refl
-
-built_at : is_unbuilt_word (codes "AT") ≡ false
-unfolding is_unbuilt_word
-built_at = refl
-
-built_schedule : is_unbuilt_word (codes "SCHEDULE") ≡ false
-unfolding is_unbuilt_word
-built_schedule = refl
-
-unbuilt_again : (w : List ℕ) (rest : List Token) → is_unbuilt_word w ≡ true → keyed (key w) rest ≡ Ok stmts.Unbuilt
-unfolding key plain_form
-unbuilt_again w rest h =
-    rw (
-      other_word w (codes "COMPLEX") h built_complex,
-      other_word w (codes "RNLDEF") h built_rnldef,
-      other_word w (codes "SYSTEM") h built_system,
-      other_word w (codes "JOB") h built_job,
-      other_word w (codes "TASK") h built_task,
-      other_word w (codes "AT") h built_at,
-      other_word w (codes "SCHEDULE") h built_schedule,
-      h,
-    )
-    refl
-
--- the key of a task line whose word is built
-line_again : (v : LineWord) (w : List ℕ) → IsWord v w → is_unbuilt_word w ≡ false → key w ≡ keys.Line v
-unfolding key is_unbuilt_word line_word
-line_again lines.Enq w h k = rw h refl
-line_again lines.Reserve w h k = rw h refl
-line_again lines.Deq w h k = rw h refl
-line_again lines.Wait w h k = rw h refl
-line_again lines.Gqscan w h k = absurd (let z : true ≡ false = ap is_unbuilt_word (sym h) ∙ k in cc)
-line_again lines.Display w (inl h) k = absurd (let z : true ≡ false = ap is_unbuilt_word (sym h) ∙ k in cc)
-line_again lines.Display w (inr h) k = absurd (let z : true ≡ false = ap is_unbuilt_word (sym h) ∙ k in cc)
+-- the key of a task line
+line_again : (v : LineWord) (w : List ℕ) → IsWord v w → key w ≡ keys.Line v
+unfolding key line_word
+line_again lines.Enq w h = rw h refl
+line_again lines.Reserve w h = rw h refl
+line_again lines.Deq w h = rw h refl
+line_again lines.Wait w h = rw h refl
+line_again lines.Gqscan w h = rw h refl
+line_again lines.Display w (inl h) = rw h refl
+line_again lines.Display w (inr h) = rw h refl
 
 first_again : (ts : List Token) (st : Stmt) → IsFirst ts st → first_form false ts ≡ Ok st
 unfolding first_form key plain_form
-first_again ts stmts.Unbuilt h = rw h.1.1 (unbuilt_again h.0 h.1.0 h.1.2)
 first_again ts (stmts.Complex c) h = rw (h.1, complex_again h.0 c h.2) refl
 first_again ts (stmts.Rnldef d) h = rw (h.1, rnldef_again h.0 d h.2) refl
 first_again ts (stmts.System n) h = rw (h.0, named_again n h.1) refl
@@ -179,8 +125,7 @@ first_again ts (stmts.Job n) h = rw (h.0, named_again n h.1) refl
 first_again ts (stmts.Task n) h = rw (h.0, named_again n h.1) refl
 first_again ts (stmts.Command c) h = rw (h.1, command_again h.0 c h.2) refl
 first_again ts (stmts.Line s) h =
-    rw (h.0.parts, line_again (line_word_for s) h.0.word h.0.is_word h.1, line_ask_again h.0.behind s h.0.is_behind)
-    refl
+    rw (h.parts, line_again (line_word_for s) h.word h.is_word, line_ask_again h.behind s h.is_behind) refl
 first_again ts stmts.Schedule h = rw h refl
 first_again ts (stmts.Event s a) h = absurd h
 

@@ -41,7 +41,7 @@ gathered s (l ∷ ls) other = rw other (go (goes_on s l) refl (gathered (with_li
         (and_parts (begins_rnldef s.tokens) (is_open s.tokens || begins_operand l.tokens) is).0)
     go false is more = refl
 
-ends_schedule : (s : TokenLine) (ls : List TokenLine) → is_schedule s.tokens ≡ true → statements_from s ls ≡ s ∷ ls
+pub ends_schedule : (s : TokenLine) (ls : List TokenLine) → is_schedule s.tokens ≡ true → statements_from s ls ≡ s ∷ ls
 unfolding statements_from
 ends_schedule s [] p = refl
 ends_schedule s (l ∷ ls) p = rw p refl

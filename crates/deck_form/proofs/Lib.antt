@@ -5,3 +5,4 @@ pub mod Again
 pub mod Unknown
 pub mod Gathered
 pub mod Systems
+pub mod FirstWords

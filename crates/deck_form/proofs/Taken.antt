@@ -39,7 +39,6 @@ use Rattle.deck_form.specs.Complex.{no_setup, mode_of, entries_of, limit_of, wit
 use Rattle.deck_form.specs.Complex.{with_operand, operand_at, complex_at}
 use Rattle.deck_form.specs.Command.{setgrs_at, vary_at, order_at, command_at}
 use Rattle.deck_form.specs.Event.{event_word, pair_at, entry_at, alone_at, act_at, event_at}
-use Rattle.deck_form.specs.UnbuiltWord.{is_unbuilt_word}
 use Rattle.deck_form.specs.Form.{line_key, key, plain_form, or_bad, keyed, first_form, event_form, form}
 use Rattle.deck_form.specs.Spelled.{IsName, mode_word, Operand, Mode, Entries, Limit, enclosed, operand, IsFreeOperand}
 use Rattle.deck_form.specs.Spelled.{set_operand, IsComplex, IsOrder, IsCommand, IsFirst, IsAct, IsEvent, Spells}
@@ -436,21 +435,16 @@ Worded w keys.Job = w ≡ codes "JOB"
 Worded w keys.Task = w ≡ codes "TASK"
 Worded w keys.At = w ≡ codes "AT"
 Worded w keys.Schedule = w ≡ codes "SCHEDULE"
-Worded w keys.Unbuilt = is_unbuilt_word w ≡ true
-Worded w (keys.Line v) = (line_word w ≡ Some v) × (is_unbuilt_word w ≡ false)
+Worded w (keys.Line v) = line_word w ≡ Some v
 Worded w keys.Unknown = Unit {0}
 
 by_test : (P : Key → Type 0) (b : Bool) (x y : Key) → (b ≡ true → P x) → P y → P (cond b x y)
 by_test P true x y p q = p refl
 by_test P false x y p q = q
 
-by_both : (P : Key → Type 0) (b : Bool) (x y : Key) → (b ≡ true → P x) → (b ≡ false → P y) → P (cond b x y)
-by_both P true x y p q = p refl
-by_both P false x y p q = q refl
-
-line_worded : (w : List ℕ) (o : Option LineWord) → line_word w ≡ o → is_unbuilt_word w ≡ false → Worded w (line_key o)
-line_worded w None is h = tt
-line_worded w (Some v) is h = (is, h)
+line_worded : (w : List ℕ) (o : Option LineWord) → line_word w ≡ o → Worded w (line_key o)
+line_worded w None is = tt
+line_worded w (Some v) is = is
 
 worded : (w : List ℕ) → Worded w (key w)
 unfolding key
@@ -462,7 +456,7 @@ worded w =
     (by_test (Worded w) (bytes_eq w (codes "TASK")) _ _ (same_bytes w _)
     (by_test (Worded w) (bytes_eq w (codes "AT")) _ _ (same_bytes w _)
     (by_test (Worded w) (bytes_eq w (codes "SCHEDULE")) _ _ (same_bytes w _)
-    (by_both (Worded w) (is_unbuilt_word w) _ _ (λ h. h) (line_worded w (line_word w) refl))))))))
+    (line_worded w (line_word w) refl)))))))
 
 ok_taken : (o : Option Stmt) (st : Stmt) → or_bad o ≡ Ok st → o ≡ Some st
 ok_taken (Some x) st e = cc
@@ -472,8 +466,6 @@ keyed_taken : (k : Key) (w : List ℕ) (ts : List Token) (st : Stmt) → Worded 
     → IsFirst (Word w ∷ ts) st
 unfolding plain_form
 keyed_taken keys.Unknown w ts st is e = absurd cc
-keyed_taken keys.Unbuilt w ts st is e =
-    subst (IsFirst (Word w ∷ ts)) (some_is stmts.Unbuilt st (ok_taken _ st e)) (w, (ts, refl, is))
 keyed_taken keys.Complex w ts st is e =
     let b = bind_some (complex_at ts) (λ c. Some (stmts.Complex c)) st (ok_taken _ st e) in
     subst (IsFirst (Word w ∷ ts)) (some_is (stmts.Complex b.0) st b.2)
@@ -502,10 +494,10 @@ keyed_taken (keys.Line v) w ts st is e =
       word = w;
       behind = ts;
       parts = refl;
-      is_word = subst (λ (x : LineWord). IsWord x w) (sym line_ask.of) (line_word_taken w v is.0);
+      is_word = subst (λ (x : LineWord). IsWord x w) (sym line_ask.of) (line_word_taken w v is);
       is_behind = line_ask.behind;
     } in
-    subst (IsFirst (Word w ∷ ts)) (some_is (stmts.Line b.0) st b.2) (made, is.1)
+    subst (IsFirst (Word w ∷ ts)) (some_is (stmts.Line b.0) st b.2) made
 keyed_taken keys.At w ts st is e =
     let b = bind_some (command_at ts) (λ c. Some (stmts.Command c)) st (ok_taken _ st e) in
     subst (IsFirst (Word w ∷ ts)) (some_is (stmts.Command b.0) st b.2)

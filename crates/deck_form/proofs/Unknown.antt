@@ -14,7 +14,6 @@ use Rattle.deck_scan.specs.declared.token.TokenLine.{TokenLine}
 use Rattle.deck_form.specs.declared.form.Stmt.{Stmt}
 use Rattle.deck_form.specs.declared.form.Key.{Key}
 use Rattle.deck_form.specs.declared.form.Key.TheVariants as keys
-use Rattle.deck_form.specs.UnbuiltWord.{is_unbuilt_word}
 use Rattle.job_syntax.specs.declared.line_ask.LineWord.{LineWord}
 use Rattle.job_syntax.specs.LineAsk.{line_word}
 use Rattle.rnl_syntax.specs.Lines.{is_rnldef_word}
@@ -64,8 +63,7 @@ key_unknown w h =
     let d = test_fails (bytes_eq w (codes "TASK")) keys.Task _ (λ e. cc) c.1 in
     let t = test_fails (bytes_eq w (codes "AT")) keys.At _ (λ e. cc) d.1 in
     let f = test_fails (bytes_eq w (codes "SCHEDULE")) keys.Schedule _ (λ e. cc) t.1 in
-    let g = test_fails (is_unbuilt_word w) keys.Unbuilt _ (λ e. cc) f.1 in
-    rw (a.0, r.0, b.0, c.0, d.0, t.0, f.0, g.0, no_line (line_word w) g.1) refl
+    rw (a.0, r.0, b.0, c.0, d.0, t.0, f.0, no_line (line_word w) f.1) refl
 
 unknown_key : (w : List ℕ) → is_statement_word w ≡ false → key w ≡ keys.Unknown
 unfolding key
@@ -76,9 +74,8 @@ unknown_key w h =
     let c = or_parts (bytes_eq w (codes "JOB")) _ b.1 in
     let d = or_parts (bytes_eq w (codes "TASK")) _ c.1 in
     let t = or_parts (bytes_eq w (codes "AT")) _ d.1 in
-    let f = or_parts (bytes_eq w (codes "SCHEDULE")) _ t.1 in
-    let g = or_parts (is_unbuilt_word w) (is_some (line_word w)) f.1 in
-    rw (a.0, r.0, b.0, c.0, d.0, t.0, f.0, g.0) (line_none (line_word w) g.1)
+    let f = or_parts (bytes_eq w (codes "SCHEDULE")) (is_some (line_word w)) t.1 in
+    rw (a.0, r.0, b.0, c.0, d.0, t.0, f.0) (line_none (line_word w) f.1)
 
 bad_not_unknown : (o : Option Stmt) → or_bad o ≡ failed UnknownStatement → ⊥
 bad_not_unknown (Some st) h = cc
@@ -94,7 +91,6 @@ keyed_none (keys.Line v) ts h = absurd (bad_not_unknown (plain_form (keys.Line v
 keyed_none keys.Rnldef ts h = absurd (bad_not_unknown (plain_form keys.Rnldef ts) h)
 keyed_none keys.At ts h = absurd (bad_not_unknown (plain_form keys.At ts) h)
 keyed_none keys.Schedule ts h = absurd (bad_not_unknown (plain_form keys.Schedule ts) h)
-keyed_none keys.Unbuilt ts h = absurd (bad_not_unknown (plain_form keys.Unbuilt ts) h)
 
 first_unknown : (joined : Bool) (ts : List Token) → first_form joined ts ≡ failed UnknownStatement
     → (joined ≡ true) ⊎ BeginsOtherwise ts
@@ -143,7 +139,6 @@ keyed_kind (keys.Line v) ts k h = inr (or_bad_kind (plain_form (keys.Line v) ts)
 keyed_kind keys.Rnldef ts k h = inr (or_bad_kind (plain_form keys.Rnldef ts) k h)
 keyed_kind keys.At ts k h = inr (or_bad_kind (plain_form keys.At ts) k h)
 keyed_kind keys.Schedule ts k h = inr (or_bad_kind (plain_form keys.Schedule ts) k h)
-keyed_kind keys.Unbuilt ts k h = inr (or_bad_kind (plain_form keys.Unbuilt ts) k h)
 
 first_kind : (joined : Bool) (ts : List Token) (k : Kind) → first_form joined ts ≡ failed k
     → (UnknownStatement ≡ k) ⊎ (BadOperand ≡ k)

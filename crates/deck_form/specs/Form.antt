@@ -20,13 +20,12 @@ use Rattle.deck_form.specs.Words.{named_at}
 use Rattle.deck_form.specs.Complex.{complex_at}
 use Rattle.deck_form.specs.Event.{event_at}
 use Rattle.deck_form.specs.Command.{command_at}
-use Rattle.deck_form.specs.UnbuiltWord.{is_unbuilt_word}
 
 abbrev pub line_key : Option LineWord → Key
 line_key None = keys.Unknown
 line_key (Some v) = keys.Line v
 
--- A word that is not built is no other word, also where it begins task lines.
+-- What the first word of a statement says.
 unfoldable pub key : List ℕ → Key
 key w =
     if bytes_eq w (codes "COMPLEX") then keys.Complex
@@ -36,7 +35,6 @@ key w =
     else if bytes_eq w (codes "TASK") then keys.Task
     else if bytes_eq w (codes "AT") then keys.At
     else if bytes_eq w (codes "SCHEDULE") then keys.Schedule
-    else if is_unbuilt_word w then keys.Unbuilt
     else line_key (line_word w)
 
 -- What stands behind the first word.
@@ -49,7 +47,6 @@ plain_form keys.Task ts = named_at ts >>= λ n. Some (stmts.Task n)
 plain_form (keys.Line v) ts = line_ask_at v ts >>= λ x. Some (stmts.Line x)
 plain_form keys.At ts = command_at ts >>= λ c. Some (stmts.Command c)
 plain_form keys.Schedule ts = end_at ts >>= λ end. Some stmts.Schedule
-plain_form keys.Unbuilt ts = Some stmts.Unbuilt
 plain_form keys.Unknown ts = None
 
 abbrev pub or_bad : Option Stmt → Result Stmt Kind
@@ -66,7 +63,6 @@ keyed keys.Task ts = or_bad (plain_form keys.Task ts)
 keyed (keys.Line v) ts = or_bad (plain_form (keys.Line v) ts)
 keyed keys.At ts = or_bad (plain_form keys.At ts)
 keyed keys.Schedule ts = or_bad (plain_form keys.Schedule ts)
-keyed keys.Unbuilt ts = or_bad (plain_form keys.Unbuilt ts)
 
 -- Before SCHEDULE. A word that something else stands directly behind is no statement word.
 unfoldable pub first_form : Bool → List Token → Result Stmt Kind

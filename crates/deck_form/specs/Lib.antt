@@ -2,9 +2,7 @@ pub mod Words
 pub mod Complex
 pub mod Event
 pub mod Command
-pub mod UnbuiltWord
 pub mod Form
-pub mod Unbuilt
 pub mod Spelled
 pub mod Statements
 pub mod SystemNames

@@ -25,7 +25,6 @@ use Rattle.rnl_syntax.specs.Lines.{is_rnldef_word}
 use Rattle.rnl_syntax.specs.Spelled.{IsRnldef}
 use Rattle.deck_form.specs.Words.{written_number}
 use Rattle.deck_form.specs.Complex.{no_setup}
-use Rattle.deck_form.specs.UnbuiltWord.{is_unbuilt_word}
 
 -- A name of a system, job or task, of any length.
 abbrev pub IsName : List ℕ → Type 0
@@ -80,16 +79,15 @@ pub record IsCommand (ts : List Token) (c : Command) : Type 0 where
   pub at : written_number number ≡ Some c.at
   pub order : IsOrder behind c.order
 
--- A statement before SCHEDULE, and SCHEDULE. A task line has a word that is built.
+-- A statement before SCHEDULE, and SCHEDULE.
 abbrev pub IsFirst : List Token → Stmt → Type 0
-IsFirst ts stmts.Unbuilt = (w : List ℕ) × ((rest : List Token) × (ts ≡ Word w ∷ rest) × (is_unbuilt_word w ≡ true))
 IsFirst ts (stmts.Complex c) = (rest : List Token) × (ts ≡ Word (codes "COMPLEX") ∷ rest) × IsComplex rest c
 IsFirst ts (stmts.Rnldef d) = (rest : List Token) × (ts ≡ Word (codes "RNLDEF") ∷ rest) × IsRnldef rest d
 IsFirst ts (stmts.System n) = (ts ≡ Word (codes "SYSTEM") ∷ Word n ∷ []) × IsName n
 IsFirst ts (stmts.Job n) = (ts ≡ Word (codes "JOB") ∷ Word n ∷ []) × IsName n
 IsFirst ts (stmts.Task n) = (ts ≡ Word (codes "TASK") ∷ Word n ∷ []) × IsName n
 IsFirst ts (stmts.Command c) = (rest : List Token) × (ts ≡ Word (codes "AT") ∷ rest) × IsCommand rest c
-IsFirst ts (stmts.Line s) = (h : IsLineAsk ts s) × (is_unbuilt_word h.word ≡ false)
+IsFirst ts (stmts.Line s) = IsLineAsk ts s
 IsFirst ts stmts.Schedule = ts ≡ Word (codes "SCHEDULE") ∷ []
 IsFirst ts (stmts.Event s a) = ⊥
 
@@ -133,8 +131,7 @@ is_statement_word w =
     || (bytes_eq w (codes "TASK")
     || (bytes_eq w (codes "AT")
     || (bytes_eq w (codes "SCHEDULE")
-    || (is_unbuilt_word w
-    || is_some (line_word w))))))))
+    || is_some (line_word w)))))))
 
 abbrev pub BeginsOtherwise : List Token → Type 0
 BeginsOtherwise (Word w ∷ ts) = is_statement_word w ≡ false

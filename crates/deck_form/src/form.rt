@@ -8,7 +8,6 @@ ghost use Rattle.deck_form.specs.declared.form.Stmt.{Stmt as StmtValue};
 use crate::command::{Command, command_at};
 use crate::complex::{Setup, complex_at};
 use crate::event::{EventAct, event_at};
-use crate::unbuilt::is_unbuilt_word;
 use crate::words::named_at;
 use deck_scan::{GivenName, Miss, Token, TokenLine, end_at};
 use grs_base::Kind;
@@ -18,9 +17,6 @@ use rnl_syntax::{Rnldef, is_rnldef_word, rnldef_at};
 /// A statement, with names of any length.
 #[derive(Drop)]
 pub enum Stmt<'t> {
-    /// A statement with the word GQSCAN, DISPLAY or D, which this program doesn't carry out. Nothing
-    /// more of it was read.
-    Unbuilt,
     /// The settings of the complex.
     Complex(Setup),
     /// An entry of a name list.
@@ -31,7 +27,7 @@ pub enum Stmt<'t> {
     Job(GivenName<'t>),
     /// The name of a task.
     Task(GivenName<'t>),
-    /// What a task is to ask or to wait for.
+    /// What a task is to ask, to wait for or to show.
     Line(LineAsk<'t>),
     /// What is commanded at the desk of a system.
     Command(Command<'t>),
@@ -55,7 +51,6 @@ pub enum Key {
     Line(LineWord),
     At,
     Schedule,
-    Unbuilt,
     Unknown,
 }
 
@@ -96,8 +91,6 @@ fn key_of(w: &[u8]) -> Key
         Key::At
     } else if w == b"SCHEDULE".as_slice() {
         Key::Schedule
-    } else if is_unbuilt_word(w) {
-        Key::Unbuilt
     } else {
         line_key(line_word_of(w))
     }
@@ -120,7 +113,6 @@ fn plain_form<'a, 't>(key: Key, ts: &'a [Token<'t>]) -> Result<Stmt<'a>, Miss>
             end_at(ts)?;
             Ok(Stmt::Schedule)
         }
-        Key::Unbuilt => Ok(Stmt::Unbuilt),
         Key::Unknown => Err(Miss),
     }
 }

@@ -10,7 +10,7 @@ use std::alloc::Global;
 use std::marker::Model;
 
 /// Whether a line is SCHEDULE.
-pub fn is_schedule(ts: &[Token<'_>]) -> bool
+fn is_schedule(ts: &[Token<'_>]) -> bool
     ensures { result ≡ is_schedule ts.now }
 {
     match ts.split_first() {

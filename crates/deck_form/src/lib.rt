@@ -9,7 +9,6 @@ mod form;
 mod grouping;
 mod laws;
 mod system_names;
-mod unbuilt;
 mod words;
 
 pub use command::{Command, GivenOrder};
@@ -19,4 +18,3 @@ pub use form::{Stmt, statement};
 pub use grouping::Statements;
 pub use laws::{names_are_spelled, one_statement};
 pub use system_names::SystemNames;
-pub use unbuilt::is_unbuilt;

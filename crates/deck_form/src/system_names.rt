@@ -1,10 +1,9 @@
 //! The names that the SYSTEM statements of a deck give. A command may name a system whose statement stands further on.
 ghost use Rattle.std.specs.List.{cons_option};
-ghost use Rattle.std.specs.Prelude.{◌≡◌, ◌++◌, [], IfOk, OnOk};
+ghost use Rattle.std.specs.Prelude.{◌≡◌, ◌++◌, ◌==◌, ◌&&◌, not, length, [], IfOk, OnOk};
 ghost use Rattle.deck_scan.specs.Next.{Reads};
-ghost use Rattle.deck_form.specs.SystemNames.{name_given, names_in, name_place};
+ghost use Rattle.deck_form.specs.SystemNames.{name_given, begins_schedule, names_in, name_place};
 
-use crate::grouping::{Statements, is_schedule};
 use crate::words::named_at;
 use deck_scan::{GivenName, Lines, Miss, TokenLine, word_at};
 use grs_base::{List, MOST_NAME_BYTES, NoMemory};
@@ -28,7 +27,21 @@ fn name_given<'a, 't>(line: &'a TokenLine<'t>) -> Result<GivenName<'a>, Miss>
     }
 }
 
-/// Adds the name that a statement gives to a system, if it gives one, in memory of its own.
+/// Whether the first word of a line is SCHEDULE.
+#[tactic(auto, unfolding(crate::specs::SystemNames::begins_schedule))]
+fn begins_schedule(line: &TokenLine<'_>) -> bool
+    ensures { result ≡ begins_schedule line.now }
+{
+    if line.joined {
+        return false;
+    }
+    match word_at(b"SCHEDULE", line.tokens.as_slice()) {
+        Ok(_) => true,
+        Err(Miss) => false,
+    }
+}
+
+/// Adds the name that a line gives to a system, if it gives one, in memory of its own.
 fn add_name(names: &mut List<List<u8>>, alloc: Global, line: &TokenLine<'_>) -> Result<(), NoMemory>
     ensures { OnOk result (names.new ≡ names.old ++ cons_option (name_given line.now) []) }
 {
@@ -41,14 +54,21 @@ fn add_name(names: &mut List<List<u8>>, alloc: Global, line: &TokenLine<'_>) -> 
     }
 }
 
-/// The names that the SYSTEM statements of a text give.
+/// Whether no further name is given from this line on: a system has a name, and the first word is SCHEDULE.
+fn is_last(names: &List<List<u8>>, line: &TokenLine<'_>) -> bool
+    ensures { result ≡ (not (length names.now == 0) && begins_schedule line.now) }
+{
+    names.len() != 0 && begins_schedule(line)
+}
+
+/// The names that the lines of a text give to systems: behind the first of them up to a line whose first word is SCHEDULE.
 fn gather(alloc: Global, text: &[u8]) -> Result<List<List<u8>>, NoMemory>
     ensures { IfOk result (λ names. names ≡ names_in text.now) }
 {
     let mut names = List::new(alloc);
-    let mut rest = Statements::new(Lines::of_any(text));
+    let mut rest = Lines::of_any(text);
     while let Some(line) = rest.next(alloc)? {
-        if is_schedule(line.tokens.as_slice()) {
+        if is_last(&names, &line) {
             return Ok(names);
         }
         add_name(&mut names, alloc, &line)?;

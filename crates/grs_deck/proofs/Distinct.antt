@@ -27,7 +27,7 @@ use Rattle.grs_deck.specs.Places.{at_last, jobs_now, tasks_now, system_place, jo
 use Rattle.grs_deck.specs.Places.{event_of}
 use Rattle.grs_deck.specs.Grow.{on_last, add_command, add_order, add_job, add_task, add_line, in_jobs, in_tasks}
 use Rattle.grs_deck.specs.Grow.{order_by, with_event, grow}
-use Rattle.grs_deck.specs.Spells.{IsRight}
+use Rattle.grs_deck.specs.Spells.{MayStand}
 
 -- ---- one name more
 
@@ -191,14 +191,13 @@ pub once_none : AreNamedOnce []
 once_none = record { names = nothing; each = All-nil IsNamedOnce }
 
 -- A statement that is right gives no name twice.
-pub once_grow : (d : Draft) (st : Stmt) → IsRight d st → AreNamedOnce d.deck.systems
+pub once_grow : (d : Draft) (st : Stmt) → MayStand d st → AreNamedOnce d.deck.systems
     → AreNamedOnce (grow d st).deck.systems
-once_grow d stmts.Unbuilt right h = h
 once_grow d (stmts.Complex c) right h = h
 once_grow d (stmts.Rnldef r) right h = h
-once_grow d (stmts.System n) right h = once_system n d.deck.systems right.0.new h
-once_grow d (stmts.Job n) right h = once_job n d.deck.systems right.0.new h
-once_grow d (stmts.Task n) right h = once_task n d.deck.systems right.0.new h
+once_grow d (stmts.System n) right h = once_system n d.deck.systems right.new h
+once_grow d (stmts.Job n) right h = once_job n d.deck.systems right.new h
+once_grow d (stmts.Task n) right h = once_task n d.deck.systems right.new h
 once_grow d (stmts.Line s) right h = once_line (line_of s) d.deck.systems h
 once_grow d (stmts.Command c) right h =
     once_order c.at (order_by (place_ordered d.names c.order) c.order) d.deck.systems h

@@ -85,14 +85,14 @@ unfolding fault reading lines_or_fault
 is_fault text f h = go (byte_fault text) refl (fault_some _ f h)
   where
     go : (o : Option DeckFault) → byte_fault text ≡ o
-        → (unless_fault o (lines_of text) >>= λ ls. judge_all (first_draft (statements ls)) (statements ls) >>= ended)
+        → (unless_fault o (lines_of text) >>= λ ls. judge_all (first_draft ls) (statements ls) >>= ended)
         ≡ deck_err f
         → IsFault text f
     go (Some g) is m = inl (is ∙ ap some (deck_err_is g f m))
     go None is m = by (judge_all start (statements (lines_of text))) refl m
       where
         start : Draft
-        start = first_draft (statements (lines_of text))
+        start = first_draft (lines_of text)
 
         spelled : SpellsLines text (lines_of text)
         spelled = (text_of text is).spelled
@@ -132,34 +132,34 @@ fault_by f n e = ap (λ (x : ℕ). made x f.kind) (sym e)
     made : ℕ → Kind → DeckFault
     made n k = record { line = n; kind = k }
 
-line_so : (ls : List TokenLine) (f : DeckFault) → FaultyLine ls (first_draft ls) f
-    → (judge_all (first_draft ls) ls >>= ended) ≡ deck_err f
-line_so ls f y =
+line_so : (ls : List TokenLine) (start : Draft) (f : DeckFault) → FaultyLine ls start f
+    → (judge_all start ls >>= ended) ≡ deck_err f
+line_so ls start f y =
     let j = judged_so y.before y.line f.kind y.least in
     let is : record { line = y.line.at; kind = f.kind } ≡ f = fault_by f y.line.at y.at in
-    let all : judge_all (first_draft ls) ls ≡ refused f =
-    ap (judge_all (first_draft ls)) y.parts
-    ∙ all_so y.front y.back y.line (first_draft ls) y.before f y.says (j ∙ ap refused is) in
+    let all : judge_all start ls ≡ refused f =
+    ap (judge_all start) y.parts ∙ all_so y.front y.back y.line start y.before f y.says (j ∙ ap refused is) in
     rw all refl
 
-none_so : (ls : List TokenLine) (f : DeckFault) → NoSystemSaid ls f
-    → (judge_all (first_draft ls) ls >>= ended) ≡ deck_err f
-none_so ls f y =
-    rw (says_again ls (first_draft ls) y.draft y.says, eq-eqb (length y.draft.deck.systems) 0 y.none, y.is) refl
+none_so : (ls : List TokenLine) (start : Draft) (f : DeckFault) → NoSystemSaid ls start f
+    → (judge_all start ls >>= ended) ≡ deck_err f
+none_so ls start f y =
+    rw (says_again ls start y.draft y.says, eq-eqb (length y.draft.deck.systems) 0 y.none, y.is) refl
 
-lines_so : (ls : List TokenLine) (f : DeckFault) → FaultyLine ls (first_draft ls) f ⊎ NoSystemSaid ls f
-    → (judge_all (first_draft ls) ls >>= ended) ≡ deck_err f
-lines_so ls f (inl y) = line_so ls f y
-lines_so ls f (inr y) = none_so ls f y
+lines_so : (ls : List TokenLine) (start : Draft) (f : DeckFault) → FaultyLine ls start f ⊎ NoSystemSaid ls start f
+    → (judge_all start ls >>= ended) ≡ deck_err f
+lines_so ls start f (inl y) = line_so ls start f y
+lines_so ls start f (inr y) = none_so ls start f y
 
 -- A text has no other first fault.
 pub only_fault : (text : List ℕ) (f : DeckFault) → IsFault text f → fault text ≡ Some f
 unfolding fault reading lines_or_fault
 only_fault text f (inl h) = rw h refl
 only_fault text f (inr h) =
-    let read : (lines_or_fault text >>= λ ls. judge_all (first_draft (statements ls)) (statements ls) >>= ended)
+    let read : (lines_or_fault text >>= λ ls. judge_all (first_draft ls) (statements ls) >>= ended)
     ≡ deck_err f =
-    rw (text_read text h.lines (text_of text h.allowed).short h.spelled) (lines_so (statements h.lines) f h.fault) in
+    rw (text_read text h.lines (text_of text h.allowed).short h.spelled)
+    (lines_so (statements h.lines) (first_draft h.lines) f h.fault) in
     ap fault_of read
 
 -- ---- what is answered

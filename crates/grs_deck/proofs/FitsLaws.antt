@@ -7,7 +7,6 @@ use Rattle.std.proofs.lemmas.List.Elements.{All-push}
 use Rattle.rnl_syntax.specs.Operands.{entry_of}
 use Rattle.grs_base.specs.declared.fault.Kind.{Kind}
 use Rattle.grs_base.specs.declared.fault.Kind.TheVariants.{NameLength, Repeated, OutOfPlace, TooMany, UnknownName}
-use Rattle.grs_base.specs.declared.fault.Kind.TheVariants.{NotBuilt}
 use Rattle.grs_base.specs.Rnl.{RnlView}
 use Rattle.grs_base.specs.declared.rnl.Which.{Which}
 use Rattle.grs_base.specs.declared.rnl.Which.TheVariants.{Incl, Excl, Con}
@@ -27,7 +26,6 @@ use Rattle.deck_scan.specs.declared.token.TokenLine.{TokenLine}
 use Rattle.deck_form.specs.declared.form.Stmt.{Stmt}
 use Rattle.deck_form.specs.declared.form.Stmt.TheVariants as stmts
 use Rattle.deck_form.specs.Form.{form}
-use Rattle.deck_form.specs.Unbuilt.{is_unbuilt}
 use Rattle.grs_deck.specs.declared.judge.Draft.{Draft}
 use Rattle.grs_deck.specs.Places.{at_last, desk_now, jobs_now, place_ordered, event_of}
 use Rattle.grs_deck.specs.Judge.{has_bad_name, is_repeated, is_misplaced, is_list_full, is_full, is_unknown, verdict}
@@ -38,32 +36,29 @@ use Rattle.grs_deck.proofs.PlacesLaws.{all_head, all_tail}
 
 -- ---- a statement without a fault
 
-pub record NoFault (a b c d e f : Bool) : Type 0 where
+pub record NoFault (a b c d e : Bool) : Type 0 where
   pub long : a ≡ false
   pub repeated : b ≡ false
   pub misplaced : c ≡ false
   pub full : d ≡ false
   pub unknown : e ≡ false
-  pub unbuilt : f ≡ false
 
-pub no_fault : (a b c d e f : Bool)
-    → cond a (Some NameLength) (cond b (Some Repeated)
-    (cond c (Some OutOfPlace) (cond d (Some TooMany) (cond e (Some UnknownName) (cond f (Some NotBuilt) None)))))
+pub no_fault : (a b c d e : Bool)
+    → cond a (Some NameLength)
+    (cond b (Some Repeated) (cond c (Some OutOfPlace) (cond d (Some TooMany) (cond e (Some UnknownName) None))))
     ≡ None
-    → NoFault a b c d e f
-no_fault true b c d e f h = absurd cc
-no_fault false true c d e f h = absurd cc
-no_fault false false true d e f h = absurd cc
-no_fault false false false true e f h = absurd cc
-no_fault false false false false true f h = absurd cc
-no_fault false false false false false true h = absurd cc
-no_fault false false false false false false
-    h = record { long = refl; repeated = refl; misplaced = refl; full = refl; unknown = refl; unbuilt = refl }
+    → NoFault a b c d e
+no_fault true b c d e h = absurd cc
+no_fault false true c d e h = absurd cc
+no_fault false false true d e h = absurd cc
+no_fault false false false true e h = absurd cc
+no_fault false false false false true h = absurd cc
+no_fault false false false false false
+    h = record { long = refl; repeated = refl; misplaced = refl; full = refl; unknown = refl }
 
 pub tests_of : (d : Draft) (st : Stmt) → verdict d st ≡ None
-    → NoFault (has_bad_name st) (is_repeated d st) (is_misplaced d st) (is_full d st) (is_unknown d st) (is_unbuilt st)
-tests_of d st h =
-    no_fault (has_bad_name st) (is_repeated d st) (is_misplaced d st) (is_full d st) (is_unknown d st) (is_unbuilt st) h
+    → NoFault (has_bad_name st) (is_repeated d st) (is_misplaced d st) (is_full d st) (is_unknown d st)
+tests_of d st h = no_fault (has_bad_name st) (is_repeated d st) (is_misplaced d st) (is_full d st) (is_unknown d st) h
 
 -- ---- each system of a list, as a pair of the first and the others
 
@@ -196,7 +191,6 @@ event_systems None d = refl
 event_systems (Some e) d = refl
 
 pub fits_grow : (d : Draft) (st : Stmt) → is_full d st ≡ false → Fits d.deck.systems → Fits (grow d st).deck.systems
-fits_grow d stmts.Unbuilt full h = h
 fits_grow d (stmts.Complex c) full h = h
 fits_grow d (stmts.System n) full h = fits_system d.deck.systems n h (below 8 (length d.deck.systems) full)
 fits_grow d (stmts.Job n) full h = fits_job d.deck.systems n h (below 64 (length (jobs_now d.deck.systems)) full)
@@ -236,7 +230,6 @@ event_lists (Some e) d = refl
 
 pub lists_grow : (d : Draft) (st : Stmt) → is_full d st ≡ false → AreLists d.deck.lists
     → AreLists (grow d st).deck.lists
-lists_grow d stmts.Unbuilt full h = h
 lists_grow d (stmts.Complex c) full h = h
 lists_grow d (stmts.Rnldef r) full h = lists_more r.which (entry_of r) d.deck.lists refl full h
 lists_grow d (stmts.System n) full h = h

@@ -1,10 +1,10 @@
 -- What each statement adds to the names, the task lines and the entries of a deck: they stay within their limits.
-use Rattle.std.proofs.Common.{◌≡◌, inl, inr, ◌⊎◌, ℕ, ◌+◌, ◌-◌, ◌<◌, Bool, true, false, cond, not, eqb, leb, List, []}
-use Rattle.std.proofs.Common.{◌∷◌, ◌++◌, length, map, filter, Option, Some, None, refl, sym, ap, subst, ◌∙◌, arith}
-use Rattle.std.proofs.Common.{append_assoc, length-append}
-use Rattle.std.specs.Prelude.{All, codes, ◌||◌}
+use Rattle.std.proofs.Common.{◌≡◌, ℕ, ◌+◌, ◌-◌, ◌<◌, Bool, true, false, cond, not, eqb, leb, List, [], ◌∷◌, ◌++◌}
+use Rattle.std.proofs.Common.{length, map, filter, Option, Some, None, refl, sym, ap, subst, ◌∙◌, arith, append_assoc}
+use Rattle.std.proofs.Common.{length-append}
+use Rattle.std.specs.Prelude.{◌||◌, All, codes}
 use Rattle.std.specs.List.{flat_map, list_all}
-use Rattle.std.proofs.lemmas.Bool.{and_parts, and_from, leb-true, le-leb}
+use Rattle.std.proofs.lemmas.Bool.{and_parts, and_from, or_parts, leb-true, le-leb}
 use Rattle.std.proofs.lemmas.List.{append-nil, map-append}
 use Rattle.std.proofs.lemmas.List.Elements.{All-nil, All-push, filter-append}
 use Rattle.std.proofs.lemmas.Grind.{flat_map-append}
@@ -15,8 +15,8 @@ use Rattle.grs_base.specs.declared.rnl.Which.{Which}
 use Rattle.grs_base.specs.declared.rnl.Which.TheVariants.{Incl, Excl, Con}
 use Rattle.grs_base.specs.declared.rnl.Lists.{Lists}
 use Rattle.grs_base.proofs.NameLaws.{trim_blanks-le}
-use Rattle.grs_base.specs.Lines.{IsDeckLine, is_display}
-use Rattle.grs_base.specs.Limits.{most_lines}
+use Rattle.grs_base.specs.Lines.{IsFilter, IsDeckLine, is_display}
+use Rattle.grs_base.specs.Limits.{most_lines, most_displays}
 use Rattle.grs_base.specs.ShortNames.{IsShortName}
 use Rattle.grs_base.specs.NameLists.{IsEntry, AreEntries}
 use Rattle.grs_wire.specs.declared.deck.Desk.{Desk}
@@ -27,32 +27,35 @@ use Rattle.grs_wire.specs.declared.deck.SystemDef.{SystemDef}
 use Rattle.grs_wire.specs.declared.deck.Event.{Event}
 use Rattle.grs_wire.specs.declared.deck.Deck.{Deck}
 use Rattle.grs_wire.specs.Decks.{all_names, all_lines}
-use Rattle.deck_scan.specs.Lengths.{is_bad_rname}
+use Rattle.deck_scan.specs.Lengths.{is_bad_qname, is_bad_rname}
 use Rattle.deck_scan.specs.declared.token.Token.{Token}
 use Rattle.deck_scan.specs.declared.token.TokenLine.{TokenLine}
 use Rattle.deck_scan.specs.declared.token.Token.TheVariants.{Word}
 use Rattle.job_syntax.specs.declared.ask.ResAsk.{ResAsk}
 use Rattle.job_syntax.specs.declared.line_ask.LineAsk.{LineAsk}
 use Rattle.job_syntax.specs.declared.line_ask.LineAsk.TheVariants as asks
-use Rattle.job_syntax.specs.Lines.{are_bad_names, has_bad_name as line_has_bad_name, line_of}
-use Rattle.job_syntax.specs.Spelled.{IsResAsk, IsLineAsk}
+use Rattle.job_syntax.specs.declared.display.Shown.{Shown}
+use Rattle.job_syntax.specs.declared.display.Shown.TheVariants as shown
+use Rattle.job_syntax.specs.Lines.{are_bad_names, is_bad_shown, has_bad_name as line_has_bad_name, filter_of}
+use Rattle.job_syntax.specs.Lines.{display_line, line_of}
+use Rattle.job_syntax.specs.Spelled.{IsResAsk, IsShown, IsLineAsk}
 use Rattle.rnl_syntax.specs.declared.operands.Rnldef.{Rnldef}
 use Rattle.rnl_syntax.specs.Operands.{entry_of, has_bad_name as rnldef_has_bad_name}
 use Rattle.rnl_syntax.specs.Spelled.{IsRnldef}
 use Rattle.deck_form.specs.declared.form.Stmt.{Stmt}
 use Rattle.deck_form.specs.declared.form.Stmt.TheVariants as stmts
 use Rattle.deck_form.specs.Spelled.{IsFirst, Spells}
-use Rattle.deck_form.specs.UnbuiltWord.{is_unbuilt_word}
 use Rattle.grs_deck.specs.declared.judge.Draft.{Draft}
 use Rattle.grs_deck.specs.Places.{at_last, jobs_now, tasks_now, place_ordered, event_of}
 use Rattle.grs_deck.specs.Grow.{on_last, add_command, add_order, add_job, add_task, add_line, in_jobs, in_tasks}
-use Rattle.grs_deck.specs.Grow.{order_by, with_event, in_list, grow}
+use Rattle.grs_deck.specs.Grow.{order_by, with_event, in_list, shows, grow}
 use Rattle.grs_deck.specs.Reading.{no_draft}
-use Rattle.grs_deck.specs.Spells.{IsRight}
+use Rattle.grs_deck.specs.Spells.{MayStand}
 use Rattle.grs_deck.proofs.SpellsLaws.{no_test}
 use Rattle.grs_deck.proofs.Distinct.{map_same}
 use Rattle.grs_deck.proofs.TokenBytes.{says_bytes, are_of_bytes}
-use Rattle.grs_deck.proofs.NameBytes.{BothBytes, trim_bytes, ask_bytes, ask_unit, unit_or, IsMaybeBytes, rnldef_bytes}
+use Rattle.grs_deck.proofs.NameBytes.{BothBytes, trim_bytes, ask_bytes, IsMaybeBytes, scan_bytes, shown_bytes, ask_unit}
+use Rattle.grs_deck.proofs.NameBytes.{unit_or, rnldef_bytes}
 
 -- ---- the last of a list
 
@@ -234,10 +237,6 @@ behind_bytes w ts behind is all =
     (and_parts (are_bytes w) (list_all says_bytes behind)
     (subst (λ (x : List Token). list_all says_bytes x ≡ true) is all)).1
 
--- a line as it is built, which shows nothing
-abbrev IsBuiltLine : Line → Type 0
-IsBuiltLine l = IsDeckLine l × (is_display l ≡ false)
-
 named : (q r : List ℕ) → are_bad_names q r ≡ false → BothBytes q r → AreNames (trim_blanks q) r
 named q r good bytes =
     let k = not_either (is_qname q) (is_rname r) good in
@@ -247,35 +246,60 @@ asked : (front ts : List Token) (a : ResAsk) → IsResAsk front ts a → list_al
     → are_bad_names a.q a.r ≡ false → AreNames (trim_blanks a.q) a.r
 asked front ts a h all good = named a.q a.r good (ask_bytes front ts a h all)
 
-line_ask_built : (ts : List Token) (s : LineAsk) (h : IsLineAsk ts s) → is_unbuilt_word h.word ≡ false
-    → list_all says_bytes h.behind ≡ true → line_has_bad_name s ≡ false → IsBuiltLine (line_of s)
-unfolding is_unbuilt_word
-line_ask_built ts (asks.Enq e) h known all good = ((_, refl, asked _ h.behind e.ask h.is_behind.0 all good), refl)
-line_ask_built ts (asks.Reserve e) h known all good = (
-  (asked _ h.behind e.ask h.is_behind.0 all good, unit_or e.ask.opts.unit (ask_unit _ h.behind e.ask h.is_behind.0)),
-  refl,
+not_false : (b : Bool) → not b ≡ false → b ≡ true
+not_false true e = refl
+not_false false e = absurd cc
+
+-- the filter of a GQSCAN
+scan_filter : (q r : Option (List ℕ)) → is_bad_qname q ≡ false → is_bad_rname r ≡ false → IsMaybeBytes q
+    → IsMaybeBytes r → IsFilter (filter_of (record { q = q; r = r }))
+scan_filter None None good fine q r = tt
+scan_filter None (Some y) good fine q r = (tt, (not_false (is_rname y) fine, r), refl)
+scan_filter (Some x) None good fine q r = ((built x (not_false (is_qname x) good), trim_bytes x q), tt, refl)
+scan_filter (Some x) (Some y) good fine q
+    r = ((built x (not_false (is_qname x) good), trim_bytes x q), (not_false (is_rname y) fine, r), refl)
+
+display_built : (ts : List Token) (s : Shown) → IsShown ts s → list_all says_bytes ts ≡ true → is_bad_shown s ≡ false
+    → IsDeckLine (display_line s)
+display_built ts shown.Contended h all good = tt
+display_built ts (shown.Resource q r) h all good = named q r good (shown_bytes ts q r h all)
+
+line_ask_built : (ts : List Token) (s : LineAsk) (h : IsLineAsk ts s) → list_all says_bytes h.behind ≡ true
+    → line_has_bad_name s ≡ false → IsDeckLine (line_of s)
+line_ask_built ts (asks.Enq e) h all good = (_, refl, asked _ h.behind e.ask h.is_behind.0 all good)
+line_ask_built ts (asks.Reserve e) h all good = (
+  asked _ h.behind e.ask h.is_behind.0 all good,
+  unit_or e.ask.opts.unit (ask_unit _ h.behind e.ask h.is_behind.0),
 )
-line_ask_built ts (asks.Deq a) h known all
-    good = ((asked _ h.behind a h.is_behind.0 all good, ask_unit _ h.behind a h.is_behind.0), refl)
-line_ask_built ts (asks.Wait a) h known all good = (asked _ h.behind a h.is_behind.0 all good, refl)
-line_ask_built ts (asks.Gqscan x) h known all good =
-    absurd (let k : true ≡ false = subst (λ (w : List ℕ). is_unbuilt_word w ≡ false) h.is_word known in cc)
-line_ask_built ts (asks.Display x) h known all good = absurd (other h.is_word)
-  where
-    other : (h.word ≡ codes "DISPLAY") ⊎ (h.word ≡ codes "D") → ⊥
-    other (inl is) = let k : true ≡ false = subst (λ (w : List ℕ). is_unbuilt_word w ≡ false) is known in cc
-    other (inr is) = let k : true ≡ false = subst (λ (w : List ℕ). is_unbuilt_word w ≡ false) is known in cc
+line_ask_built ts (asks.Deq a) h all
+    good = (asked _ h.behind a h.is_behind.0 all good, ask_unit _ h.behind a h.is_behind.0)
+line_ask_built ts (asks.Wait a) h all good = asked _ h.behind a h.is_behind.0 all good
+line_ask_built ts (asks.Gqscan x) h all good =
+    let k = or_parts (is_bad_qname x.names.q) (is_bad_rname x.names.r) good in
+    let bytes = scan_bytes h.behind x h.is_behind all in
+    scan_filter x.names.q x.names.r k.0 k.1 bytes.0 bytes.1
+line_ask_built ts (asks.Display x) h all good = display_built h.behind x h.is_behind all good
 
 line_built : (ts : List Token) (s : LineAsk) → list_all says_bytes ts ≡ true → IsFirst ts (stmts.Line s)
-    → line_has_bad_name s ≡ false → IsBuiltLine (line_of s)
-line_built ts s all h good = line_ask_built ts s h.0 h.1 (behind_bytes h.0.word ts h.0.behind h.0.parts all) good
+    → line_has_bad_name s ≡ false → IsDeckLine (line_of s)
+line_built ts s all h good = line_ask_built ts s h (behind_bytes h.word ts h.behind h.parts all) good
+
+-- which lines show something
+shows_line : (s : LineAsk) → is_display (line_of s) ≡ shows s
+shows_line (asks.Enq e) = refl
+shows_line (asks.Reserve e) = refl
+shows_line (asks.Deq a) = refl
+shows_line (asks.Wait a) = refl
+shows_line (asks.Gqscan x) = refl
+shows_line (asks.Display shown.Contended) = refl
+shows_line (asks.Display (shown.Resource q r)) = refl
 
 -- ---- a deck so far
 
 pub record Keeps (d : Draft) : Type 0 where
   pub names : All IsShortName (all_names d.deck.systems)
   pub lines : All IsDeckLine (all_lines d.deck.systems)
-  pub displays : filter is_display (all_lines d.deck.systems) ≡ []
+  pub displays : length (filter is_display (all_lines d.deck.systems)) + d.displays ≡ most_displays
   pub room : length (all_lines d.deck.systems) + d.room ≡ most_lines
   pub entries : AreEntries d.deck.lists
 
@@ -290,11 +314,11 @@ keeps_none names = record {
 
 -- no line more
 no_line : (d e : Draft) → Keeps d → all_lines e.deck.systems ≡ all_lines d.deck.systems → e.room ≡ d.room
-    → All IsShortName (all_names e.deck.systems) → AreEntries e.deck.lists → Keeps e
-no_line d e h same room names entries = record {
+    → e.displays ≡ d.displays → All IsShortName (all_names e.deck.systems) → AreEntries e.deck.lists → Keeps e
+no_line d e h same room displays names entries = record {
   names = names;
   lines = subst (All IsDeckLine) (sym same) h.lines;
-  displays = ap (filter is_display) same ∙ h.displays;
+  displays = rw (same, displays) h.displays;
   room = rw (same, room) h.room;
   entries = entries;
 }
@@ -317,10 +341,6 @@ entry_more r lists e h
 maybe_rname : (o : Option (List ℕ)) → is_bad_rname o ≡ false → IsMaybeBytes o → IsMaybeRname o
 maybe_rname None h bytes = tt
 maybe_rname (Some r) h bytes = (not_false (is_rname r) h, bytes)
-  where
-    not_false : (b : Bool) → not b ≡ false → b ≡ true
-    not_false true e = refl
-    not_false false e = absurd cc
 
 entry_built : (ts : List Token) (r : Rnldef) → list_all says_bytes ts ≡ true → IsRnldef ts r
     → rnldef_has_bad_name r ≡ false → IsEntry (entry_of r)
@@ -332,77 +352,91 @@ entry_built ts r all h good =
 room_same : (n : ℕ) → n - 0 ≡ n
 room_same n = omega arith
 
-line_more : (d : Draft) (line : Line) → Keeps d → 0 < length (tasks_now (jobs_now d.deck.systems)) → 0 < d.room
-    → IsBuiltLine line → (e : Draft) → e.deck.systems ≡ in_jobs (in_tasks (add_line line)) d.deck.systems
-    → e.room ≡ d.room - 1 → e.deck.lists ≡ d.deck.lists → Keeps e
-line_more d line h task some new e is room lists =
-    let all : all_lines e.deck.systems ≡ all_lines d.deck.systems ++ line ∷ [] =
-    ap all_lines is ∙ lines_line line d.deck.systems task in
+-- how many of the lines show something, with one more
+shown_more : (b : Bool) (n d e : ℕ) → n + d ≡ most_displays → (b ≡ true → 0 < d) → e ≡ d - cond b 1 0
+    → n + cond b 1 0 + e ≡ most_displays
+shown_more true n d e all some is = omega (arith, all, some refl, is)
+shown_more false n d e all some is = omega (arith, all, is)
+
+one_shown : (b : Bool) (line : Line) → length (cond b (line ∷ []) []) ≡ cond b 1 0
+one_shown true line = refl
+one_shown false line = refl
+
+line_more : (d : Draft) (s : LineAsk) → Keeps d → 0 < length (tasks_now (jobs_now d.deck.systems))
+    → (0 < d.room) × (shows s ≡ true → 0 < d.displays) → IsDeckLine (line_of s) → Keeps (grow d (stmts.Line s))
+line_more d s h task some new =
+    let line = line_of s in
+    let e = grow d (stmts.Line s) in
+    let all : all_lines e.deck.systems ≡ all_lines d.deck.systems ++ line ∷ [] = lines_line line d.deck.systems task in
+    let long : length (all_lines e.deck.systems) ≡ length (all_lines d.deck.systems) + 1 =
+    ap length all ∙ length-append (all_lines d.deck.systems) (line ∷ []) in
+    let count : length (filter is_display (all_lines e.deck.systems))
+    ≡ length (filter is_display (all_lines d.deck.systems)) + cond (shows s) 1 0 =
+    ap (λ ls. length (filter is_display ls)) all
+    ∙ ap length (filter-append is_display (all_lines d.deck.systems) (line ∷ []))
+    ∙ length-append (filter is_display (all_lines d.deck.systems)) (filter is_display (line ∷ []))
+    ∙ ap (λ n. length (filter is_display (all_lines d.deck.systems)) + n)
+    (one_shown (is_display line) line ∙ ap (λ b. cond b 1 0) (shows_line s)) in
     record {
-      names = subst (All IsShortName) (sym (ap all_names is ∙ names_line line d.deck.systems)) h.names;
-      lines = subst (All IsDeckLine) (sym all) (All-push IsDeckLine (all_lines d.deck.systems) line h.lines new.0);
+      names = subst (All IsShortName) (sym (names_line line d.deck.systems)) h.names;
+      lines = subst (All IsDeckLine) (sym all) (All-push IsDeckLine (all_lines d.deck.systems) line h.lines new);
       displays =
-          ap (filter is_display) all
-          ∙ filter-append is_display (all_lines d.deck.systems) (line ∷ [])
-          ∙ rw (h.displays, new.1) refl;
-      room =
-          (let long : length (all_lines e.deck.systems) ≡ length (all_lines d.deck.systems) + 1 =
-          ap length all ∙ length-append (all_lines d.deck.systems) (line ∷ []) in
-          omega (arith, long, room, some, h.room));
-      entries = subst AreEntries (sym lists) h.entries;
+          ap (λ n. n + e.displays) count
+          ∙ shown_more (shows s) (length (filter is_display (all_lines d.deck.systems))) d.displays e.displays
+          h.displays some.1 refl;
+      room = omega (arith, long, some.0, h.room);
+      entries = h.entries;
     }
 
-first_keeps : (d : Draft) (ts : List Token) (st : Stmt) → list_all says_bytes ts ≡ true → IsFirst ts st → IsRight d st
+first_keeps : (d : Draft) (ts : List Token) (st : Stmt) → list_all says_bytes ts ≡ true → IsFirst ts st → MayStand d st
     → Keeps d → Keeps (grow d st)
-first_keeps d ts stmts.Unbuilt all s right h =
-    no_line d (grow d stmts.Unbuilt) h refl (room_same d.room) h.names h.entries
 first_keeps d ts (stmts.Complex c) all s right h =
-    no_line d (grow d (stmts.Complex c)) h refl (room_same d.room) h.names h.entries
+    no_line d (grow d (stmts.Complex c)) h refl (room_same d.room) (room_same d.displays) h.names h.entries
 first_keeps d ts (stmts.Rnldef r) all s right h =
     let e =
     entry_built s.0 r (behind_bytes (codes "RNLDEF") ts s.0 s.1 all) s.2 (no_test d (stmts.Rnldef r) right).long in
-    no_line d (grow d (stmts.Rnldef r)) h refl (room_same d.room) h.names
+    no_line d (grow d (stmts.Rnldef r)) h refl (room_same d.room) (room_same d.displays) h.names
     (entry_more r d.deck.lists e h.entries r.which)
 first_keeps d ts (stmts.System n) all s right h =
-    no_line d (grow d (stmts.System n)) h (lines_system n d.deck.systems) (room_same d.room)
-    (name_more d n _ h (names_system n d.deck.systems) (s.1, right.0.sized)) h.entries
+    no_line d (grow d (stmts.System n)) h (lines_system n d.deck.systems) (room_same d.room) (room_same d.displays)
+    (name_more d n _ h (names_system n d.deck.systems) (s.1, right.sized)) h.entries
 first_keeps d ts (stmts.Job n) all s right h =
-    no_line d (grow d (stmts.Job n)) h (lines_job n d.deck.systems) (room_same d.room)
-    (name_more d n _ h (names_job n d.deck.systems right.0.placed) (s.1, right.0.sized)) h.entries
+    no_line d (grow d (stmts.Job n)) h (lines_job n d.deck.systems) (room_same d.room) (room_same d.displays)
+    (name_more d n _ h (names_job n d.deck.systems right.placed) (s.1, right.sized)) h.entries
 first_keeps d ts (stmts.Task n) all s right h =
-    no_line d (grow d (stmts.Task n)) h (lines_task n d.deck.systems) (room_same d.room)
-    (name_more d n _ h (names_task n d.deck.systems right.0.placed) (s.1, right.0.sized)) h.entries
+    no_line d (grow d (stmts.Task n)) h (lines_task n d.deck.systems) (room_same d.room) (room_same d.displays)
+    (name_more d n _ h (names_task n d.deck.systems right.placed) (s.1, right.sized)) h.entries
 first_keeps d ts (stmts.Line x) all s right h =
-    line_more d (line_of x) h right.0.placed right.0.room (line_built ts x all s (no_test d (stmts.Line x) right).long)
-    (grow d (stmts.Line x)) refl refl refl
+    line_more d x h right.placed right.room (line_built ts x all s (no_test d (stmts.Line x) right).long)
 first_keeps d ts (stmts.Command c) all s right h =
     let same = names_order c.at (order_by (place_ordered d.names c.order) c.order) d.deck.systems in
     no_line d (grow d (stmts.Command c)) h
     (lines_order c.at (order_by (place_ordered d.names c.order) c.order) d.deck.systems) (room_same d.room)
-    (subst (All IsShortName) (sym same) h.names) h.entries
+    (room_same d.displays) (subst (All IsShortName) (sym same) h.names) h.entries
 first_keeps d ts stmts.Schedule all s right h =
-    no_line d (grow d stmts.Schedule) h refl (room_same d.room) h.names h.entries
+    no_line d (grow d stmts.Schedule) h refl (room_same d.room) (room_same d.displays) h.names h.entries
 first_keeps d ts (stmts.Event n a) all s right h = absurd s
 
-event_keeps : (d : Draft) (o : Option Event) (e : Draft) → e.deck ≡ with_event o d.deck → e.room ≡ d.room → Keeps d
-    → Keeps e
-event_keeps d None e is room h =
-    no_line d e h (ap (λ (x : Deck). all_lines x.systems) is) room
+event_keeps : (d : Draft) (o : Option Event) (e : Draft) → e.deck ≡ with_event o d.deck → e.room ≡ d.room
+    → e.displays ≡ d.displays → Keeps d → Keeps e
+event_keeps d None e is room displays h =
+    no_line d e h (ap (λ (x : Deck). all_lines x.systems) is) room displays
     (subst (λ (x : Deck). All IsShortName (all_names x.systems)) (sym is) h.names)
     (subst (λ (x : Deck). AreEntries x.lists) (sym is) h.entries)
-event_keeps d (Some v) e is room h =
-    no_line d e h (ap (λ (x : Deck). all_lines x.systems) is) room
+event_keeps d (Some v) e is room displays h =
+    no_line d e h (ap (λ (x : Deck). all_lines x.systems) is) room displays
     (subst (λ (x : Deck). All IsShortName (all_names x.systems)) (sym is) h.names)
     (subst (λ (x : Deck). AreEntries x.lists) (sym is) h.entries)
 
 -- A statement that is right keeps the limits of names, task lines and entries.
 pub keeps_grow : (d : Draft) (l : TokenLine) (st : Stmt) → are_of_bytes l ≡ true
-    → Spells d.scheduled d.deck.entries l st → IsRight d st → Keeps d → Keeps (grow d st)
+    → Spells d.scheduled d.deck.entries l st → MayStand d st → Keeps d → Keeps (grow d st)
 keeps_grow d l st all s right h = go d.scheduled s
   where
     event : (x : Stmt) → Spells true d.deck.entries l x → Keeps (grow d x)
     event (stmts.Event n a) k =
-        event_keeps d (event_of d.deck.systems n a) (grow d (stmts.Event n a)) refl (room_same d.room) h
+        event_keeps d (event_of d.deck.systems n a) (grow d (stmts.Event n a)) refl (room_same d.room)
+        (room_same d.displays) h
     event _ k = absurd k
 
     go : (b : Bool) → Spells b d.deck.entries l st → Keeps (grow d st)

@@ -13,7 +13,6 @@ use Rattle.deck_form.specs.Form.{form}
 use Rattle.deck_form.specs.Spelled.{Spells, IsNoStatement}
 use Rattle.deck_form.proofs.Taken.{form_taken}
 use Rattle.deck_form.proofs.Unknown.{failed, one_spelled, apart, one_kind, is_none}
-use Rattle.deck_form.specs.Unbuilt.{is_unbuilt}
 use Rattle.grs_deck.specs.declared.judge.Draft.{Draft}
 use Rattle.grs_deck.specs.Judge.{has_bad_name, is_repeated, is_misplaced, is_full, is_unknown, verdict}
 use Rattle.grs_deck.specs.Grow.{grow}
@@ -31,7 +30,7 @@ holds Repeated d st = is_repeated d st
 holds OutOfPlace d st = is_misplaced d st
 holds TooMany d st = is_full d st
 holds UnknownName d st = is_unknown d st
-holds NotBuilt d st = is_unbuilt st
+holds NotBuilt d st = false
 holds TooLong d st = false
 holds BadByte d st = false
 holds UnknownStatement d st = false
@@ -61,8 +60,7 @@ verdict_holds d st =
     (tested d st (is_repeated d st) Repeated _ (λ h. h)
     (tested d st (is_misplaced d st) OutOfPlace _ (λ h. h)
     (tested d st (is_full d st) TooMany _ (λ h. h)
-    (tested d st (is_unknown d st) UnknownName _ (λ h. h)
-    (tested d st (is_unbuilt st) NotBuilt None (λ h. h) tt)))))
+    (tested d st (is_unknown d st) UnknownName None (λ h. h) tt))))
 
 -- one test more before others
 chain : (n : ℕ) (b : Bool) (x k : Kind) (rest : Option Kind) → number x ≤ n → (rest ≡ kind k → number k ≤ n)
@@ -93,11 +91,7 @@ verdict_below d st UnknownName k v t =
     (chain 9 (is_misplaced d st) OutOfPlace k _ (lit≤ tt)
     (chain 9 (is_full d st) TooMany k _ (lit≤ tt) (ends 9 (is_unknown d st) UnknownName k _ (lit≤ tt) t))))
     v
-verdict_below d st NotBuilt k v t =
-    chain 11 (has_bad_name st) NameLength k _ (lit≤ tt) (chain 11 (is_repeated d st) Repeated k _ (lit≤ tt)
-    (chain 11 (is_misplaced d st) OutOfPlace k _ (lit≤ tt) (chain 11 (is_full d st) TooMany k _ (lit≤ tt)
-    (chain 11 (is_unknown d st) UnknownName k _ (lit≤ tt) (ends 11 (is_unbuilt st) NotBuilt k None (lit≤ tt) t)))))
-    v
+verdict_below d st NotBuilt k v t = absurd cc
 verdict_below d st TooLong k v t = absurd cc
 verdict_below d st BadByte k v t = absurd cc
 verdict_below d st UnknownStatement k v t = absurd cc
@@ -128,8 +122,7 @@ applies_holds d l st Repeated h a = wrong (is_repeated d st) (new_by d st) (some
 applies_holds d l st OutOfPlace h a = wrong (is_misplaced d st) (placed_by d st) (some_holds d l st (IsPlaced d) h a)
 applies_holds d l st TooMany h a = wrong (is_full d st) (room_by d st) (some_holds d l st (HasRoom d) h a)
 applies_holds d l st UnknownName h a = wrong (is_unknown d st) (known_by d st) (some_holds d l st (IsKnown d) h a)
-applies_holds d l st NotBuilt h a =
-    wrong (is_unbuilt st) (λ e. e) (some_holds d l st (λ (x : Stmt). is_unbuilt x ≡ false) h a)
+applies_holds d l st NotBuilt h a = absurd a
 applies_holds d l st TooLong h a = absurd a
 applies_holds d l st BadByte h a = absurd a
 applies_holds d l st NoSystem h a = absurd a
@@ -141,7 +134,7 @@ holds_applies d l st Repeated h t = (st, h, not_so (is_repeated d st) (of_new d 
 holds_applies d l st OutOfPlace h t = (st, h, not_so (is_misplaced d st) (of_placed d st) t)
 holds_applies d l st TooMany h t = (st, h, not_so (is_full d st) (of_room d st) t)
 holds_applies d l st UnknownName h t = (st, h, not_so (is_unknown d st) (of_known d st) t)
-holds_applies d l st NotBuilt h t = (st, h, not_so (is_unbuilt st) (λ e. e) t)
+holds_applies d l st NotBuilt h t = absurd cc
 holds_applies d l st TooLong h t = absurd cc
 holds_applies d l st BadByte h t = absurd cc
 holds_applies d l st UnknownStatement h t = absurd cc
@@ -162,7 +155,7 @@ no_holds d st Repeated v t = both_ways (is_repeated d st) (tests_of d st v).repe
 no_holds d st OutOfPlace v t = both_ways (is_misplaced d st) (tests_of d st v).misplaced t
 no_holds d st TooMany v t = both_ways (is_full d st) (tests_of d st v).full t
 no_holds d st UnknownName v t = both_ways (is_unknown d st) (tests_of d st v).unknown t
-no_holds d st NotBuilt v t = both_ways (is_unbuilt st) (tests_of d st v).unbuilt t
+no_holds d st NotBuilt v t = cc
 no_holds d st TooLong v t = cc
 no_holds d st BadByte v t = cc
 no_holds d st UnknownStatement v t = cc
@@ -179,7 +172,7 @@ above_three d l Repeated a = lit≤ tt
 above_three d l OutOfPlace a = lit≤ tt
 above_three d l TooMany a = lit≤ tt
 above_three d l UnknownName a = lit≤ tt
-above_three d l NotBuilt a = lit≤ tt
+above_three d l NotBuilt a = absurd a
 above_three d l TooLong a = absurd a
 above_three d l BadByte a = absurd a
 above_three d l NoSystem a = absurd a
@@ -196,7 +189,7 @@ above_four d l bad Repeated a = lit≤ tt
 above_four d l bad OutOfPlace a = lit≤ tt
 above_four d l bad TooMany a = lit≤ tt
 above_four d l bad UnknownName a = lit≤ tt
-above_four d l bad NotBuilt a = lit≤ tt
+above_four d l bad NotBuilt a = absurd a
 above_four d l bad TooLong a = absurd a
 above_four d l bad BadByte a = absurd a
 above_four d l bad NoSystem a = absurd a

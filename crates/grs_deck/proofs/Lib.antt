@@ -11,5 +11,7 @@ pub mod Distinct
 pub mod Growth
 pub mod Opening
 pub mod Orders
+pub mod Named
 pub mod WholeLaws
+pub mod EventLaws
 pub mod Samples

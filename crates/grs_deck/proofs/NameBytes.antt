@@ -8,6 +8,7 @@ use Rattle.std.proofs.lemmas.List.Folds.{list_all-append}
 use Rattle.grs_base.specs.Names.{before_rest, trim_blanks, are_bytes}
 use Rattle.grs_base.specs.Lines.{IsMaybeUnit}
 use Rattle.deck_scan.specs.declared.token.Token.{Token}
+use Rattle.deck_scan.specs.declared.token.Token.TheVariants.{Word}
 use Rattle.deck_scan.specs.Next.{◌>>=◌, Sets}
 use Rattle.deck_scan.proofs.Taking.{bind_some, guard_some}
 use Rattle.deck_scan.specs.Bytes.{is_hex, digit}
@@ -16,11 +17,17 @@ use Rattle.job_syntax.specs.declared.options.Opts.{Opts}
 use Rattle.job_syntax.specs.declared.ask.ResAsk.{ResAsk}
 use Rattle.job_syntax.specs.Unit.{hex_of, hex_at, unit_of}
 use Rattle.job_syntax.specs.Options.{no_opts}
-use Rattle.job_syntax.specs.Spelled.{Opt, WithRet, WithRnl, WithUcb, IsFree, set, IsResAsk}
+use Rattle.job_syntax.specs.declared.display.ScanAsk.{ScanAsk}
+use Rattle.job_syntax.specs.declared.display.Wanted.{Wanted}
+use Rattle.job_syntax.specs.Display.{no_names}
+use Rattle.job_syntax.specs.Spelled.{Opt, WithRet, WithRnl, WithUcb, IsFree, set, IsResAsk, reach_word, WantedName}
+use Rattle.job_syntax.specs.Spelled.{WithQname, WithRname, want, IsFreeWant, set_want, IsScan, IsResource}
 use Rattle.rnl_syntax.specs.declared.operands.Operands.{Operands}
 use Rattle.rnl_syntax.specs.declared.operands.Rnldef.{Rnldef}
 use Rattle.rnl_syntax.specs.Operands.{no_operands}
-use Rattle.rnl_syntax.specs.Spelled.{Operand, WithRnl, WithType, WithQname, WithRname, operand, IsRnldef}
+use Rattle.rnl_syntax.specs.Spelled.{Operand, operand, IsRnldef}
+use Rattle.rnl_syntax.specs.Spelled.{WithRnl as OperandRnl, WithType as OperandType, WithQname as OperandQname}
+use Rattle.rnl_syntax.specs.Spelled.{WithRname as OperandRname}
 use Rattle.rnl_syntax.specs.Spelled.{IsFree as IsFreeOperand, set as set_operand}
 use Rattle.grs_deck.proofs.TokenBytes.{says_bytes, named_bytes}
 
@@ -50,6 +57,49 @@ ask_bytes front ts a h all =
     let q = and_parts (says_bytes h.q) _ said in
     let r = and_parts (says_bytes h.r) _ q.1 in
     (named_bytes h.q a.q h.named_q q.0, named_bytes h.r a.r h.named_r r.0)
+
+-- ---- names that a GQSCAN or a DISPLAY gives
+
+-- the bytes of a name that may be left out
+abbrev pub IsMaybeBytes : Option (List ℕ) → Type 0
+IsMaybeBytes None = Unit {0}
+IsMaybeBytes (Some n) = are_bytes n ≡ true
+
+record AreWanted (o : Wanted) : Type 0 where
+  q : IsMaybeBytes o.q
+  r : IsMaybeBytes o.r
+
+want_bytes : (x : WantedName) (o : Wanted) → list_all says_bytes (want x) ≡ true → IsFreeWant x o → AreWanted o
+    → AreWanted (set_want x o)
+want_bytes (WithQname t q) o all free
+    h = record { q = named_bytes t q free.1 (and_parts (says_bytes t) _ all).0; r = h.r }
+want_bytes (WithRname t r) o all free
+    h = record { q = h.q; r = named_bytes t r free.1 (and_parts (says_bytes t) _ all).0 }
+
+wants_bytes : (xs : List WantedName) (o p : Wanted) → Sets IsFreeWant set_want o xs p
+    → list_all says_bytes (flat_map want xs) ≡ true → AreWanted o → AreWanted p
+wants_bytes [] o p s all h = subst AreWanted (sym s) h
+wants_bytes (x ∷ xs) o p s all h =
+    let k =
+    and_parts (list_all says_bytes (want x)) (list_all says_bytes (flat_map want xs))
+    (sym (list_all-append says_bytes (want x) (flat_map want xs)) ∙ all) in
+    wants_bytes xs (set_want x o) p s.1 k.1 (want_bytes x o k.0 s.0 h)
+
+pub scan_bytes : (ts : List Token) (s : ScanAsk) → IsScan ts s → list_all says_bytes ts ≡ true
+    → IsMaybeBytes s.names.q × IsMaybeBytes s.names.r
+scan_bytes ts s h all =
+    let said = subst (λ (x : List Token). list_all says_bytes x ≡ true) h.spelled all in
+    let names =
+    and_parts (says_bytes (Word (reach_word s.global))) (list_all says_bytes (flat_map want h.given)) said in
+    let k = wants_bytes h.given no_names s.names h.names names.1 (record { q = tt; r = tt }) in
+    (k.q, k.r)
+
+pub shown_bytes : (ts : List Token) (q r : List ℕ) → IsResource ts q r → list_all says_bytes ts ≡ true → BothBytes q r
+shown_bytes ts q r h all =
+    let said = subst (λ (x : List Token). list_all says_bytes x ≡ true) h.spelled all in
+    let first = and_parts (says_bytes h.q) _ said in
+    let second = and_parts (says_bytes h.r) _ first.1 in
+    (named_bytes h.q q h.named_q first.0, named_bytes h.r r h.named_r second.0)
 
 -- ---- units
 
@@ -106,22 +156,17 @@ unit_or (Some n) h = h
 
 -- ---- operands of RNLDEF
 
--- the bytes of a name that may be left out
-abbrev pub IsMaybeBytes : Option (List ℕ) → Type 0
-IsMaybeBytes None = Unit {0}
-IsMaybeBytes (Some n) = are_bytes n ≡ true
-
 record AreBytes (o : Operands) : Type 0 where
   q : IsMaybeBytes o.q
   r : IsMaybeBytes o.r
 
 operand_bytes : (x : Operand) (o : Operands) → list_all says_bytes (operand x) ≡ true → IsFreeOperand x o → AreBytes o
     → AreBytes (set_operand x o)
-operand_bytes (WithRnl which) o all free h = record { q = h.q; r = h.r }
-operand_bytes (WithType form) o all free h = record { q = h.q; r = h.r }
-operand_bytes (WithQname t q) o all free
+operand_bytes (OperandRnl which) o all free h = record { q = h.q; r = h.r }
+operand_bytes (OperandType form) o all free h = record { q = h.q; r = h.r }
+operand_bytes (OperandQname t q) o all free
     h = record { q = named_bytes t q free.1 (and_parts (says_bytes t) _ all).0; r = h.r }
-operand_bytes (WithRname t r) o all free
+operand_bytes (OperandRname t r) o all free
     h = record { q = h.q; r = named_bytes t r free.1 (and_parts (says_bytes t) _ all).0 }
 
 operands_bytes : (xs : List Operand) (o p : Operands) → Sets IsFreeOperand set_operand o xs p

@@ -1,4 +1,4 @@
--- A text's statements are judged with the names that its SYSTEM statements give.
+-- A text's statements are judged with the names that its lines give to systems.
 use Rattle.std.proofs.Common.{◌≡◌, ℕ, List, Result, Ok, refl, ap}
 use Rattle.grs_base.specs.declared.fault.ReadError.{ReadError}
 use Rattle.grs_base.specs.declared.fault.ReadError.TheVariants as errors
@@ -16,10 +16,9 @@ use Rattle.grs_deck.specs.declared.judge.Draft.{Draft}
 use Rattle.grs_deck.specs.Reading.{no_draft, judge_all, ended, reading}
 
 names_read : (text : List ℕ) (lines : List TokenLine) → lines_or_fault text ≡ Ok lines
-    → names_in text ≡ system_names (statements lines)
+    → names_in text ≡ system_names lines
 names_read text lines h =
-    ap (λ (ls : List TokenLine). system_names (statements ls))
-    (spelled_is (readable text) lines (any_text text lines (read_text text lines h).spelled))
+    ap system_names (spelled_is (readable text) lines (any_text text lines (read_text text lines h).spelled))
 
 -- what is judged of the lines of a text, where these are its names and statements
 judged : (text : List ℕ) (lines ss : List TokenLine) (names : List (List ℕ)) → lines_or_fault text ≡ Ok lines

@@ -19,15 +19,15 @@ use Rattle.deck_scan.proofs.Taking.{same_bytes}
 use Rattle.deck_scan.specs.declared.token.Token.{Token}
 use Rattle.deck_scan.specs.declared.token.Token.TheVariants.{Word}
 use Rattle.deck_scan.specs.declared.token.TokenLine.{TokenLine}
-use Rattle.deck_form.proofs.Systems.{named_here, none_behind, none_left, spelled_name, given_name}
+use Rattle.deck_form.proofs.Systems.{named_here, none_behind, no_lines, spelled_name, given_name}
+use Rattle.deck_form.proofs.FirstWords.{schedule_spelled, begins_with_schedule}
 use Rattle.deck_form.proofs.Unknown.{one_spelled}
 use Rattle.deck_form.specs.declared.command.GivenOrder.{GivenOrder}
 use Rattle.deck_form.specs.declared.command.GivenOrder.TheVariants as orders
 use Rattle.deck_form.specs.declared.form.Stmt.{Stmt}
 use Rattle.deck_form.specs.declared.form.Stmt.TheVariants as stmts
 use Rattle.deck_form.specs.Spelled.{Spells}
-use Rattle.deck_form.specs.Statements.{is_schedule}
-use Rattle.deck_form.specs.SystemNames.{name_given, system_names, name_place}
+use Rattle.deck_form.specs.SystemNames.{name_given, begins_schedule, names_to_schedule, name_place}
 use Rattle.grs_deck.proofs.Distinct.{map_same}
 use Rattle.grs_deck.proofs.FitsLaws.{event_systems}
 use Rattle.job_syntax.specs.Lines.{line_of}
@@ -35,46 +35,48 @@ use Rattle.grs_deck.specs.declared.judge.Draft.{Draft}
 use Rattle.grs_deck.specs.Grow.{add_command, add_order, add_task, add_line, in_jobs, in_tasks, order_by, removal_of}
 use Rattle.grs_deck.specs.Grow.{grow}
 use Rattle.grs_deck.specs.Places.{name_now, place_ordered, system_id, event_of}
-use Rattle.grs_deck.specs.Spells.{IsKnownOrder, IsRight, Says}
+use Rattle.grs_deck.specs.Spells.{IsKnownOrder, MayStand, Says}
 
-abbrev name_of : SystemDef → List ℕ
+abbrev pub name_of : SystemDef → List ℕ
 name_of s = s.name
 
 -- ---- the names of statements to come
 
--- another statement than SYSTEM and SCHEDULE gives no name
-quiet_names : (entries : ℕ) (l : TokenLine) (ls : List TokenLine) (st : Stmt) → Spells false entries l st
-    → (st ≡ stmts.Schedule → ⊥) → ((n : List ℕ) → st ≡ stmts.System n → ⊥) → system_names (l ∷ ls) ≡ system_names ls
-quiet_names entries l ls st h other unnamed = named_here l ls (by_schedule l.tokens refl) ∙ by_name (name_given l) refl
+-- another statement than SCHEDULE doesn't begin with its word
+pub no_schedule : (entries : ℕ) (l : TokenLine) (st : Stmt) → Spells false entries l st
+    → (st ≡ stmts.Schedule → ⊥) → begins_schedule l ≡ false
+no_schedule entries l st h other = go (begins_schedule l) refl
   where
-    by_schedule : (ts : List Token) → l.tokens ≡ ts → is_schedule l.tokens ≡ false
-    by_schedule [] is = rw is refl
-    by_schedule (Word w ∷ []) is = go (bytes_eq w (codes "SCHEDULE")) refl
-      where
-        go : (b : Bool) → bytes_eq w (codes "SCHEDULE") ≡ b → is_schedule l.tokens ≡ false
-        go true e =
-            absurd (other (one_spelled false entries l st stmts.Schedule h
-            (h.0, is ∙ ap (λ (v : List ℕ). Word v ∷ []) (same_bytes w (codes "SCHEDULE") e))))
-        go false e = rw is e
-    by_schedule ts is = rw is refl
+    go : (b : Bool) → begins_schedule l ≡ b → begins_schedule l ≡ false
+    go true e = absurd (other (schedule_spelled entries l st h e))
+    go false e = e
 
-    by_name : (o : Option (List ℕ)) → name_given l ≡ o → cons_option (name_given l) (system_names ls) ≡ system_names ls
+-- another statement than SYSTEM and SCHEDULE gives no name
+pub quiet_names : (entries : ℕ) (l : TokenLine) (ls : List TokenLine) (st : Stmt) → Spells false entries l st
+    → (st ≡ stmts.Schedule → ⊥) → ((n : List ℕ) → st ≡ stmts.System n → ⊥)
+    → names_to_schedule (l ∷ ls) ≡ names_to_schedule ls
+quiet_names entries l ls st h other unnamed =
+    named_here l ls (no_schedule entries l st h other) ∙ by_name (name_given l) refl
+  where
+    by_name : (o : Option (List ℕ)) → name_given l ≡ o
+        → cons_option (name_given l) (names_to_schedule ls) ≡ names_to_schedule ls
     by_name None e = rw e refl
     by_name (Some n) e =
         absurd (unnamed n (one_spelled false entries l st (stmts.System n) h (spelled_name entries l n e).0))
 
 -- the names that are still to come, behind SCHEDULE or not
-abbrev to_come : Bool → List TokenLine → List (List ℕ)
+abbrev pub to_come : Bool → List TokenLine → List (List ℕ)
 to_come true ls = []
-to_come false ls = system_names ls
+to_come false ls = names_to_schedule ls
 
 -- the names of the systems so far, and those to come, are all names
-abbrev AreNamed : Draft → List TokenLine → Type 0
+abbrev pub AreNamed : Draft → List TokenLine → Type 0
 AreNamed d ls = d.names ≡ map name_of d.deck.systems ++ to_come d.scheduled ls
 
 -- a statement that gives none leaves them
 same_names : (d : Draft) (l : TokenLine) (ls : List TokenLine) (ss : List SystemDef) → d.scheduled ≡ false
-    → system_names (l ∷ ls) ≡ system_names ls → map name_of ss ≡ map name_of d.deck.systems → AreNamed d (l ∷ ls)
+    → names_to_schedule (l ∷ ls) ≡ names_to_schedule ls → map name_of ss ≡ map name_of d.deck.systems
+    → AreNamed d (l ∷ ls)
     → d.names ≡ map name_of ss ++ to_come (d.scheduled || false) ls
 same_names d l ls ss early quiet same h = h ∙ rw (early, quiet, same) refl
 
@@ -83,10 +85,7 @@ order_names at None ss = refl
 order_names at (Some o) ss = map_same name_of _ ss (λ s. refl)
 
 names_first : (d : Draft) (l : TokenLine) (ls : List TokenLine) (st : Stmt) → d.scheduled ≡ false
-    → Spells false d.deck.entries l st → IsRight d st → AreNamed d (l ∷ ls) → AreNamed (grow d st) ls
-names_first d l ls stmts.Unbuilt early s right h =
-    same_names d l ls d.deck.systems early (quiet_names d.deck.entries l ls stmts.Unbuilt s (λ e. cc) (λ n e. cc)) refl
-    h
+    → Spells false d.deck.entries l st → MayStand d st → AreNamed d (l ∷ ls) → AreNamed (grow d st) ls
 names_first d l ls (stmts.Complex c) early s right h =
     same_names d l ls d.deck.systems early (quiet_names d.deck.entries l ls (stmts.Complex c) s (λ e. cc) (λ n e. cc))
     refl h
@@ -94,12 +93,12 @@ names_first d l ls (stmts.Rnldef r) early s right h =
     same_names d l ls d.deck.systems early (quiet_names d.deck.entries l ls (stmts.Rnldef r) s (λ e. cc) (λ n e. cc))
     refl h
 names_first d l ls (stmts.System n) early s right h =
-    let schedule : is_schedule l.tokens ≡ false = rw s.1.0 refl in
-    let come : system_names (l ∷ ls) ≡ n ∷ system_names ls =
-    named_here l ls schedule ∙ rw (given_name d.deck.entries l n s right.0.sized) refl in
+    let schedule : begins_schedule l ≡ false = no_schedule d.deck.entries l (stmts.System n) s (λ e. cc) in
+    let come : names_to_schedule (l ∷ ls) ≡ n ∷ names_to_schedule ls =
+    named_here l ls schedule ∙ rw (given_name d.deck.entries l n s right.sized) refl in
     h
     ∙ rw (early, come, map-append name_of d.deck.systems (record { name = n; desk = []; jobs = [] } ∷ []))
-    (sym (append_assoc (map name_of d.deck.systems) (n ∷ []) (system_names ls)))
+    (sym (append_assoc (map name_of d.deck.systems) (n ∷ []) (names_to_schedule ls)))
 names_first d l ls (stmts.Job n) early s right h =
     same_names d l ls (in_jobs (λ js. js ++ record { name = n; tasks = [] } ∷ []) d.deck.systems) early
     (quiet_names d.deck.entries l ls (stmts.Job n) s (λ e. cc) (λ m e. cc))
@@ -116,7 +115,8 @@ names_first d l ls (stmts.Command c) early s right h =
     same_names d l ls (add_order c.at (order_by (place_ordered d.names c.order) c.order) d.deck.systems) early
     (quiet_names d.deck.entries l ls (stmts.Command c) s (λ e. cc) (λ m e. cc))
     (order_names c.at (order_by (place_ordered d.names c.order) c.order) d.deck.systems) h
-names_first d l ls stmts.Schedule early s right h = h ∙ rw (early, none_behind l ls (rw s.1 refl)) refl
+names_first d l ls stmts.Schedule early s right h =
+    h ∙ rw (early, none_behind l ls (begins_with_schedule l s.0 s.1)) refl
 names_first d l ls (stmts.Event n a) early s right h = absurd s.1
 
 names_event : (d : Draft) (l : TokenLine) (ls : List TokenLine) (st : Stmt) → d.scheduled ≡ true
@@ -125,7 +125,7 @@ names_event d l ls (stmts.Event n a) late s h = h ∙ rw (late, event_systems (e
 names_event d l ls _ late s h = absurd s
 
 names_grow : (d : Draft) (l : TokenLine) (ls : List TokenLine) (st : Stmt) → Spells d.scheduled d.deck.entries l st
-    → IsRight d st → AreNamed d (l ∷ ls) → AreNamed (grow d st) ls
+    → MayStand d st → AreNamed d (l ∷ ls) → AreNamed (grow d st) ls
 names_grow d l ls st s right h = go d.scheduled refl
   where
     go : (b : Bool) → d.scheduled ≡ b → AreNamed (grow d st) ls
@@ -210,9 +210,8 @@ order_fits d come (orders.Vary n) known names p is k e = by_place (name_place d.
             (ap (λ (b : Bool). cond b (Some (Vary (system_id m))) None) (sym lt) ∙ removal))
             (at.0, other)
 
-orders_grow : (d : Draft) (l : TokenLine) (ls : List TokenLine) (st : Stmt) → IsRight d st → AreNamed d (l ∷ ls)
+orders_grow : (d : Draft) (l : TokenLine) (ls : List TokenLine) (st : Stmt) → MayStand d st → AreNamed d (l ∷ ls)
     → AreOrders (length d.names) 0 d.deck.systems → AreOrders (length d.names) 0 (grow d st).deck.systems
-orders_grow d l ls stmts.Unbuilt right names h = h
 orders_grow d l ls (stmts.Complex c) right names h = h
 orders_grow d l ls (stmts.Rnldef r) right names h = h
 orders_grow d l ls (stmts.System n) right names h = orders-system (length d.names) 0 n d.deck.systems h
@@ -231,7 +230,7 @@ orders_grow d l ls (stmts.Command c) right names h = go (order_by (place_ordered
         rw is (orders-command (length d.names) 0 (record { at = c.at; order = p }) d.deck.systems
         (λ k e. let same : k ≡ 0 + k = omega arith in
         subst (λ (m : ℕ). IsOrderOf (length d.names) m p) same
-        (order_fits d (to_come d.scheduled (l ∷ ls)) c.order right.0.known names p is k e))
+        (order_fits d (to_come d.scheduled (l ∷ ls)) c.order right.known names p is k e))
         h)
 orders_grow d l ls stmts.Schedule right names h = h
 orders_grow d l ls (stmts.Event n a) right names h =
@@ -246,7 +245,7 @@ says_ordered (l ∷ ls) d e s names h =
 
 no_more : (b : Bool) → to_come b [] ≡ []
 no_more true = refl
-no_more false = none_left [] refl
+no_more false = no_lines
 
 -- Of statements that are all right each command removes another system of the deck.
 pub says_orders : (ls : List TokenLine) (d e : Draft) → Says d ls e → AreNamed d ls

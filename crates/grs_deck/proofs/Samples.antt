@@ -5,7 +5,7 @@ use Rattle.std.proofs.lemmas.List.Elements.{All-nil, All-push}
 use Rattle.grs_base.specs.declared.fault.DeckFault.{DeckFault}
 use Rattle.grs_base.specs.declared.fault.Kind.{Kind}
 use Rattle.grs_base.specs.declared.fault.Kind.TheVariants.{BadByte, UnknownStatement, BadOperand, NameLength, Repeated}
-use Rattle.grs_base.specs.declared.fault.Kind.TheVariants.{OutOfPlace, TooMany, UnknownName, NoSystem, NotBuilt}
+use Rattle.grs_base.specs.declared.fault.Kind.TheVariants.{OutOfPlace, TooMany, UnknownName, NoSystem}
 use Rattle.grs_base.specs.declared.resource.Ctl.TheVariants.{E, S}
 use Rattle.grs_base.specs.declared.resource.Ret.TheVariants.{RetNone, RetUse}
 use Rattle.grs_base.specs.declared.rnl.Which.TheVariants.{Excl}
@@ -29,16 +29,17 @@ use Rattle.job_syntax.specs.Unit.{unit_of}
 use Rattle.job_syntax.specs.Options.{ret_of, rnl_of, chosen, option_at, options_at}
 use Rattle.job_syntax.specs.Ask.{ctl_at, scope_at, names_at, place_at, controlled_at, uncontrolled_at, enq_at}
 use Rattle.job_syntax.specs.Ask.{reserve_at, deq_at, wait_at}
+use Rattle.job_syntax.specs.Display.{reach_of, want_of, want_at, scan_at, resource_at, shown_at, display_at}
 use Rattle.job_syntax.specs.LineAsk.{line_word, line_ask_at}
 use Rattle.rnl_syntax.specs.Operands.{which_of, form_of, value_of, operand_at as rnl_operand_at, whole as whole_rnl}
 use Rattle.rnl_syntax.specs.Operands.{rnldef_at}
 use Rattle.deck_form.specs.Statements.{statements_from, statements}
-use Rattle.deck_form.specs.SystemNames.{name_given, system_names, name_place}
+use Rattle.deck_form.specs.SystemNames.{name_given, begins_schedule, names_to_schedule, system_names}
+use Rattle.deck_form.specs.SystemNames.{name_place}
 use Rattle.deck_form.specs.Words.{short_at, dotted_at, digits, written_number, named_at}
 use Rattle.deck_form.specs.Complex.{mode_of, entries_of, limit_of, with_operand, operand_at, complex_at}
 use Rattle.deck_form.specs.Command.{setgrs_at, vary_at, order_at, command_at}
 use Rattle.deck_form.specs.Event.{event_word, pair_at, entry_at, act_at, event_at}
-use Rattle.deck_form.specs.UnbuiltWord.{is_unbuilt_word}
 use Rattle.deck_form.specs.Form.{key, plain_form, first_form, event_form, form}
 use Rattle.grs_deck.specs.Places.{system_place, job_place, task_place}
 use Rattle.grs_deck.specs.Faults.{IsFault}
@@ -60,6 +61,10 @@ FaultOf t f = fault t ≡ f
 abbrev in_task : List (List ℕ) → List ℕ
 in_task ls = text (codes "SYSTEM SYA" ∷ codes "JOB J1" ∷ codes "TASK T1" ∷ ls)
 
+-- lines behind the removal of SYB at the desk of SYA
+abbrev behind : List (List ℕ) → List ℕ
+behind ls = text (codes "SYSTEM SYA" ∷ codes "AT 0 VARY GRS(SYB),PURGE" ∷ ls)
+
 -- bytes and comments: a tab; a tab behind a fault; CR before LF; CR alone; an unclosed comment; one behind a statement;
 -- a comment over lines; no statement
 bytes :
@@ -76,9 +81,9 @@ unfolding is_word is_hex digit is_allowed bad_line put put_word put_open end_lin
     written_number unit_of ret_of rnl_of chosen option_at options_at ctl_at scope_at names_at place_at controlled_at
     uncontrolled_at enq_at reserve_at deq_at wait_at line_ask_at line_word which_of form_of value_of rnl_operand_at
     whole_rnl rnldef_at mode_of entries_of limit_of with_operand operand_at complex_at event_word pair_at entry_at
-    act_at event_at setgrs_at vary_at order_at command_at is_unbuilt_word named_at key plain_form first_form event_form
-    form statements_from statements name_given system_names name_place system_place job_place task_place judge judge_all
-    reading fault
+    act_at event_at setgrs_at vary_at order_at command_at named_at key plain_form first_form event_form form
+    statements_from statements name_given begins_schedule names_to_schedule system_names name_place system_place
+    job_place task_place judge judge_all reading fault
 bytes = (refl, refl, refl, refl, refl, refl, refl, refl)
 
 -- words and forms before SCHEDULE: no word; a joined word; a quoted word; a digit first; a long name; the limit 0;
@@ -104,9 +109,9 @@ unfolding is_word is_hex digit is_allowed bad_line put put_word put_open end_lin
     written_number unit_of ret_of rnl_of chosen option_at options_at ctl_at scope_at names_at place_at controlled_at
     uncontrolled_at enq_at reserve_at deq_at wait_at line_ask_at line_word which_of form_of value_of rnl_operand_at
     whole_rnl rnldef_at mode_of entries_of limit_of with_operand operand_at complex_at event_word pair_at entry_at
-    act_at event_at setgrs_at vary_at order_at command_at is_unbuilt_word named_at key plain_form first_form event_form
-    form statements_from statements name_given system_names name_place system_place job_place task_place judge judge_all
-    reading fault
+    act_at event_at setgrs_at vary_at order_at command_at named_at key plain_form first_form event_form form
+    statements_from statements name_given begins_schedule names_to_schedule system_names name_place system_place
+    job_place task_place judge judge_all reading fault
 words_and_forms = (refl, refl, refl, refl, refl, refl, refl, refl, refl, refl, refl, refl, refl, refl)
 
 -- task lines: an empty qname; a blank one; nine bytes of which eight are blanks; RET and ECB; RET twice; each option of
@@ -131,9 +136,9 @@ unfolding is_word is_hex digit is_allowed bad_line put put_word put_open end_lin
     written_number unit_of ret_of rnl_of chosen option_at options_at ctl_at scope_at names_at place_at controlled_at
     uncontrolled_at enq_at reserve_at deq_at wait_at line_ask_at line_word which_of form_of value_of rnl_operand_at
     whole_rnl rnldef_at mode_of entries_of limit_of with_operand operand_at complex_at event_word pair_at entry_at
-    act_at event_at setgrs_at vary_at order_at command_at is_unbuilt_word named_at key plain_form first_form event_form
-    form statements_from statements name_given system_names name_place system_place job_place task_place judge judge_all
-    reading fault
+    act_at event_at setgrs_at vary_at order_at command_at named_at key plain_form first_form event_form form
+    statements_from statements name_given begins_schedule names_to_schedule system_names name_place system_place
+    job_place task_place judge judge_all reading fault
 task_lines = (refl, refl, refl, refl, refl, refl, refl, refl, refl, refl, refl, refl, refl)
 
 -- RESERVE: UCB among its options; without UCB; another scope; RNL twice
@@ -147,9 +152,9 @@ unfolding is_word is_hex digit is_allowed bad_line put put_word put_open end_lin
     written_number unit_of ret_of rnl_of chosen option_at options_at ctl_at scope_at names_at place_at controlled_at
     uncontrolled_at enq_at reserve_at deq_at wait_at line_ask_at line_word which_of form_of value_of rnl_operand_at
     whole_rnl rnldef_at mode_of entries_of limit_of with_operand operand_at complex_at event_word pair_at entry_at
-    act_at event_at setgrs_at vary_at order_at command_at is_unbuilt_word named_at key plain_form first_form event_form
-    form statements_from statements name_given system_names name_place system_place job_place task_place judge judge_all
-    reading fault
+    act_at event_at setgrs_at vary_at order_at command_at named_at key plain_form first_form event_form form
+    statements_from statements name_given begins_schedule names_to_schedule system_names name_place system_place
+    job_place task_place judge judge_all reading fault
 reserves = (refl, refl, refl, refl)
 
 -- RNLDEF: broken off; over lines, with a line end in a comment and between any tokens; an operand twice, on a further
@@ -177,15 +182,22 @@ unfolding is_word is_hex digit is_allowed bad_line put put_word put_open end_lin
     written_number unit_of ret_of rnl_of chosen option_at options_at ctl_at scope_at names_at place_at controlled_at
     uncontrolled_at enq_at reserve_at deq_at wait_at line_ask_at line_word which_of form_of value_of rnl_operand_at
     whole_rnl rnldef_at mode_of entries_of limit_of with_operand operand_at complex_at event_word pair_at entry_at
-    act_at event_at setgrs_at vary_at order_at command_at is_unbuilt_word named_at key plain_form first_form event_form
-    form statements_from statements name_given system_names name_place system_place job_place task_place judge judge_all
-    reading fault
+    act_at event_at setgrs_at vary_at order_at command_at named_at key plain_form first_form event_form form
+    statements_from statements name_given begins_schedule names_to_schedule system_names name_place system_place
+    job_place task_place judge judge_all reading fault
 name_lists = (refl, refl, refl, refl, refl, refl, refl, refl, refl, refl)
 
--- what is not built: words; and what is wrong comes first. MODE(STAR) is
-unbuilt :
-    FaultOf (text (codes "D" ∷ [])) (at 1 NotBuilt)
-    × FaultOf (in_task (codes "GQSCAN SCOPE=GLOBAL" ∷ [])) (at 4 NotBuilt)
+-- lines that show lists: D alone; a GQSCAN without a task; one; without SCOPE; with names in either order; with an
+-- empty name; DISPLAY in both forms. And MODE(STAR)
+displays :
+    FaultOf (text (codes "D" ∷ [])) (at 1 BadOperand)
+    × FaultOf (text (codes "SYSTEM SYA" ∷ codes "GQSCAN SCOPE=GLOBAL" ∷ [])) (at 2 OutOfPlace)
+    × FaultOf (in_task (codes "GQSCAN SCOPE=GLOBAL" ∷ [])) None
+    × FaultOf (in_task (codes "GQSCAN QNAME=A" ∷ [])) (at 4 BadOperand)
+    × FaultOf (in_task (codes "GQSCAN SCOPE=LOCAL,RNAME=B,QNAME=A" ∷ [])) None
+    × FaultOf (in_task (codes "GQSCAN SCOPE=LOCAL,RNAME=''" ∷ [])) (at 4 NameLength)
+    × FaultOf (in_task (codes "D GRS,C" ∷ codes "DISPLAY GRS,RES=(A,B)" ∷ [])) None
+    × FaultOf (in_task (codes "DISPLAY GRS,RES=(A)" ∷ [])) (at 4 BadOperand)
     × FaultOf (text (codes "COMPLEX MODE(STAR)" ∷ [])) (at 0 NoSystem)
     × FaultOf (text (codes "COMPLEX MODE(STAR) MODE(STAR)" ∷ [])) (at 1 BadOperand)
     × FaultOf (in_task (codes "ENQ (A,B,E,SYSTEMS)" ∷ [])) None
@@ -194,12 +206,12 @@ unbuilt :
 unfolding is_word is_hex digit is_allowed bad_line put put_word put_open end_line break_off begin_word begin step_in
     step scan_from finish_in lines_of lines_or_fault is_name_byte all_name is_name short_at dotted_at digits
     written_number unit_of ret_of rnl_of chosen option_at options_at ctl_at scope_at names_at place_at controlled_at
-    uncontrolled_at enq_at reserve_at deq_at wait_at line_ask_at line_word which_of form_of value_of rnl_operand_at
-    whole_rnl rnldef_at mode_of entries_of limit_of with_operand operand_at complex_at event_word pair_at entry_at
-    act_at event_at setgrs_at vary_at order_at command_at is_unbuilt_word named_at key plain_form first_form event_form
-    form statements_from statements name_given system_names name_place system_place job_place task_place judge judge_all
-    reading fault
-unbuilt = (refl, refl, refl, refl, refl, refl, refl)
+    uncontrolled_at enq_at reserve_at deq_at wait_at reach_of want_of want_at scan_at resource_at shown_at display_at
+    line_ask_at line_word which_of form_of value_of rnl_operand_at whole_rnl rnldef_at mode_of entries_of limit_of
+    with_operand operand_at complex_at event_word pair_at entry_at act_at event_at setgrs_at vary_at order_at command_at
+    named_at key plain_form first_form event_form form statements_from statements name_given begins_schedule
+    names_to_schedule system_names name_place system_place job_place task_place judge judge_all reading fault
+displays = (refl, refl, refl, refl, refl, refl, refl, refl, refl, refl, refl, refl, refl)
 
 -- commands: the change to star mode, at the last place where it may stand; its number with zeros in front; ten digits;
 -- no number; a number that another word ends; another mode; a word too many; the word alone; joined; before a system;
@@ -221,9 +233,9 @@ unfolding is_word is_hex digit is_allowed bad_line put put_word put_open end_lin
     written_number unit_of ret_of rnl_of chosen option_at options_at ctl_at scope_at names_at place_at controlled_at
     uncontrolled_at enq_at reserve_at deq_at wait_at line_ask_at line_word which_of form_of value_of rnl_operand_at
     whole_rnl rnldef_at mode_of entries_of limit_of with_operand operand_at complex_at event_word pair_at entry_at
-    act_at event_at setgrs_at vary_at order_at command_at is_unbuilt_word named_at key plain_form first_form event_form
-    form statements_from statements name_given system_names name_place system_place job_place task_place judge judge_all
-    reading fault
+    act_at event_at setgrs_at vary_at order_at command_at named_at key plain_form first_form event_form form
+    statements_from statements name_given begins_schedule names_to_schedule system_names name_place system_place
+    job_place task_place judge judge_all reading fault
 commands = (refl, refl, refl, refl, refl, refl, refl, refl, refl, refl, refl)
 
 -- removals: of a system further on; of one whose statement is wrong for another reason, behind another fault; of
@@ -254,10 +266,35 @@ unfolding is_word is_hex digit is_allowed bad_line put put_word put_open end_lin
     written_number unit_of ret_of rnl_of chosen option_at options_at ctl_at scope_at names_at place_at controlled_at
     uncontrolled_at enq_at reserve_at deq_at wait_at line_ask_at line_word which_of form_of value_of rnl_operand_at
     whole_rnl rnldef_at mode_of entries_of limit_of with_operand operand_at complex_at event_word pair_at entry_at
-    act_at event_at setgrs_at vary_at order_at command_at is_unbuilt_word named_at key plain_form first_form event_form
-    form statements_from statements name_given system_names name_place system_place job_place task_place judge judge_all
-    reading fault
+    act_at event_at setgrs_at vary_at order_at command_at named_at key plain_form first_form event_form form
+    statements_from statements name_given begins_schedule names_to_schedule system_names name_place system_place
+    job_place task_place judge judge_all reading fault
 removals = (refl, refl, refl, refl, refl, refl, refl, refl, refl)
+
+-- the names that a removal may give, of lines behind it: an RNLDEF keeps none from it, and is told on its own line, be
+-- its form wrong, or right, or its word joined; a line whose first word is SCHEDULE keeps those behind it, whatever
+-- else stands there; a joined one doesn't, nor does one in front of the first system
+named_behind :
+    FaultOf (behind (codes "RNLDEF X" ∷ codes "SYSTEM SYB" ∷ [])) (at 3 BadOperand)
+    × FaultOf (behind (codes "RNLDEF RNL(" ∷ codes "SYSTEM SYB" ∷ [])) (at 3 BadOperand)
+    × FaultOf (behind (codes "RNLDEF RNL(INCL) TYPE(GENERIC) QNAME(A)" ∷ codes "SYSTEM SYB" ∷ [])) (at 3 OutOfPlace)
+    × FaultOf (behind (codes "RNLDEF,X" ∷ codes "SYSTEM SYB" ∷ [])) (at 3 UnknownStatement)
+    × FaultOf (behind (codes "RNLDEF'" ∷ codes "SYSTEM SYB" ∷ [])) (at 3 UnknownStatement)
+    × FaultOf (behind (codes "RNLDEF X" ∷ codes "SCHEDULE" ∷ codes "Q Q" ∷ codes "SYSTEM SYB" ∷ [])) (at 2 UnknownName)
+    × FaultOf (behind (codes "SCHEDULE X" ∷ codes "SYSTEM SYB" ∷ [])) (at 2 UnknownName)
+    × FaultOf (behind (codes "SCHEDULE,X" ∷ codes "SYSTEM SYB" ∷ [])) (at 3 UnknownStatement)
+    × FaultOf (text (codes "RNLDEF RNL(INCL) TYPE(GENERIC) QNAME(" ∷ codes "SCHEDULE" ∷ codes ")" ∷ codes "SYSTEM SYA"
+    ∷ codes "AT 0 VARY GRS(SYB),PURGE" ∷ codes "SYSTEM SYB" ∷ []))
+    None
+unfolding is_word is_hex digit is_allowed bad_line put put_word put_open end_line break_off begin_word begin step_in
+    step scan_from finish_in lines_of lines_or_fault is_name_byte all_name is_name short_at dotted_at digits
+    written_number unit_of ret_of rnl_of chosen option_at options_at ctl_at scope_at names_at place_at controlled_at
+    uncontrolled_at enq_at reserve_at deq_at wait_at line_ask_at line_word which_of form_of value_of rnl_operand_at
+    whole_rnl rnldef_at mode_of entries_of limit_of with_operand operand_at complex_at event_word pair_at entry_at
+    act_at event_at setgrs_at vary_at order_at command_at named_at key plain_form first_form event_form form
+    statements_from statements name_given begins_schedule names_to_schedule system_names name_place system_place
+    job_place task_place judge judge_all reading fault
+named_behind = (refl, refl, refl, refl, refl, refl, refl, refl, refl)
 
 -- event lines: SCHEDULE again; no system; no task; no form; an entry out of range; one in range; a system that is
 -- itself; SCHEDULE behind a turn; a switch behind a rest; a removal of another; no task to send; a word too many
@@ -282,9 +319,9 @@ unfolding is_word is_hex digit is_allowed bad_line put put_word put_open end_lin
     written_number unit_of ret_of rnl_of chosen option_at options_at ctl_at scope_at names_at place_at controlled_at
     uncontrolled_at enq_at reserve_at deq_at wait_at line_ask_at line_word which_of form_of value_of rnl_operand_at
     whole_rnl rnldef_at mode_of entries_of limit_of with_operand operand_at complex_at event_word pair_at entry_at
-    act_at event_at setgrs_at vary_at order_at command_at is_unbuilt_word named_at key plain_form first_form event_form
-    form statements_from statements name_given system_names name_place system_place job_place task_place judge judge_all
-    reading fault
+    act_at event_at setgrs_at vary_at order_at command_at named_at key plain_form first_form event_form form
+    statements_from statements name_given begins_schedule names_to_schedule system_names name_place system_place
+    job_place task_place judge judge_all reading fault
 events = (refl, refl, refl, refl, refl, refl, refl, refl, refl, refl, refl, refl)
 
 -- a removal is of the system that the name is given to, by its number among all: of one further on, and of one before
@@ -307,9 +344,9 @@ unfolding is_word is_hex digit is_allowed bad_line put put_word put_open end_lin
     written_number unit_of ret_of rnl_of chosen option_at options_at ctl_at scope_at names_at place_at controlled_at
     uncontrolled_at enq_at reserve_at deq_at wait_at line_ask_at line_word which_of form_of value_of rnl_operand_at
     whole_rnl rnldef_at mode_of entries_of limit_of with_operand operand_at complex_at event_word pair_at entry_at
-    act_at event_at setgrs_at vary_at order_at command_at is_unbuilt_word named_at key plain_form first_form event_form
-    form statements_from statements name_given system_names name_place system_place job_place task_place judge judge_all
-    reading fault
+    act_at event_at setgrs_at vary_at order_at command_at named_at key plain_form first_form event_form form
+    statements_from statements name_given begins_schedule names_to_schedule system_names name_place system_place
+    job_place task_place judge judge_all reading fault
 removes = refl
 
 -- several systems: a name twice, behind another; a job of the other's name; a job twice in one; a task of the other
@@ -333,9 +370,9 @@ unfolding is_word is_hex digit is_allowed bad_line put put_word put_open end_lin
     written_number unit_of ret_of rnl_of chosen option_at options_at ctl_at scope_at names_at place_at controlled_at
     uncontrolled_at enq_at reserve_at deq_at wait_at line_ask_at line_word which_of form_of value_of rnl_operand_at
     whole_rnl rnldef_at mode_of entries_of limit_of with_operand operand_at complex_at event_word pair_at entry_at
-    act_at event_at setgrs_at vary_at order_at command_at is_unbuilt_word named_at key plain_form first_form event_form
-    form statements_from statements name_given system_names name_place system_place job_place task_place judge judge_all
-    reading fault
+    act_at event_at setgrs_at vary_at order_at command_at named_at key plain_form first_form event_form form
+    statements_from statements name_given begins_schedule names_to_schedule system_names name_place system_place
+    job_place task_place judge judge_all reading fault
 systems = (refl, refl, refl, refl, refl, refl, refl)
 
 abbrev whole : List ℕ
@@ -397,9 +434,9 @@ unfolding is_word is_hex digit is_allowed bad_line put put_word put_open end_lin
     written_number unit_of ret_of rnl_of chosen option_at options_at ctl_at scope_at names_at place_at controlled_at
     uncontrolled_at enq_at reserve_at deq_at wait_at line_ask_at line_word which_of form_of value_of rnl_operand_at
     whole_rnl rnldef_at mode_of entries_of limit_of with_operand operand_at complex_at event_word pair_at entry_at
-    act_at event_at setgrs_at vary_at order_at command_at is_unbuilt_word named_at key plain_form first_form event_form
-    form statements_from statements name_given system_names name_place system_place job_place task_place judge judge_all
-    reading fault
+    act_at event_at setgrs_at vary_at order_at command_at named_at key plain_form first_form event_form form
+    statements_from statements name_given begins_schedule names_to_schedule system_names name_place system_place
+    job_place task_place judge judge_all reading fault
 read = refl
 
 -- two systems with their events
@@ -445,9 +482,9 @@ unfolding is_word is_hex digit is_allowed bad_line put put_word put_open end_lin
     written_number unit_of ret_of rnl_of chosen option_at options_at ctl_at scope_at names_at place_at controlled_at
     uncontrolled_at enq_at reserve_at deq_at wait_at line_ask_at line_word which_of form_of value_of rnl_operand_at
     whole_rnl rnldef_at mode_of entries_of limit_of with_operand operand_at complex_at event_word pair_at entry_at
-    act_at event_at setgrs_at vary_at order_at command_at is_unbuilt_word named_at key plain_form first_form event_form
-    form statements_from statements name_given system_names name_place system_place job_place task_place judge judge_all
-    reading fault
+    act_at event_at setgrs_at vary_at order_at command_at named_at key plain_form first_form event_form form
+    statements_from statements name_given begins_schedule names_to_schedule system_names name_place system_place
+    job_place task_place judge judge_all reading fault
 ring_deck = refl
 
 -- two systems in star mode, with each event of that mode
@@ -480,9 +517,9 @@ unfolding is_word is_hex digit is_allowed bad_line put put_word put_open end_lin
     written_number unit_of ret_of rnl_of chosen option_at options_at ctl_at scope_at names_at place_at controlled_at
     uncontrolled_at enq_at reserve_at deq_at wait_at line_ask_at line_word which_of form_of value_of rnl_operand_at
     whole_rnl rnldef_at mode_of entries_of limit_of with_operand operand_at complex_at event_word pair_at entry_at
-    act_at event_at setgrs_at vary_at order_at command_at is_unbuilt_word named_at key plain_form first_form event_form
-    form statements_from statements name_given system_names name_place system_place job_place task_place judge judge_all
-    reading fault
+    act_at event_at setgrs_at vary_at order_at command_at named_at key plain_form first_form event_form form
+    statements_from statements name_given begins_schedule names_to_schedule system_names name_place system_place
+    job_place task_place judge judge_all reading fault
 star_deck = refl
 
 -- two systems at whose desks the change to star mode is commanded, and one of them making it
@@ -504,9 +541,9 @@ unfolding is_word is_hex digit is_allowed bad_line put put_word put_open end_lin
     written_number unit_of ret_of rnl_of chosen option_at options_at ctl_at scope_at names_at place_at controlled_at
     uncontrolled_at enq_at reserve_at deq_at wait_at line_ask_at line_word which_of form_of value_of rnl_operand_at
     whole_rnl rnldef_at mode_of entries_of limit_of with_operand operand_at complex_at event_word pair_at entry_at
-    act_at event_at setgrs_at vary_at order_at command_at is_unbuilt_word named_at key plain_form first_form event_form
-    form statements_from statements name_given system_names name_place system_place job_place task_place judge judge_all
-    reading fault
+    act_at event_at setgrs_at vary_at order_at command_at named_at key plain_form first_form event_form form
+    statements_from statements name_given begins_schedule names_to_schedule system_names name_place system_place
+    job_place task_place judge judge_all reading fault
 move_deck = refl
 
 -- the declared fault of a text: a system that is named again; a removal of no other system

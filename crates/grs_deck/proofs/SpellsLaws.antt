@@ -3,7 +3,7 @@ use Rattle.std.proofs.Common.{◌≡◌, ℕ, suc, ltb, ◌+◌, ◌<◌, Bool, 
 use Rattle.std.proofs.Common.{Option, Some, None, Result, Ok, Err, refl, sym, ap, subst, ◌∙◌, arith}
 use Rattle.std.specs.List.{list_any, position, position_or_len}
 use Rattle.std.proofs.lemmas.Bool.Decides.{nat_tests}
-use Rattle.std.specs.Prelude.{◌||◌, ◌≢◌, Contains, is_some, is_none}
+use Rattle.std.specs.Prelude.{◌&&◌, ◌||◌, ◌≢◌, Contains, is_some, is_none}
 use Rattle.std.specs.Str.{bytes_eq}
 use Rattle.std.proofs.lemmas.Bool.{ltb-false, le-ltb, lt-leb, eqb-false, eqb-true, ne_eqb, leb-false, or_parts}
 use Rattle.std.proofs.lemmas.List.Folds.{list_any_at}
@@ -37,16 +37,15 @@ use Rattle.deck_form.specs.Statements.{statements}
 use Rattle.deck_form.specs.SystemNames.{is_named, name_place}
 use Rattle.deck_form.proofs.Taken.{form_taken}
 use Rattle.deck_form.proofs.Again.{form_again}
-use Rattle.deck_form.specs.Unbuilt.{is_unbuilt}
 use Rattle.grs_deck.specs.declared.judge.Draft.{Draft}
 use Rattle.grs_deck.specs.Places.{name_now, desk_now, jobs_now, tasks_now, system_place, job_place, task_place}
 use Rattle.grs_deck.specs.Places.{event_of}
 use Rattle.grs_deck.specs.Judge.{is_too_long, list_of, has_long_name, has_long_order, has_bad_name, is_repeated}
 use Rattle.grs_deck.specs.Judge.{is_misplaced, is_full, removes_unknown, is_unknown, verdict}
-use Rattle.grs_deck.specs.Grow.{grow}
+use Rattle.grs_deck.specs.Grow.{shows, grow}
 use Rattle.grs_deck.specs.Reading.{judge, judge_all, first_draft, ended, reading, fault, fault_of}
 use Rattle.grs_deck.specs.Spells.{IsShort, IsShortAct, IsShortOrder, MakeNames, HasNames, IsSized, IsNew, IsPlaced}
-use Rattle.grs_deck.specs.Spells.{HasRoom, IsKnownOrder, IsKnown, IsRight, Says, SpellsDeck}
+use Rattle.grs_deck.specs.Spells.{HasRoom, IsKnownOrder, IsKnown, MayStand, Says, SpellsDeck}
 use Rattle.grs_deck.proofs.Distinct.{differs}
 use Rattle.grs_deck.proofs.FitsLaws.{NoFault, tests_of, judged}
 
@@ -74,6 +73,11 @@ there n h = let k = eqb-false n 0 h in omega (arith, k)
 
 there_not : (n : ℕ) → 0 < n → eqb n 0 ≡ false
 there_not n h = ne_eqb n 0 (λ e. omega (arith, e))
+
+-- a line that shows something has room among those that do
+shown_not : (b : Bool) (n : ℕ) → (b ≡ true → 0 < n) → (b && eqb n 0) ≡ false
+shown_not true n h = there_not n (h refl)
+shown_not false n h = refl
 
 fewer : (n m : ℕ) → leb n m ≡ false → m < n
 fewer n m h = leb-false n m h
@@ -239,7 +243,9 @@ room_by d (stmts.Rnldef r) h = fewer 4096 (length (list_of r.which d.deck.lists)
 room_by d (stmts.System n) h = fewer 8 (length d.deck.systems) h
 room_by d (stmts.Job n) h = fewer 64 (length (jobs_now d.deck.systems)) h
 room_by d (stmts.Task n) h = fewer 64 (task_count (jobs_now d.deck.systems)) h
-room_by d (stmts.Line s) h = there d.room h
+room_by d (stmts.Line s) h =
+    let k = or_parts (eqb d.room 0) (shows s && eqb d.displays 0) h in
+    (there d.room k.0, λ e. there d.displays (sym (ap (λ b. b && eqb d.displays 0) e) ∙ k.1))
 room_by d (stmts.Command c) h = fewer 64 (length (desk_now d.deck.systems)) h
 room_by d _ h = tt
 
@@ -248,18 +254,16 @@ known_by d (stmts.Event s a) h = some_of (event_of d.deck.systems s a) h
 known_by d (stmts.Command c) h = known_order d c.order h
 known_by d _ h = tt
 
-pub right_of : (d : Draft) (st : Stmt) → verdict d st ≡ None → IsRight d st
+pub right_of : (d : Draft) (st : Stmt) → verdict d st ≡ None → MayStand d st
 right_of d st h =
-    let t = tests_of d st h in (
-      record {
-        sized = sized_by st t.long;
-        new = new_by d st t.repeated;
-        placed = placed_by d st t.misplaced;
-        room = room_by d st t.full;
-        known = known_by d st t.unknown;
-      },
-      t.unbuilt,
-    )
+    let t = tests_of d st h in
+    record {
+      sized = sized_by st t.long;
+      new = new_by d st t.repeated;
+      placed = placed_by d st t.misplaced;
+      room = room_by d st t.full;
+      known = known_by d st t.unknown;
+    }
 
 names_fail : (q r : List ℕ) → MakeNames q r → are_bad_names q r ≡ false
 names_fail q r h = rw (h.0, h.1) refl
@@ -306,7 +310,8 @@ of_room d (stmts.Rnldef r) h = fewer_not 4096 (length (list_of r.which d.deck.li
 of_room d (stmts.System n) h = fewer_not 8 (length d.deck.systems) h
 of_room d (stmts.Job n) h = fewer_not 64 (length (jobs_now d.deck.systems)) h
 of_room d (stmts.Task n) h = fewer_not 64 (task_count (jobs_now d.deck.systems)) h
-of_room d (stmts.Line s) h = there_not d.room h
+of_room d (stmts.Line s) h =
+    both_false (eqb d.room 0) (shows s && eqb d.displays 0) (there_not d.room h.0) (shown_not (shows s) d.displays h.1)
 of_room d (stmts.Command c) h = fewer_not 64 (length (desk_now d.deck.systems)) h
 of_room d _ h = refl
 
@@ -316,23 +321,22 @@ of_known d (stmts.Command c) h = order_known d c.order h
 of_known d _ h = refl
 
 -- no test applies to a statement that is right
-pub no_test : (d : Draft) (st : Stmt) → IsRight d st
-    → NoFault (has_bad_name st) (is_repeated d st) (is_misplaced d st) (is_full d st) (is_unknown d st) (is_unbuilt st)
+pub no_test : (d : Draft) (st : Stmt) → MayStand d st
+    → NoFault (has_bad_name st) (is_repeated d st) (is_misplaced d st) (is_full d st) (is_unknown d st)
 no_test d st h = record {
-  long = of_sized st h.0.sized;
-  repeated = of_new d st h.0.new;
-  misplaced = of_placed d st h.0.placed;
-  full = of_room d st h.0.room;
-  unknown = of_known d st h.0.known;
-  unbuilt = h.1;
+  long = of_sized st h.sized;
+  repeated = of_new d st h.new;
+  misplaced = of_placed d st h.placed;
+  full = of_room d st h.room;
+  unknown = of_known d st h.known;
 }
 
-pub of_right : (d : Draft) (st : Stmt) → IsRight d st → verdict d st ≡ None
-of_right d st h = let t = no_test d st h in rw (t.long, t.repeated, t.misplaced, t.full, t.unknown, t.unbuilt) refl
+pub of_right : (d : Draft) (st : Stmt) → MayStand d st → verdict d st ≡ None
+of_right d st h = let t = no_test d st h in rw (t.long, t.repeated, t.misplaced, t.full, t.unknown) refl
 
 -- ---- lines
 
-pub judged_again : (d : Draft) (l : TokenLine) (st : Stmt) → Spells d.scheduled d.deck.entries l st → IsRight d st
+pub judged_again : (d : Draft) (l : TokenLine) (st : Stmt) → Spells d.scheduled d.deck.entries l st → MayStand d st
     → judge d l ≡ Ok (grow d st)
 unfolding judge
 judged_again d l st h k = rw (form_again d.scheduled d.deck.entries l st h, of_right d st k) refl
@@ -381,16 +385,16 @@ pub reading_spells : (text : List ℕ) (deck : Deck) → reading text ≡ Ok dec
 unfolding reading
 reading_spells text deck h =
     let b =
-    bind_ok (lines_or_fault text) (λ ls. judge_all (first_draft (statements ls)) (statements ls) >>= ended) deck h in
+    bind_ok (lines_or_fault text) (λ ls. judge_all (first_draft ls) (statements ls) >>= ended) deck h in
     let t = read_text text b.0 b.1 in
-    let j = bind_ok (judge_all (first_draft (statements b.0)) (statements b.0)) ended deck b.2 in
+    let j = bind_ok (judge_all (first_draft b.0) (statements b.0)) ended deck b.2 in
     let e = ended_there j.0 deck j.2 in
     record {
       short = t.short;
       lines = b.0;
       spelled = t.spelled;
       draft = j.0;
-      says = says (statements b.0) (first_draft (statements b.0)) j.0 j.1;
+      says = says (statements b.0) (first_draft b.0) j.0 j.1;
       is = e.1;
       system = subst (λ (x : Deck). 0 < length x.systems) e.1 e.0;
     }
@@ -402,7 +406,7 @@ spells_reading text deck h =
     let some : 0 < length h.draft.deck.systems = subst (λ (x : Deck). 0 < length x.systems) (sym h.is) h.system in
     rw (
       text_read text h.lines h.short h.spelled,
-      says_again (statements h.lines) (first_draft (statements h.lines)) h.draft h.says,
+      says_again (statements h.lines) (first_draft h.lines) h.draft h.says,
       there_not (length h.draft.deck.systems) some,
     )
     (ap no_error h.is)

@@ -37,7 +37,7 @@ use Rattle.grs_deck.specs.Places.{system_place, job_place, task_place, system_id
 use Rattle.grs_deck.specs.Places.{choice_of, event_of}
 use Rattle.grs_deck.specs.Grow.{with_event, grow}
 use Rattle.grs_deck.specs.Reading.{no_draft, first_draft, reading}
-use Rattle.grs_deck.specs.Spells.{IsRight, Says, SpellsDeck}
+use Rattle.grs_deck.specs.Spells.{MayStand, Says, SpellsDeck}
 use Rattle.grs_base.specs.Rnl.{no_entries}
 use Rattle.grs_base.specs.declared.rnl.Which.{Which}
 use Rattle.grs_base.specs.declared.rnl.Which.TheVariants.{Incl, Excl, Con}
@@ -48,6 +48,7 @@ use Rattle.grs_base.specs.NameLists.{IsListOf, AreLists}
 use Rattle.grs_deck.proofs.FitsLaws.{fits_grow, lists_grow}
 use Rattle.grs_deck.proofs.SpellsLaws.{no_test, reading_spells}
 use Rattle.grs_deck.proofs.Distinct.{once_none, once_grow}
+use Rattle.grs_deck.proofs.Named.{names_of_statements}
 use Rattle.grs_deck.proofs.Orders.{says_orders}
 use Rattle.grs_deck.proofs.TokenBytes.{are_of_bytes, spelled_bytes, statements_bytes}
 use Rattle.grs_deck.proofs.Growth.{Keeps, keeps_none, keeps_grow}
@@ -215,7 +216,6 @@ first_keeps d st fits lists entries limit none = record {
 spelled_first : (d : Draft) (l : TokenLine) (st : Stmt) → d.scheduled ≡ false → IsDraft d
     → Spells d.scheduled d.deck.entries l st → Fits (grow d st).deck.systems → AreLists (grow d st).deck.lists
     → IsDraft (grow d st)
-spelled_first d l stmts.Unbuilt e h s fits lists = first_keeps d stmts.Unbuilt fits lists h.entries h.limit (h.quiet e)
 spelled_first d l (stmts.Complex c) e h s fits lists =
     let at : Spells false d.deck.entries l (stmts.Complex c) =
     subst (λ (b : Bool). Spells b d.deck.entries l (stmts.Complex c)) e s in
@@ -241,10 +241,18 @@ spelled_first d l (stmts.Event n a) e h s fits lists =
     at.1)
 
 -- an event more
-event_more : (d : Draft) (room : ℕ) (n : List ℕ) (a : EventAct) (rest : List Token) (o : Option Event)
+event_more : (d : Draft) (room displays : ℕ) (n : List ℕ) (a : EventAct) (rest : List Token) (o : Option Event)
     → event_of d.deck.systems n a ≡ o → d.scheduled ≡ true → IsAct d.deck.entries rest a → IsDraft d
-    → IsDraft (record { deck = with_event o d.deck; names = d.names; begun = true; scheduled = true; room = room })
-event_more d room n a rest None is e act h = record {
+    → IsDraft
+    (record {
+      deck = with_event o d.deck;
+      names = d.names;
+      begun = true;
+      scheduled = true;
+      room = room;
+      displays = displays;
+    })
+event_more d room displays n a rest None is e act h = record {
   fits = h.fits;
   entries = h.entries;
   limit = h.limit;
@@ -252,7 +260,7 @@ event_more d room n a rest None is e act h = record {
   events = h.events;
   quiet = λ k. absurd cc;
 }
-event_more d room n a rest (Some v) is e act h = record {
+event_more d room displays n a rest (Some v) is e act h = record {
   fits = h.fits;
   entries = h.entries;
   limit = h.limit;
@@ -266,11 +274,11 @@ event_more d room n a rest (Some v) is e act h = record {
 spelled_event : (d : Draft) (l : TokenLine) (st : Stmt) → d.scheduled ≡ true → IsDraft d
     → Spells true d.deck.entries l st → IsDraft (grow d st)
 spelled_event d l (stmts.Event n a) e h s =
-    rw e (event_more d (d.room - 0) n a s.0 (event_of d.deck.systems n a) refl e s.3 h)
+    rw e (event_more d (d.room - 0) (d.displays - 0) n a s.0 (event_of d.deck.systems n a) refl e s.3 h)
 spelled_event d l _ e h s = absurd s
 
-step_keeps : (d : Draft) (l : TokenLine) (st : Stmt) → IsDraft d → Spells d.scheduled d.deck.entries l st → IsRight d st
-    → IsDraft (grow d st)
+step_keeps : (d : Draft) (l : TokenLine) (st : Stmt) → IsDraft d → Spells d.scheduled d.deck.entries l st
+    → MayStand d st → IsDraft (grow d st)
 step_keeps d l st h s right = go d.scheduled refl
   where
     go : (b : Bool) → d.scheduled ≡ b → IsDraft (grow d st)
@@ -308,27 +316,25 @@ says_once [] d e s h = subst (λ (x : Draft). AreNamedOnce x.deck.systems) s h
 says_once (l ∷ ls) d e s h = says_once ls (grow d s.0) e s.3 (once_grow d s.0 s.2 h)
 
 lines_of_deck : (d : Draft) → Keeps d → AreLines (all_lines d.deck.systems)
-lines_of_deck d h =
-    let none : length (filter is_display (all_lines d.deck.systems)) ≡ 0 = ap length h.displays in
-    record { few = omega (arith, h.room); displays = omega (arith, none); each = h.lines }
+lines_of_deck d h = record { few = omega (arith, h.room); displays = omega (arith, h.displays); each = h.lines }
 
 -- Each deck that is spelled is whole.
 pub spelled_whole : (text : List ℕ) (d : Deck) → SpellsDeck text d → IsDeck d
 spelled_whole text d h =
     let ss = statements h.lines in
-    let start = first_draft ss in
-    let w = says_keeps ss start h.draft h.says (none_read (system_names ss)) in
+    let start = first_draft h.lines in
+    let w = says_keeps ss start h.draft h.says (none_read (system_names h.lines)) in
     let some : 0 < length h.draft.deck.systems = subst (λ (x : Deck). 0 < length x.systems) (sym h.is) h.system in
     let k =
     says_keep ss start h.draft (statements_bytes h.lines (spelled_bytes text h.lines h.spelled)) h.says
-    (keeps_none (system_names ss)) in
+    (keeps_none (system_names h.lines)) in
     let made :
     IsDeck h.draft.deck = record {
       some = some;
       fits = w.fits;
       names = k.names;
       once = says_once ss start h.draft h.says once_none;
-      orders = says_orders ss start h.draft h.says refl tt;
+      orders = says_orders ss start h.draft h.says (names_of_statements h.lines start h.draft refl refl h.says) tt;
       lines = lines_of_deck h.draft k;
       named = k.entries;
       entries = w.entries;

@@ -14,7 +14,6 @@ use Rattle.deck_scan.specs.Reading.{byte_fault}
 use Rattle.deck_form.specs.declared.form.Stmt.{Stmt}
 use Rattle.deck_form.specs.Spelled.{Spells, IsNoStatement}
 use Rattle.deck_form.specs.Statements.{statements}
-use Rattle.deck_form.specs.Unbuilt.{is_unbuilt}
 use Rattle.grs_deck.specs.declared.judge.Draft.{Draft}
 use Rattle.grs_deck.specs.Reading.{first_draft}
 use Rattle.grs_deck.specs.Spells.{IsSized, IsNew, IsPlaced, HasRoom, IsKnown, Says, SpellsDeck}
@@ -37,7 +36,7 @@ number NotBuilt = 11
 abbrev pub SomeStmt : Draft → TokenLine → (Stmt → Type 0) → Type 0
 SomeStmt d l P = (st : Stmt) × Spells d.scheduled d.deck.entries l st × (P st → ⊥)
 
--- Which kinds apply to a line behind the lines that made this deck.
+-- Which kinds apply to a line behind the lines that made this deck. All forms are built, so NotBuilt never does.
 abbrev pub Applies : Kind → Draft → TokenLine → Type 0
 Applies UnknownStatement d l = IsNoStatement UnknownStatement d.scheduled d.deck.entries l
 Applies BadOperand d l = IsNoStatement BadOperand d.scheduled d.deck.entries l
@@ -46,7 +45,6 @@ Applies Repeated d l = SomeStmt d l (IsNew d)
 Applies OutOfPlace d l = SomeStmt d l (IsPlaced d)
 Applies TooMany d l = SomeStmt d l (HasRoom d)
 Applies UnknownName d l = SomeStmt d l (IsKnown d)
-Applies NotBuilt d l = SomeStmt d l (λ st. is_unbuilt st ≡ false)
 Applies _ d l = ⊥
 
 -- The least kind that applies.
@@ -66,9 +64,9 @@ pub record FaultyLine (ls : List TokenLine) (start : Draft) (f : DeckFault) : Ty
   pub least : IsLeast f.kind before line
 
 -- All lines are right, and there is no system.
-pub record NoSystemSaid (ls : List TokenLine) (f : DeckFault) : Type 0 where
+pub record NoSystemSaid (ls : List TokenLine) (start : Draft) (f : DeckFault) : Type 0 where
   pub draft : Draft
-  pub says : Says (first_draft ls) ls draft
+  pub says : Says start ls draft
   pub none : length draft.deck.systems ≡ 0
   pub is : f ≡ record { line = 0; kind = NoSystem }
 
@@ -77,7 +75,8 @@ pub record FaultOfLines (text : List ℕ) (f : DeckFault) : Type 0 where
   pub allowed : byte_fault text ≡ None
   pub lines : List TokenLine
   pub spelled : SpellsLines text lines
-  pub fault : FaultyLine (statements lines) (first_draft (statements lines)) f ⊎ NoSystemSaid (statements lines) f
+  pub fault :
+      FaultyLine (statements lines) (first_draft lines) f ⊎ NoSystemSaid (statements lines) (first_draft lines) f
 
 -- The fault of length or bytes comes before that of lines.
 abbrev pub IsFault : List ℕ → DeckFault → Type 0

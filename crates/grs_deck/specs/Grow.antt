@@ -17,6 +17,8 @@ use Rattle.grs_wire.specs.declared.deck.SystemDef.{SystemDef}
 use Rattle.grs_wire.specs.declared.deck.Event.{Event}
 use Rattle.grs_wire.specs.declared.deck.Deck.{Deck}
 use Rattle.job_syntax.specs.Lines.{line_of}
+use Rattle.job_syntax.specs.declared.line_ask.LineAsk.{LineAsk}
+use Rattle.job_syntax.specs.declared.line_ask.LineAsk.TheVariants as asks
 use Rattle.rnl_syntax.specs.Operands.{entry_of}
 use Rattle.deck_form.specs.declared.command.GivenOrder.{GivenOrder}
 use Rattle.deck_form.specs.declared.command.GivenOrder.TheVariants as orders
@@ -106,7 +108,6 @@ with_entry e lists = in_list e.which e lists
 
 -- What a statement adds to a deck, where a name that its command says has this place among those of the systems.
 abbrev pub grow_deck : Option ℕ → Deck → Stmt → Deck
-grow_deck place deck stmts.Unbuilt = deck
 grow_deck place deck (stmts.Complex c) = with_setup c deck
 grow_deck place deck (stmts.Rnldef r) = record deck { lists = with_entry (entry_of r) deck.lists }
 grow_deck place deck (stmts.System n) =
@@ -127,6 +128,19 @@ abbrev pub line_count : Stmt → ℕ
 line_count (stmts.Line s) = 1
 line_count _ = 0
 
+-- Whether a task line shows something, and how many such lines a statement is.
+abbrev pub shows : LineAsk → Bool
+shows (asks.Enq e) = false
+shows (asks.Reserve e) = false
+shows (asks.Deq a) = false
+shows (asks.Wait a) = false
+shows (asks.Gqscan s) = true
+shows (asks.Display s) = true
+
+abbrev pub display_count : Stmt → ℕ
+display_count (stmts.Line s) = cond (shows s) 1 0
+display_count _ = 0
+
 -- A deck so far with a statement more.
 abbrev pub grow : Draft → Stmt → Draft
 grow d st =
@@ -135,4 +149,5 @@ grow d st =
       begun = true;
       scheduled = d.scheduled || is_schedule st;
       room = d.room - line_count st;
+      displays = d.displays - display_count st;
     }

@@ -1,5 +1,5 @@
 -- What is wrong with a statement, where a deck has been read so far.
-use Rattle.std.specs.Prelude.{ℕ, Bool, false, not, ◌||◌, ◌==◌, nat_lt, nat_le, List, length, Option, Some, None}
+use Rattle.std.specs.Prelude.{ℕ, Bool, false, not, ◌&&◌, ◌||◌, ◌==◌, nat_lt, nat_le, List, length, Option, Some, None}
 use Rattle.std.specs.Prelude.{is_some, is_none, if◌then◌else◌}
 use Rattle.std.specs.Str.{bytes_eq}
 use Rattle.grs_base.specs.Rnl.{RnlView}
@@ -8,7 +8,6 @@ use Rattle.grs_base.specs.declared.rnl.Which.TheVariants.{Incl, Excl, Con}
 use Rattle.grs_base.specs.declared.rnl.Lists.{Lists}
 use Rattle.grs_base.specs.declared.fault.Kind.{Kind}
 use Rattle.grs_base.specs.declared.fault.Kind.TheVariants.{NameLength, Repeated, OutOfPlace, TooMany, UnknownName}
-use Rattle.grs_base.specs.declared.fault.Kind.TheVariants.{NotBuilt}
 use Rattle.grs_wire.specs.declared.deck.SystemDef.{SystemDef}
 use Rattle.grs_wire.specs.declared.deck.Deck.{Deck}
 use Rattle.grs_wire.specs.Decks.{task_count}
@@ -21,8 +20,8 @@ use Rattle.deck_form.specs.declared.event.EventAct.TheVariants as acts
 use Rattle.deck_form.specs.declared.form.Stmt.{Stmt}
 use Rattle.deck_form.specs.declared.form.Stmt.TheVariants as stmts
 use Rattle.deck_form.specs.SystemNames.{name_place}
-use Rattle.deck_form.specs.Unbuilt.{is_unbuilt}
 use Rattle.grs_deck.specs.declared.judge.Draft.{Draft}
+use Rattle.grs_deck.specs.Grow.{shows}
 use Rattle.grs_base.specs.Limits.{most_systems, most_entries, most_name_bytes, most_commands, most_jobs, most_tasks}
 use Rattle.grs_deck.specs.Places.{name_now, desk_now, jobs_now, tasks_now, system_place, job_place, task_place}
 use Rattle.grs_deck.specs.Places.{event_of}
@@ -43,7 +42,6 @@ has_long_order (orders.Vary n) = is_too_long n
 
 -- A name that is too short or too long.
 abbrev pub has_bad_name : Stmt → Bool
-has_bad_name stmts.Unbuilt = false
 has_bad_name (stmts.Complex c) = false
 has_bad_name (stmts.Rnldef r) = rnldef_has_bad_name r
 has_bad_name (stmts.System n) = is_too_long n
@@ -71,7 +69,6 @@ is_away systems = (length systems == 0) || not (length (jobs_now systems) == 0)
 
 -- A statement at another place than its own.
 abbrev pub is_misplaced : Draft → Stmt → Bool
-is_misplaced d stmts.Unbuilt = false
 is_misplaced d (stmts.Complex c) = d.begun
 is_misplaced d (stmts.Rnldef r) = not (length d.deck.systems == 0)
 is_misplaced d (stmts.System n) = false
@@ -98,7 +95,7 @@ is_full d (stmts.Rnldef r) = is_list_full d.deck.lists r.which
 is_full d (stmts.System n) = nat_le most_systems (length d.deck.systems)
 is_full d (stmts.Job n) = nat_le most_jobs (length (jobs_now d.deck.systems))
 is_full d (stmts.Task n) = nat_le most_tasks (task_count (jobs_now d.deck.systems))
-is_full d (stmts.Line s) = d.room == 0
+is_full d (stmts.Line s) = (d.room == 0) || (shows s && (d.displays == 0))
 is_full d (stmts.Command c) = nat_le most_commands (length (desk_now d.deck.systems))
 is_full d _ = false
 
@@ -126,5 +123,4 @@ verdict d st =
     else if is_misplaced d st then Some OutOfPlace
     else if is_full d st then Some TooMany
     else if is_unknown d st then Some UnknownName
-    else if is_unbuilt st then Some NotBuilt
     else None

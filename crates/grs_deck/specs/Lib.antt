@@ -4,4 +4,5 @@ pub mod Judge
 pub mod Grow
 pub mod Reading
 pub mod Spells
+pub mod EventLines
 pub mod Faults

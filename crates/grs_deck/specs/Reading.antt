@@ -8,7 +8,7 @@ use Rattle.grs_base.specs.declared.fault.ReadError.{ReadError}
 use Rattle.grs_base.specs.Rnl.{no_entries}
 use Rattle.grs_base.specs.declared.rnl.Which.TheVariants.{Incl, Excl, Con}
 use Rattle.grs_base.specs.declared.rnl.Lists.{Lists}
-use Rattle.grs_base.specs.Limits.{most_lines}
+use Rattle.grs_base.specs.Limits.{most_lines, most_displays}
 use Rattle.grs_wire.specs.declared.deck.Deck.{Deck}
 use Rattle.deck_scan.specs.declared.token.TokenLine.{TokenLine}
 use Rattle.deck_scan.specs.Gives.{◌>>=◌, refused, Fails}
@@ -43,11 +43,18 @@ no_deck = record {
 
 -- A deck of which nothing was read, with the names that its SYSTEM statements give.
 abbrev pub no_draft : List (List ℕ) → Draft
-no_draft names = record { deck = no_deck; names = names; begun = false; scheduled = false; room = most_lines }
+no_draft names = record {
+  deck = no_deck;
+  names = names;
+  begun = false;
+  scheduled = false;
+  room = most_lines;
+  displays = most_displays;
+}
 
--- The same, with these statements.
+-- The same, with these lines.
 abbrev pub first_draft : List TokenLine → Draft
-first_draft statements = no_draft (system_names statements)
+first_draft lines = no_draft (system_names lines)
 
 abbrev pub unless : ℕ → Option Kind → Draft → Result Draft DeckFault
 unless at None d = Ok d
@@ -71,7 +78,7 @@ abbrev pub ended : Draft → Result Deck DeckFault
 ended d = if length d.deck.systems == 0 then refused 0 NoSystem else Ok d.deck
 
 unfoldable pub reading : List ℕ → Result Deck DeckFault
-reading text = lines_or_fault text >>= λ ls. judge_all (first_draft (statements ls)) (statements ls) >>= ended
+reading text = lines_or_fault text >>= λ ls. judge_all (first_draft ls) (statements ls) >>= ended
 
 abbrev pub fault_of : Result Deck DeckFault → Option DeckFault
 fault_of (Ok d) = None

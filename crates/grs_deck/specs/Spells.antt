@@ -20,13 +20,12 @@ use Rattle.deck_form.specs.declared.form.Stmt.{Stmt}
 use Rattle.deck_form.specs.declared.form.Stmt.TheVariants as stmts
 use Rattle.deck_form.specs.Spelled.{Spells}
 use Rattle.deck_form.specs.Statements.{statements}
-use Rattle.deck_form.specs.Unbuilt.{is_unbuilt}
 use Rattle.grs_deck.specs.declared.judge.Draft.{Draft}
 use Rattle.grs_base.specs.Limits.{most_systems, most_entries, most_name_bytes, most_commands, most_jobs, most_tasks}
 use Rattle.grs_deck.specs.Places.{name_now, desk_now, jobs_now, tasks_now, system_place, job_place, task_place}
 use Rattle.grs_deck.specs.Places.{event_of}
 use Rattle.grs_deck.specs.Judge.{list_of}
-use Rattle.grs_deck.specs.Grow.{grow}
+use Rattle.grs_deck.specs.Grow.{shows, grow}
 use Rattle.grs_deck.specs.Reading.{first_draft}
 
 -- A name of a system, job or task is not too long.
@@ -98,13 +97,13 @@ IsPlaced d stmts.Schedule = 0 < length d.deck.systems
 IsPlaced d _ = Unit {0}
 
 -- There is room for it: in its name list, among the systems, the commands, the jobs and the tasks of its system, the
--- task lines.
+-- task lines, and those of them that show something.
 abbrev pub HasRoom : Draft → Stmt → Type 0
 HasRoom d (stmts.Rnldef r) = length (list_of r.which d.deck.lists).entries < most_entries
 HasRoom d (stmts.System n) = length d.deck.systems < most_systems
 HasRoom d (stmts.Job n) = length (jobs_now d.deck.systems) < most_jobs
 HasRoom d (stmts.Task n) = task_count (jobs_now d.deck.systems) < most_tasks
-HasRoom d (stmts.Line s) = 0 < d.room
+HasRoom d (stmts.Line s) = (0 < d.room) × (shows s ≡ true → 0 < d.displays)
 HasRoom d (stmts.Command c) = length (desk_now d.deck.systems) < most_commands
 HasRoom d _ = Unit {0}
 
@@ -127,14 +126,10 @@ pub record MayStand (d : Draft) (st : Stmt) : Type 0 where
   pub room : HasRoom d st
   pub known : IsKnown d st
 
--- A statement may stand there, and its form is built.
-abbrev pub IsRight : Draft → Stmt → Type 0
-IsRight d st = MayStand d st × (is_unbuilt st ≡ false)
-
--- Each statement's line is a statement that is right where it stands, and the deck is what they add.
+-- Each statement's line is a statement that may stand where it stands, and the deck is what they add.
 abbrev pub Says : Draft → List TokenLine → Draft → Type 0
 Says d [] e = d ≡ e
-Says d (l ∷ ls) e = (st : Stmt) × Spells d.scheduled d.deck.entries l st × IsRight d st × Says (grow d st) ls e
+Says d (l ∷ ls) e = (st : Stmt) × Spells d.scheduled d.deck.entries l st × MayStand d st × Says (grow d st) ls e
 
 -- A text spells a deck: it is short enough, the statements of its lines say the deck, and the deck has a
 -- system.
@@ -143,6 +138,6 @@ pub record SpellsDeck (text : List ℕ) (deck : Deck) : Type 0 where
   pub lines : List TokenLine
   pub spelled : SpellsLines text lines
   pub draft : Draft
-  pub says : Says (first_draft (statements lines)) (statements lines) draft
+  pub says : Says (first_draft lines) (statements lines) draft
   pub is : draft.deck ≡ deck
   pub system : 0 < length deck.systems

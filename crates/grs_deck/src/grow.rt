@@ -193,7 +193,6 @@ pub fn grow_deck(
     ensures { OnOk result (deck.new ≡ grow_deck place deck.old st.now) }
 {
     match st {
-        Stmt::Unbuilt => Ok(()),
         Stmt::Complex(setup) => {
             set_up(deck, *setup);
             Ok(())

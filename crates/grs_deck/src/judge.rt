@@ -2,16 +2,18 @@
 ghost use Rattle.std.specs.Prelude.{◌≡◌, is_some};
 ghost use Rattle.grs_wire.specs.Decks.{Fits};
 ghost use Rattle.grs_deck.specs.Places.{event_in, place_in, place_ordered};
+ghost use Rattle.grs_deck.specs.Grow.{shows};
 ghost use Rattle.grs_deck.specs.Judge.{is_too_long, has_long_name, has_long_order, has_bad_name, is_repeated, is_idle, is_away, is_misplaced, is_list_full, is_full, removes_unknown, is_unknown, verdict};
 
 use crate::places::{
     desk_now, job_place, jobs_now, name_now, system_place, task_count, task_place, tasks_now,
 };
-use deck_form::{EventAct, GivenOrder, Stmt, SystemNames, is_unbuilt};
+use deck_form::{EventAct, GivenOrder, Stmt, SystemNames};
 use grs_base::{
     Kind, Lists, MOST_ENTRIES, MOST_JOBS, MOST_NAME_BYTES, MOST_SYSTEMS, MOST_TASKS, Which,
 };
 use grs_wire::{Deck, Event, SystemDef};
+use job_syntax::LineAsk;
 
 /// The most commands at the desk of a system.
 const MOST_COMMANDS: usize = 64;
@@ -28,6 +30,8 @@ pub struct Draft<'t> {
     pub scheduled: bool,
     /// How many task lines may still follow.
     pub room: u32,
+    /// How many of them may show something.
+    pub displays: u32,
 }
 
 fn is_too_long(name: &[u8]) -> bool
@@ -111,7 +115,6 @@ fn is_misplaced(draft: &Draft<'_>, st: &Stmt<'_>) -> bool
 {
     let systems = draft.deck.systems.as_slice();
     match st {
-        Stmt::Unbuilt => false,
         Stmt::Complex(_) => draft.begun,
         Stmt::Rnldef(_) => systems.len() != 0,
         Stmt::System(_) => false,
@@ -136,6 +139,13 @@ fn is_list_full(lists: &Lists, which: Which) -> bool
     MOST_ENTRIES <= entries
 }
 
+/// Whether a task line shows something.
+pub(crate) fn shows(line_ask: &LineAsk<'_>) -> bool
+    ensures { result ≡ shows line_ask.now }
+{
+    matches!(line_ask, LineAsk::Gqscan(_) | LineAsk::Display(_))
+}
+
 fn is_full(draft: &Draft<'_>, st: &Stmt<'_>) -> bool
     requires { Fits draft.now.deck.systems }
     ensures { result ≡ is_full draft.now st.now }
@@ -146,7 +156,7 @@ fn is_full(draft: &Draft<'_>, st: &Stmt<'_>) -> bool
         Stmt::System(_) => MOST_SYSTEMS <= systems.len(),
         Stmt::Job(_) => MOST_JOBS <= jobs_now(systems).len(),
         Stmt::Task(_) => MOST_TASKS <= task_count(jobs_now(systems)),
-        Stmt::Line(_) => draft.room == 0,
+        Stmt::Line(line_ask) => draft.room == 0 || shows(line_ask) && draft.displays == 0,
         Stmt::Command(_) => MOST_COMMANDS <= desk_now(systems).len(),
         _ => false,
     }
@@ -202,8 +212,6 @@ pub fn verdict(
         Some(Kind::TooMany)
     } else if is_unknown(draft, st, event, place) {
         Some(Kind::UnknownName)
-    } else if is_unbuilt(st) {
-        Some(Kind::NotBuilt)
     } else {
         None
     }

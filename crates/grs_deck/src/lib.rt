@@ -10,5 +10,5 @@ mod places;
 mod read;
 
 pub use grs_wire::{Choice, Deck, Desk, Event, JobDef, Name, Order, SystemDef, TaskDef};
-pub use laws::one_deck;
+pub use laws::{event_lines, one_deck};
 pub use read::read_deck;

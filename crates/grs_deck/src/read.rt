@@ -3,7 +3,7 @@ ghost use Rattle.std.specs.Prelude.{◌≡◌, ◌||◌, OnOk, IfOk, Some, None}
 ghost use Rattle.grs_base.specs.NameLists.{AreLists};
 ghost use Rattle.deck_scan.specs.Gives.{Gives, IsOkUnlessMemory};
 ghost use Rattle.grs_deck.specs.Judge.{verdict};
-ghost use Rattle.grs_deck.specs.Grow.{is_schedule, line_count, grow};
+ghost use Rattle.grs_deck.specs.Grow.{is_schedule, line_count, display_count, grow};
 ghost use Rattle.grs_wire.specs.declared.deck.Deck.{Deck as DeckValue};
 ghost use Rattle.grs_wire.specs.Decks.{Fits, IsDeck};
 ghost use Rattle.grs_deck.specs.Spells.{SpellsDeck};
@@ -13,13 +13,16 @@ ghost use Rattle.grs_deck.specs.Reading.{judge_statement, judge, judge_all, ende
 
 use crate::defaults::{DEFAULT_ENTRIES, DEFAULT_LIMIT};
 use crate::grow::grow_deck;
-use crate::judge::{Draft, verdict};
+use crate::judge::{Draft, shows, verdict};
 use crate::places::{event_in, place_in};
 use deck_form::{Statements, Stmt, SystemNames, statement};
 use deck_scan::{Lines, TokenLine, refused};
 use grs_base::{Kind, List, Lists, MOST_LINES, NoMemory, ReadError};
 use grs_wire::{Deck, Event};
 use std::alloc::Global;
+
+/// The most task lines of a deck that show something.
+const MOST_DISPLAYS: u32 = 256;
 
 fn is_schedule(st: &Stmt<'_>) -> bool
     ensures { result ≡ is_schedule st.now }
@@ -36,6 +39,16 @@ fn line_count(st: &Stmt<'_>) -> u32
 {
     match st {
         Stmt::Line(_) => 1,
+        _ => 0,
+    }
+}
+
+/// How many task lines that show something a statement is.
+fn display_count(st: &Stmt<'_>) -> u32
+    ensures { result ≡ display_count st.now }
+{
+    match st {
+        Stmt::Line(line_ask) if shows(line_ask) => 1,
         _ => 0,
     }
 }
@@ -59,6 +72,7 @@ fn grow(
     draft.begun = true;
     draft.scheduled = draft.scheduled || is_schedule(st);
     draft.room = draft.room.saturating_sub(line_count(st));
+    draft.displays = draft.displays.saturating_sub(display_count(st));
     grow_deck(&mut draft.deck, alloc, st, event, place)
 }
 
@@ -115,6 +129,7 @@ fn start<'t>(alloc: Global, names: SystemNames<'t>) -> Draft<'t>
         begun: false,
         scheduled: false,
         room: MOST_LINES,
+        displays: MOST_DISPLAYS,
     }
 }
 
