@@ -1,9 +1,9 @@
-//! Looks, which no deck can ask for yet: at the lists of a system, at slices, and in a history; and the line of a row.
+//! Looks, by the calls alone: at the lists of a system, at slices, and in a history; and the line of a row.
 //! A value that is dear to drop is dropped on one path alone.
 use grs_base::{Ctl, Elem, Filter, List, NameFault, Qname, Res, Ret, Rname, Row, SysId, TaskId};
 use grs_deck::read_deck;
+use grs_display::{names_of, print_row};
 use grs_history::{answers, queues_after};
-use grs_report::{names_of, print_row};
 use grs_wire::{Answer, Deck, Fixed, HistEntry, Req, Want};
 use local_queue::Local;
 use qel_store::LinkedQueues;

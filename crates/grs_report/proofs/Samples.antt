@@ -14,7 +14,7 @@ use Rattle.grs_base.specs.declared.look.Filter.{Filter}
 use Rattle.grs_base.specs.declared.look.Filter.TheVariants as filters
 use Rattle.grs_base.specs.declared.rnl.Which.TheVariants as lists
 use Rattle.grs_base.specs.Rnl.{no_entries}
-use Rattle.grs_base.specs.declared.resource.Ctl.TheVariants.{E, S}
+use Rattle.grs_base.specs.declared.resource.Ctl.TheVariants.{E}
 use Rattle.grs_base.specs.declared.resource.Ret.TheVariants as rets
 use Rattle.grs_base.specs.declared.decision.Code.{Code}
 use Rattle.grs_base.specs.declared.decision.Code.TheVariants as replies
@@ -34,9 +34,9 @@ use Rattle.grs_wire.specs.declared.told.Verb.TheVariants as verbs
 use Rattle.grs_wire.specs.declared.seen.Seen.{Seen}
 use Rattle.grs_wire.specs.declared.seen.Names.{Names}
 use Rattle.grs_wire.specs.declared.seen.TaskEnd.TheVariants as ends
-use Rattle.grs_report.specs.Lines.{line}
-use Rattle.grs_report.specs.Names.{names_of, name_at, name_in, task_in_job, task_word}
-use Rattle.grs_report.specs.Rows.{names_word, res_word, elem_word, row_line, place_word, filter_word}
+use Rattle.grs_display.specs.Lines.{line}
+use Rattle.grs_display.specs.Names.{names_of, name_at, name_in, task_in_job, task_word}
+use Rattle.grs_display.specs.Rows.{names_word, res_word, elem_word, row_line, place_word, filter_word}
 use Rattle.grs_report.specs.Schedule.{choice_words, event_line, schedule_text}
 use Rattle.grs_report.specs.History.{history_line, history_text}
 use Rattle.grs_report.specs.Told.{told_line, task_text, system_text, told_text}
@@ -220,13 +220,7 @@ three = record {
 
 -- lines of forms that the two reports do not show
 parts :
-    (row_line three 81 (record {
-      res = kinds.Systems (codes "P") (codes "Q");
-      elems = exclusive (task_of 2 0) ∷ exclusive (task_of 1 0) ∷ (record { task = task_of 2 1; ctl = S }) ∷ [];
-      owners = 1;
-    }) ≡ ended (codes "Q SYSTEMS(P,Q) SYC.J1.T1:E* SYB.J1.T1:E SYC.J1.T2:S"))
-    × (res_word three (kinds.Step (system 0) 0 (codes "APPL") (codes "it's")) ≡ codes "STEP(SYA,J1,APPL,'it''s')")
-    × (units_text three ((system 0, 6657, 1) ∷ (system 0, 6659, 1) ∷ [])
+    (units_text three ((system 0, 6657, 1) ∷ (system 0, 6659, 1) ∷ [])
     ≡ ended (codes "UNITS") ++ ended (codes "U SYA 1A01 1") ++ ended (codes "U SYA 1A03 1"))
     × (words_text three (0 ∷ 263 ∷ 4096 ∷ [])
     ≡ ended (codes "WORDS") ++ ended (codes "W 1 MASK 7 MANAGER SYA EPOCH 0")
@@ -248,7 +242,7 @@ parts :
     ≡ ended (codes "H 12 SYA.J1.T2 RELEASE SYSTEM(SYA,A,B)"))
 unfolding digits line name_at name_in task_in_job task_word names_word res_word elem_word row_line choice_words
     event_line history_line told_line unit_line units_text manager word_line words_text mode_line
-parts = (refl, refl, refl, refl, refl, refl, refl, refl, refl, refl, refl, refl, refl, refl)
+parts = (refl, refl, refl, refl, refl, refl, refl, refl, refl, refl, refl, refl)
 
 -- (A,B) held exclusively by the first task
 abbrev held_row : Row

@@ -5,9 +5,9 @@ use Rattle.std.specs.List.{flat_map}
 use Rattle.grs_wire.specs.declared.seen.Names.{Names}
 use Rattle.grs_wire.specs.declared.history.HistEntry.{HistEntry}
 use Rattle.grs_wire.specs.declared.history.HistEntry.TheVariants.{Enq, Deq, Release, Look, Remove}
-use Rattle.grs_report.specs.Lines.{line}
-use Rattle.grs_report.specs.Names.{name_at, task_word}
-use Rattle.grs_report.specs.Rows.{res_word, row_line, place_word, filter_word}
+use Rattle.grs_display.specs.Lines.{line}
+use Rattle.grs_display.specs.Names.{name_at, task_word}
+use Rattle.grs_display.specs.Rows.{res_word, row_line, place_word, filter_word}
 use Rattle.grs_base.specs.Printed.{ctl_word}
 use Rattle.grs_report.specs.Spelled.{ret_word, have_word, code_word}
 

@@ -1,7 +1,4 @@
-pub mod Lines
-pub mod Names
 pub mod Spelled
-pub mod Rows
 pub mod Schedule
 pub mod History
 pub mod Told

@@ -2,8 +2,8 @@
 use Rattle.std.specs.Prelude.{ℕ, Bool, List, [], ◌∷◌, ◌++◌, codes, if◌then◌else◌}
 use Rattle.grs_wire.specs.declared.deck.Deck.{Deck}
 use Rattle.grs_wire.specs.declared.seen.Seen.{Seen}
-use Rattle.grs_report.specs.Lines.{line}
-use Rattle.grs_report.specs.Names.{names_of}
+use Rattle.grs_display.specs.Lines.{line}
+use Rattle.grs_display.specs.Names.{names_of}
 use Rattle.grs_report.specs.Schedule.{schedule_text}
 use Rattle.grs_report.specs.History.{history_text}
 use Rattle.grs_report.specs.Told.{told_text}

@@ -7,8 +7,8 @@ use Rattle.grs_wire.specs.declared.deck.Choice.{Choice}
 use Rattle.grs_wire.specs.declared.deck.Choice.TheVariants.{Task, Turn, Send, Take, Settle, Tell, Leave, Switch, Purge}
 use Rattle.grs_wire.specs.declared.deck.Choice.TheVariants.{Rest}
 use Rattle.grs_wire.specs.declared.deck.Event.{Event}
-use Rattle.grs_report.specs.Lines.{line}
-use Rattle.grs_report.specs.Names.{name_at, task_in_job}
+use Rattle.grs_display.specs.Lines.{line}
+use Rattle.grs_display.specs.Names.{name_at, task_in_job}
 
 -- what an event does
 unfoldable pub choice_words : Names → Choice → List (List ℕ)

@@ -7,9 +7,9 @@ use Rattle.grs_base.specs.declared.resource.SysId.{SysId}
 use Rattle.grs_base.specs.declared.resource.Row.{Row}
 use Rattle.grs_wire.specs.LockWords.{interest, manager, epoch}
 use Rattle.grs_wire.specs.declared.seen.Names.{Names}
-use Rattle.grs_report.specs.Lines.{line}
-use Rattle.grs_report.specs.Names.{name_at}
-use Rattle.grs_report.specs.Rows.{row_line}
+use Rattle.grs_display.specs.Lines.{line}
+use Rattle.grs_display.specs.Names.{name_at}
+use Rattle.grs_display.specs.Rows.{row_line}
 
 unfoldable pub queues_text : Names → List Row → List ℕ
 queues_text names rows = line (codes "QUEUES" ∷ []) ++ flat_map (row_line names 81) rows

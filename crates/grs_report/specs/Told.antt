@@ -15,8 +15,8 @@ use Rattle.grs_wire.specs.declared.told.Told.{Told}
 use Rattle.grs_wire.specs.declared.seen.Names.{Names}
 use Rattle.grs_wire.specs.declared.seen.TaskEnd.{TaskEnd}
 use Rattle.grs_wire.specs.declared.seen.TaskEnd.TheVariants as ends
-use Rattle.grs_report.specs.Lines.{line}
-use Rattle.grs_report.specs.Rows.{row_line}
+use Rattle.grs_display.specs.Lines.{line}
+use Rattle.grs_display.specs.Rows.{row_line}
 use Rattle.grs_report.specs.Spelled.{verb_word, code_word, event_word, three_digits, end_word, order_word, said_word}
 
 -- a told line with the number of its event, and the rows that it shows

@@ -2,17 +2,18 @@
 ghost use Rattle.std.specs.Prelude.{◌≡◌, ◌++◌, ◌∷◌, [], codes, OnOk};
 ghost use Rattle.std.specs.Fmt.{decimal};
 ghost use Rattle.grs_base.specs.Printed.{ctl_word};
-ghost use Rattle.grs_report.specs.Lines.{spaced, line};
-ghost use Rattle.grs_report.specs.Names.{name_at, task_word};
-ghost use Rattle.grs_report.specs.Rows.{res_word, place_word, filter_word};
+ghost use Rattle.grs_display.specs.Lines.{spaced, line};
+ghost use Rattle.grs_display.specs.Names.{name_at, task_word};
+ghost use Rattle.grs_display.specs.Rows.{res_word, place_word, filter_word};
 ghost use Rattle.grs_report.specs.Spelled.{ret_word, have_word, code_word};
 ghost use Rattle.grs_report.specs.History.{history_line, history_lines, history_text};
 
-use super::lines::{put_count, put_number_word, put_word};
-use super::names::{name_at, put_task};
-use super::rows::{put_filter, put_place, put_res, put_rows};
 use super::spelled::{have_word, put_code, ret_word};
 use grs_base::{Code, Ctl, Filter, List, NoMemory, Place, Res, Ret, SysId, TaskId, ctl_word};
+use grs_display::{
+    name_at, put_count, put_filter, put_number_word, put_place, put_res, put_rows, put_task,
+    put_word,
+};
 use grs_wire::{HistEntry, Names};
 use std::alloc::Global;
 
@@ -62,7 +63,7 @@ fn put_answer(code: Code, out: &mut List<u8>) -> Result<(), NoMemory>
 }
 
 /// Puts a request and its answer behind a text.
-#[tactic(auto, unfolding(crate::specs::Lines::line))]
+#[tactic(auto, unfolding(grs_display::specs::Lines::line))]
 fn put_enq(
     alloc: Global,
     names: &Names,
@@ -85,7 +86,7 @@ fn put_enq(
 }
 
 /// Puts a release and its answer behind a text.
-#[tactic(auto, unfolding(crate::specs::Lines::line))]
+#[tactic(auto, unfolding(grs_display::specs::Lines::line))]
 fn put_deq(
     alloc: Global,
     names: &Names,
@@ -106,7 +107,7 @@ fn put_deq(
 }
 
 /// Puts what an ending task had behind a text.
-#[tactic(auto, unfolding(crate::specs::Lines::line))]
+#[tactic(auto, unfolding(grs_display::specs::Lines::line))]
 fn put_release(
     alloc: Global,
     names: &Names,
@@ -138,7 +139,7 @@ fn put_asked(
 }
 
 /// Puts a look behind a text, as the line above its rows.
-#[tactic(auto, unfolding(crate::specs::Lines::line))]
+#[tactic(auto, unfolding(grs_display::specs::Lines::line))]
 fn put_look(
     alloc: Global,
     names: &Names,
@@ -160,7 +161,7 @@ fn put_look(
 }
 
 /// Puts the removal of a system behind a text.
-#[tactic(auto, unfolding(crate::specs::Lines::line))]
+#[tactic(auto, unfolding(grs_display::specs::Lines::line))]
 fn put_removal(
     names: &Names,
     number: u64,

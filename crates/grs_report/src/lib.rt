@@ -4,9 +4,7 @@
 
 mod ends;
 mod history;
-mod lines;
-mod names;
-mod rows;
+mod laws;
 mod schedule;
 mod shelves;
 mod spelled;
@@ -16,7 +14,5 @@ mod told_line;
 mod whole;
 
 pub use ends::all_ended;
-pub use lines::put_number;
-pub use names::names_of;
-pub use rows::print_row;
+pub use laws::printed_events;
 pub use whole::report;

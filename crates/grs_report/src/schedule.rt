@@ -2,17 +2,16 @@
 ghost use Rattle.std.specs.Prelude.{◌≡◌, ◌++◌, ◌∷◌, [], OnOk};
 ghost use Rattle.std.specs.Fmt.{decimal};
 ghost use Rattle.std.specs.List.{flat_map};
-ghost use Rattle.grs_report.specs.Lines.{line};
-ghost use Rattle.grs_report.specs.Names.{task_in_job};
+ghost use Rattle.grs_display.specs.Lines.{line};
+ghost use Rattle.grs_display.specs.Names.{task_in_job};
 ghost use Rattle.grs_report.specs.Schedule.{event_line, schedule_text};
 
-use super::lines::{put_count, put_line, put_number_word, put_word};
-use super::names::{name_at, put_task_in_job};
 use grs_base::{List, NoMemory, TaskId};
+use grs_display::{name_at, put_count, put_line, put_number_word, put_task_in_job, put_word};
 use grs_wire::{Choice, Event, Names};
 
 /// Puts the event of a task behind a text.
-#[tactic(auto, unfolding(crate::specs::Lines::line))]
+#[tactic(auto, unfolding(grs_display::specs::Lines::line))]
 fn put_task_event(
     names: &Names,
     system: &[u8],
@@ -31,7 +30,7 @@ fn put_task_event(
 }
 
 /// Puts the event of an entry behind a text.
-#[tactic(auto, unfolding(crate::specs::Lines::line))]
+#[tactic(auto, unfolding(grs_display::specs::Lines::line))]
 fn put_entry_event(
     system: &[u8],
     kind: &[u8],
@@ -47,7 +46,7 @@ fn put_entry_event(
 }
 
 /// Puts an event that its kind says whole behind a text.
-#[tactic(auto, unfolding(crate::specs::Lines::line))]
+#[tactic(auto, unfolding(grs_display::specs::Lines::line))]
 fn put_plain_event(system: &[u8], kind: &[u8], out: &mut List<u8>) -> Result<(), NoMemory>
     ensures { OnOk result (out.new ≡ out.old ++ line (system.now ∷ kind.now ∷ [])) }
 {

@@ -2,8 +2,8 @@
 ghost use Rattle.std.specs.Prelude.{◌≡◌, ◌++◌, OnOk};
 ghost use Rattle.grs_report.specs.Spelled.{ret_word, have_word, code_word, verb_word, order_word, said_word, end_word, event_word, three_digits};
 
-use super::lines::put_number;
 use grs_base::{Code, List, NoMemory, Ret};
+use grs_display::put_number;
 use grs_wire::{Said, TaskEnd, Verb};
 
 pub(crate) fn ret_word(ret: Ret) -> &'static [u8]

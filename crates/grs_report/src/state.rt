@@ -4,13 +4,11 @@ ghost use Rattle.std.specs.Prelude.{◌≡◌, ◌++◌, ◌∷◌, [], codes, O
 ghost use Rattle.std.specs.Fmt.{decimal};
 ghost use Rattle.std.specs.List.{flat_map};
 ghost use Rattle.grs_wire.specs.LockWords.{interest, manager, epoch};
-ghost use Rattle.grs_report.specs.Lines.{spaced};
+ghost use Rattle.grs_display.specs.Lines.{spaced};
 ghost use Rattle.grs_report.specs.State.{queues_text, unit_line, units_text, manager_word, word_line, word_lines, words_text, mode_line};
 
-use super::lines::{put_line, put_number_word, put_word};
-use super::names::name_at;
-use super::rows::put_rows;
 use grs_base::{List, NoMemory, Row, SysId, unit_digits};
+use grs_display::{name_at, put_line, put_number_word, put_rows, put_word};
 use grs_wire::Names;
 use std::alloc::Global;
 
@@ -29,7 +27,7 @@ pub(crate) fn put_queues(
 }
 
 /// Puts the count of a unit's hardware reserves behind a text.
-#[tactic(auto, unfolding(crate::specs::State::unit_line, crate::specs::Lines::line))]
+#[tactic(auto, unfolding(crate::specs::State::unit_line, grs_display::specs::Lines::line))]
 fn put_unit(names: &Names, unit: (SysId, u16, u32), out: &mut List<u8>) -> Result<(), NoMemory>
     ensures { OnOk result (out.new ≡ out.old ++ unit_line names.now unit) }
 {
@@ -120,7 +118,7 @@ fn put_manager(names: &Names, word: u32, out: &mut List<u8>) -> Result<(), NoMem
 }
 
 /// Puts a lock word behind a text.
-#[tactic(auto, unfolding(crate::specs::State::word_line, crate::specs::Lines::line))]
+#[tactic(auto, unfolding(crate::specs::State::word_line, grs_display::specs::Lines::line))]
 fn put_lock_word(names: &Names, entry: u64, word: u32, out: &mut List<u8>) -> Result<(), NoMemory>
     ensures { OnOk result (out.new ≡ out.old ++ word_line names.now entry word) }
 {

@@ -3,15 +3,15 @@
 ghost use Rattle.std.specs.Prelude.{◌≡◌, ◌≤◌, ◌++◌, ◌+◌, ◌∷◌, [], codes, map, length, OnOk};
 ghost use Rattle.grs_base.specs.Limits.{most_jobs, most_tasks};
 ghost use Rattle.grs_wire.specs.Decks.{task_count, IsWithin, Fits};
-ghost use Rattle.grs_report.specs.Lines.{line};
+ghost use Rattle.grs_display.specs.Lines.{line};
 ghost use Rattle.grs_report.specs.Told.{told_lines, is_told_at_desk, told_to, told_at_desk, end_of, task_text, tasks_text, jobs_text, systems_text, told_text};
 ghost use Rattle.grs_wire.specs.ToldTo.{is_told_to};
 
-use super::lines::put_line;
 use super::shelves::{SystemLines, sorted_by_system};
 use super::spelled::end_word;
 use super::told_line::put_told_line;
 use grs_base::{List, NoMemory, SysId, TaskId, is_same_task};
+use grs_display::put_line;
 use grs_wire::{JobDef, Names, SystemDef, TaskEnd, Told, ToldLine};
 use std::alloc::Global;
 
@@ -104,7 +104,7 @@ fn end_of(task: TaskId, ended: &[(TaskId, TaskEnd)]) -> TaskEnd
 }
 
 /// Puts the name of a task behind a text as a line.
-#[tactic(auto, unfolding(crate::specs::Lines::line))]
+#[tactic(auto, unfolding(grs_display::specs::Lines::line))]
 fn put_task_name(job: &[u8], name: &[u8], out: &mut List<u8>) -> Result<(), NoMemory>
     ensures { OnOk result (out.new ≡ out.old ++ line (codes "TASK" ∷ (job.now ++ (46 ∷ name.now)) ∷ [])) }
 {

@@ -1,14 +1,13 @@
 //! A told line as text, with the rows that it shows. To whom it was told is not looked at here.
 ghost use Rattle.std.specs.Prelude.{◌≡◌, ◌++◌, ◌∷◌, [], codes, OnOk};
 ghost use Rattle.std.specs.Fmt.{decimal};
-ghost use Rattle.grs_report.specs.Lines.{spaced, line};
+ghost use Rattle.grs_display.specs.Lines.{spaced, line};
 ghost use Rattle.grs_report.specs.Spelled.{verb_word, code_word, event_word, order_word, said_word};
 ghost use Rattle.grs_report.specs.Told.{told_line};
 
-use super::lines::{put_number_word, put_word};
-use super::rows::put_rows;
 use super::spelled::{order_word, put_code, put_event_number, said_word, three_digits, verb_word};
 use grs_base::{Code, List, NoMemory};
+use grs_display::{put_number_word, put_rows, put_word};
 use grs_wire::{Names, Said, Told, ToldLine, Verb};
 use std::alloc::Global;
 
@@ -34,7 +33,7 @@ fn put_answer(k: u32, verb: Verb, code: Code, out: &mut List<u8>) -> Result<(), 
 }
 
 /// Puts the code of a line behind a text.
-#[tactic(auto, unfolding(crate::specs::Lines::line))]
+#[tactic(auto, unfolding(grs_display::specs::Lines::line))]
 fn put_coded(k: u32, verb: Verb, code: Code, event: u64, out: &mut List<u8>) -> Result<(), NoMemory>
     ensures { OnOk result (out.new ≡ out.old
         ++ line (codes "T" ∷ decimal k ∷ verb_word verb ∷ code_word code ∷ event_word event ∷ [])) }
@@ -44,7 +43,7 @@ fn put_coded(k: u32, verb: Verb, code: Code, event: u64, out: &mut List<u8>) -> 
 }
 
 /// Puts the code of a display behind a text, as the line above its rows.
-#[tactic(auto, unfolding(crate::specs::Lines::line))]
+#[tactic(auto, unfolding(grs_display::specs::Lines::line))]
 fn put_shown(
     k: u32,
     verb: Verb,
@@ -62,7 +61,7 @@ fn put_shown(
 }
 
 /// Puts the post of a line behind a text.
-#[tactic(auto, unfolding(crate::specs::Lines::line))]
+#[tactic(auto, unfolding(grs_display::specs::Lines::line))]
 fn put_post(k: u32, event: u64, out: &mut List<u8>) -> Result<(), NoMemory>
     ensures { OnOk result (out.new ≡ out.old
         ++ line (codes "T" ∷ decimal k ∷ codes "POST" ∷ event_word event ∷ [])) }
@@ -74,7 +73,7 @@ fn put_post(k: u32, event: u64, out: &mut List<u8>) -> Result<(), NoMemory>
 }
 
 /// Puts the end of a task with the digits of its code behind a text.
-#[tactic(auto, unfolding(crate::specs::Lines::line))]
+#[tactic(auto, unfolding(grs_display::specs::Lines::line))]
 fn put_ended(code: &[u8], event: u64, out: &mut List<u8>) -> Result<(), NoMemory>
     ensures { OnOk result (out.new ≡ out.old
         ++ line (codes "T" ∷ codes "END" ∷ code.now ∷ event_word event ∷ [])) }
@@ -86,7 +85,7 @@ fn put_ended(code: &[u8], event: u64, out: &mut List<u8>) -> Result<(), NoMemory
 }
 
 /// Puts what was said at a desk behind a text.
-#[tactic(auto, unfolding(crate::specs::Lines::line))]
+#[tactic(auto, unfolding(grs_display::specs::Lines::line))]
 fn put_said(k: u32, said: Said, event: u64, out: &mut List<u8>) -> Result<(), NoMemory>
     ensures { OnOk result (out.new ≡ out.old
         ++ line (codes "D" ∷ decimal k ∷ order_word said ∷ said_word said ∷ event_word event ∷ [])) }

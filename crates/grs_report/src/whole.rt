@@ -5,12 +5,11 @@ ghost use Rattle.grs_report.specs.Report.{head_line, end_line, report};
 
 use super::ends::all_ended;
 use super::history::put_history;
-use super::lines::put_line;
-use super::names::names_of;
 use super::schedule::put_schedule;
 use super::state::{put_mode, put_queues, put_units, put_words};
 use super::told::put_told;
 use grs_base::{List, NoMemory};
+use grs_display::{names_of, put_line};
 use grs_wire::{Deck, Seen};
 use std::alloc::Global;
 

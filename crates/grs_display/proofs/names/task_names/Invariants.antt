@@ -1,0 +1,7 @@
+use Rattle.std.proofs.Common.{◌≡◌, ◌++◌, drop}
+use Rattle.grs_display.specs.Names.{names_in_jobs}
+use Rattle.grs_display.proofs.names.task_names.Given as goal
+
+abbrev pub invariant-loop-job : goal.invariant-loop-job
+invariant-loop-job l =
+    l.names ++ names_in_jobs (drop l.job-index l.jobs) ≡ names_in_jobs l.jobs

@@ -1,8 +1,0 @@
-use Rattle.std.proofs.Common.{◌≡◌, ◌++◌, map, drop}
-use Rattle.grs_report.specs.Names.{names_of_jobs}
-use Rattle.grs_report.proofs.names.all_jobs.Given as goal
-
-abbrev pub invariant-loop-system : goal.invariant-loop-system
-invariant-loop-system l =
-    l.names ++ map (λ s. names_of_jobs s.jobs) (drop l.system-index l.systems)
-    ≡ map (λ s. names_of_jobs s.jobs) l.systems
