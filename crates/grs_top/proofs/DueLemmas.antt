@@ -18,6 +18,8 @@ use Rattle.grs_workers.specs.Beside.{RanBeside, AllLast}
 use Rattle.grs_world.specs.Agree.{Sound}
 use Rattle.grs_world.specs.AtRest.{RestsInTheEnd}
 use Rattle.grs_world.specs.Decks.{may_be_star, FitsStar}
+use Rattle.grs_world.specs.Passed.{PassedIsTold}
+use Rattle.grs_world.specs.Removing.{RemovedTellNothing}
 use Rattle.grs_world.specs.Running.{at_rest}
 use Rattle.grs_world.specs.World.{first_world, run}
 use Rattle.grs_top.specs.Beside.{AllDo, logs_of, MergedRuns, MergedRests}
@@ -41,27 +43,37 @@ refused_due c text f (Err e) first out status = tt
 
 -- ---- the report of a run, by what is seen of it
 
+-- what holds of every run of a deck that keeps its bounds and whose desks order what they may
+abbrev OfRuns : (DeckValue → List Event → Type 0) → Type 0
+OfRuns P =
+    (deck : DeckValue) → (may_be_star deck ≡ true → FitsStar deck) → AreOrders (length deck.systems) 0 deck.systems
+    → (es : List Event) → P deck es
+
+of_deck : (P : DeckValue → List Event → Type 0) → OfRuns P → (d : DeckValue) → IsDeck d → (es : List Event) → P d es
+of_deck P holds d whole es =
+    holds d (λ star. record { few = whole.fits.few; entries = whole.entries }) whole.orders es
+
 pub replay_due : {E : Type 0} (d : DeckValue) (seen : Seen) (r : Result Due E) → IsDeck d
-    → ((deck : DeckValue) → (may_be_star deck ≡ true → FitsStar deck) → AreOrders (length deck.systems) 0 deck.systems
-    → (es : List Event) → Sound deck es)
+    → OfRuns Sound → OfRuns PassedIsTold → ((deck : DeckValue) (es : List Event) → RemovedTellNothing deck es)
     → seen ≡ seen_of_run d d.events
     → IfOk r (λ due. due.out ≡ report d seen)
     → IfOk r (λ due. due.status ≡ (if all_ended seen.ended then Done else Waits))
     → IfOk r (λ due. IsTextOf Replay d due.out due.status)
 unfolding report_of ending
-replay_due d seen (Ok due) whole sound is out status = record {
+replay_due d seen (Ok due) whole sound passed silent is out status = record {
   whole = out ∙ ap (report d) is;
   ends = status ∙ ap (λ (x : Seen). if all_ended x.ended then Done else Waits) is;
-  sound = sound d (λ star. record { few = whole.fits.few; entries = whole.entries }) whole.orders d.events;
+  sound = of_deck Sound sound d whole d.events;
+  passed = of_deck PassedIsTold passed d whole d.events;
+  silent = silent d d.events;
 }
-replay_due d seen (Err e) whole sound is out status = tt
+replay_due d seen (Err e) whole sound passed silent is out status = tt
 
 pub run_due :
     {E : Type 0} (d : DeckValue) (m : MediumState) (journal slice : List JEntry) (vs : List NodeView) (seen : Seen)
     (r : Result Due E)
     → IsDeck d
-    → ((deck : DeckValue) → (may_be_star deck ≡ true → FitsStar deck) → AreOrders (length deck.systems) 0 deck.systems
-    → (es : List Event) → Sound deck es)
+    → OfRuns Sound → OfRuns PassedIsTold → ((deck : DeckValue) (es : List Event) → RemovedTellNothing deck es)
     → MergedRuns → MergedRests
     → ((deck : DeckValue) → IsDeck deck → (es : List Event) → RestsInTheEnd deck es) → RanBeside d m journal vs
     → AllLast d journal → slice ≡ journal → seen.events ≡ (merged_steps slice (logs_of vs)).events
@@ -70,7 +82,7 @@ pub run_due :
     → IfOk r (λ due. due.status ≡ (if all_ended seen.ended then Done else Waits))
     → IfOk r (λ due. IsTextOf Run d due.out due.status)
 unfolding report_of ending
-run_due d m journal slice vs seen (Ok due) whole sound runs rests kept ran last lent made is out status =
+run_due d m journal slice vs seen (Ok due) whole sound passed silent runs rests kept ran last lent made is out status =
     let events : seen.events ≡ (merged_steps journal (logs_of vs)).events =
     made ∙ ap (λ (j : List JEntry). (merged_steps j (logs_of vs)).events) lent in
     let rest : at_rest d (run d seen.events) ≡ true =
@@ -81,9 +93,11 @@ run_due d m journal slice vs seen (Ok due) whole sound runs rests kept ran last 
       reported = record {
         whole = out ∙ ap (report d) is;
         ends = status ∙ ap (λ (x : Seen). if all_ended x.ended then Done else Waits) is;
-        sound = sound d (λ star. record { few = whole.fits.few; entries = whole.entries }) whole.orders seen.events;
+        sound = of_deck Sound sound d whole seen.events;
+        passed = of_deck PassedIsTold passed d whole seen.events;
+        silent = silent d seen.events;
       };
       rest = rest;
       nothing_lost = kept d whole seen.events rest;
     }
-run_due d m journal slice vs seen (Err e) whole sound runs rests kept ran last lent made is out status = tt
+run_due d m journal slice vs seen (Err e) whole sound passed silent runs rests kept ran last lent made is out status = tt

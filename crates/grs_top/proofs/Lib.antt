@@ -3,6 +3,11 @@ pub mod rest
 pub mod Answering
 pub mod Complete
 pub mod DueLemmas
+pub mod OfDeck
+pub mod Doers
+pub mod ScheduleTexts
+pub mod ReadBack
+pub mod OneHistory
 pub mod OneItem
 mod Samples
 mod StarSamples

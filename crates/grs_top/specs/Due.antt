@@ -8,6 +8,8 @@ use Rattle.grs_deck.specs.Faults.{number, IsFault}
 use Rattle.grs_deck.specs.Spells.{SpellsDeck}
 use Rattle.grs_world.specs.Agree.{Sound}
 use Rattle.grs_world.specs.AtRest.{NothingIsLost}
+use Rattle.grs_world.specs.Passed.{PassedIsTold}
+use Rattle.grs_world.specs.Removing.{RemovedTellNothing}
 use Rattle.grs_world.specs.Running.{at_rest}
 use Rattle.grs_world.specs.World.{first_world, run}
 use Rattle.grs_top.specs.declared.status.Status.{Status}
@@ -28,11 +30,14 @@ pub record IsRefused (text out : List ℕ) : Type 0 where
   pub is_first : IsFault text first
   pub line : out ≡ fault_line first
 
--- The run of these events is sound, its report is written, and the status says how the run ends.
+-- The run of these events is sound, what is passed in it is told, and removed systems tell nothing; its report is written,
+-- and the status says how the run ends.
 pub record IsReported (deck : DeckValue) (es : List Event) (out : List ℕ) (status : Status) : Type 0 where
   pub whole : out ≡ report_of deck es
   pub ends : status ≡ ending deck es
   pub sound : Sound deck es
+  pub passed : PassedIsTold deck es
+  pub silent : RemovedTellNothing deck es
 
 -- The same of events that systems made beside each other: each has something to do where it stands, and in the end the
 -- world is at rest, and nothing is lost.

@@ -8,7 +8,7 @@ use Rattle.grs_gen.specs.Generated.{IsSize, deck_of}
 use Rattle.grs_gen.specs.Rounds.{round_of}
 use Rattle.grs_io.specs.Faults.{last_count, HasRisen}
 use Rattle.grs_io.specs.Moved.{AppendsPart}
-use Rattle.grs_report.specs.Lines.{line}
+use Rattle.grs_display.specs.Lines.{line}
 use Rattle.grs_wire.specs.History.{answered}
 use Rattle.grs_wire.specs.declared.deck.Deck.{Deck as DeckValue}
 use Rattle.grs_wire.specs.declared.deck.Event.{Event}

@@ -4,7 +4,9 @@ pub mod Lists
 pub mod Tasks
 pub mod Seen
 pub mod Beside
+pub mod Schedules
 pub mod Due
+pub mod OneHistory
 pub mod Answers
 pub mod Generated
 pub mod Forms

@@ -1,13 +1,15 @@
 -- When a command writes all that it has to.
-use Rattle.std.specs.Prelude.{◌≡◌, ◌<◌, ◌⊎◌, ℕ, List, Option, None, Some}
+use Rattle.std.specs.Prelude.{◌≡◌, ◌≢◌, ◌<◌, ◌⊎◌, ℕ, List, Option, None, Some}
 use Rattle.std.specs.Io.KnownBytes.{Appends}
+use Rattle.grs_base.specs.declared.fault.DeckFault.{DeckFault}
 use Rattle.grs_io.specs.Faults.{last_count}
 use Rattle.grs_wire.specs.declared.deck.Deck.{Deck as DeckValue}
+use Rattle.grs_deck.specs.Faults.{IsFault}
 use Rattle.grs_deck.specs.Spells.{SpellsDeck}
 use Rattle.grs_top.specs.declared.status.Status.{Status}
 use Rattle.grs_top.specs.declared.status.Status.TheVariants as statuses
 use Rattle.grs_top.specs.declared.words.Command.{Command}
-use Rattle.grs_top.specs.Due.{IsTextOf}
+use Rattle.grs_top.specs.Due.{IsTextOf, fault_line}
 use Rattle.grs_top.specs.Answers.{Streams, Answers}
 
 -- the source tells its bytes, and these spell the deck
@@ -33,3 +35,22 @@ abbrev pub WholeUnlessMemory : Type 0
 WholeUnlessMemory = (c : Command) (deck : DeckValue) (old new : Streams) (status : Status)
     → Answers c old new status → Tells old.left deck → HasNoFault old new
     → IsWhole c deck old new status ⊎ (status ≡ statuses.NoMemory)
+
+-- the first fault of the bytes that the source tells
+abbrev pub TellsFault : Option (List ℕ) → DeckFault → Type 0
+TellsFault None f = ⊥
+TellsFault (Some text) f = IsFault text f
+
+-- A source whose bytes have a fault is answered by the line of the first one, whatever the command, unless memory is wanted or
+-- a call fails.
+abbrev pub RefusedUnlessMemory : Type 0
+RefusedUnlessMemory = (c : Command) (f : DeckFault) (old new : Streams) (status : Status)
+    → Answers c old new status → TellsFault old.left f → HasNoFault old new
+    → (Appends old.written new.written (fault_line f) × (status ≡ statuses.Deck)) ⊎ (status ≡ statuses.NoMemory)
+
+-- Where no call of the source and the sink fails, as none of a source and a sink does whose counts are always 0, neither status
+-- of a failed call comes.
+abbrev pub FaultsAreFailedCalls : Type 0
+FaultsAreFailedCalls = (c : Command) (old new : Streams) (status : Status)
+    → Answers c old new status → HasNoFault old new
+    → (status ≢ statuses.ReadFault) × (status ≢ statuses.WriteFault)

@@ -18,7 +18,7 @@ use grs_deck::read_deck;
 use grs_report::{all_ended, report};
 use grs_wire::{Deck, Seen};
 use grs_workers::{Gate, run_workers};
-use grs_world::laws::{rests_in_the_end, runs_are_sound};
+use grs_world::laws::{passed_is_told, removed_tell_nothing, rests_in_the_end, runs_are_sound};
 use std::alloc::Global;
 use std::sync::Wait;
 use std::thread::Threads;
@@ -55,6 +55,8 @@ fn replayed(alloc: Global, deck: &Deck) -> Result<Due, NoMemory>
     ensures { IfOk result (λ due. IsTextOf Command.Replay deck.now due.out due.status) }
 {
     runs_are_sound();
+    passed_is_told();
+    removed_tell_nothing();
     let seen = seen_by_replay(alloc, deck)?;
     report_due(alloc, deck, &seen)
 }
@@ -70,6 +72,8 @@ pub(crate) fn ran<R: Threads + Wait + Sync, G: Gate + Sync>(
     ensures { IfOk result (λ due. IsTextOf Command.Run deck.now due.out due.status) }
 {
     runs_are_sound();
+    passed_is_told();
+    removed_tell_nothing();
     merged_runs();
     merged_rests();
     rests_in_the_end();

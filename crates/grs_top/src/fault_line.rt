@@ -4,7 +4,7 @@ ghost use Rattle.grs_deck.specs.Faults.{number};
 ghost use Rattle.grs_top.specs.Due.{fault_line};
 
 use grs_base::{DeckFault, Kind, List, NoMemory};
-use grs_report::put_number;
+use grs_display::put_number;
 use std::alloc::Global;
 
 fn kind_number(kind: Kind) -> u32

@@ -5,7 +5,7 @@ ghost use Rattle.std.specs.Fmt.{decimal};
 ghost use Rattle.grs_base.specs.State.{State};
 ghost use Rattle.grs_gen.specs.Generated.{IsSize};
 ghost use Rattle.grs_gen.specs.Rounds.{round_of};
-ghost use Rattle.grs_report.specs.Lines.{spaced};
+ghost use Rattle.grs_display.specs.Lines.{spaced};
 ghost use Rattle.grs_wire.specs.Decks.{IsDeck};
 ghost use Rattle.grs_wire.specs.History.{answered, fixed_entries};
 ghost use Rattle.grs_world.specs.Running.{starting, task_end};
@@ -17,9 +17,9 @@ use super::command::write_due;
 use super::due::Due;
 use deck_tasks::tasks_of;
 use grs_base::{List, NoMemory, SysId, TaskId};
+use grs_display::put_number;
 use grs_gen::{deck, round_events};
 use grs_io::Sink;
-use grs_report::put_number;
 use grs_wire::{Deck, Event, Fixed, TaskEnd, Want};
 use grs_world::World;
 use std::alloc::Global;
@@ -196,7 +196,7 @@ fn put_mode(star: bool, out: &mut List<u8>) -> Result<(), NoMemory>
 }
 
 /// The line of a number whose run came to this.
-#[tactic(auto, unfolding(crate::specs::Generated::gen_line, grs_report::specs::Lines::line))]
+#[tactic(auto, unfolding(crate::specs::Generated::gen_line, grs_display::specs::Lines::line))]
 fn line_of(alloc: Global, n: u32, figures: Figures) -> Result<List<u8>, NoMemory>
     ensures { IfOk result (λ text. text ≡ gen_line n figures) }
 {

@@ -2,10 +2,13 @@
 //! other, and that of runs that are made from a number. There is nothing to run.
 ghost use Rattle.grs_top.specs.Beside.{MergedRuns, MergedRests};
 ghost use Rattle.grs_top.specs.Generated.{LineUnlessMemory, GeneratedRuns};
-ghost use Rattle.grs_top.specs.Whole.{WholeUnlessMemory};
+ghost use Rattle.grs_top.specs.OneHistory.{AnswersShowHistories};
+ghost use Rattle.grs_top.specs.Schedules.{DoersAreOfDeck, SchedulesReadBack};
+ghost use Rattle.grs_top.specs.Whole.{WholeUnlessMemory, RefusedUnlessMemory, FaultsAreFailedCalls};
 
 use grs_deck::one_deck;
 use grs_gen::laws::are_decks;
+use grs_report::printed_events;
 use grs_world::laws::runs_are_sound;
 
 /// A source whose bytes spell a deck is answered by the whole text of the command, unless a read or write
@@ -15,6 +18,24 @@ pub fn whole_unless_memory()
 {
     one_deck();
 }
+
+/// A source whose bytes have a fault is answered by the line of the first one, unless a read or write fails or memory is wanted.
+pub fn refused_unless_memory()
+    ensures { RefusedUnlessMemory }
+{
+    one_deck();
+}
+
+/// Where no read and no write fails, neither status of a failed call comes: so never over `SureSource` and `SureSink`.
+pub fn faults_are_failed_calls()
+    ensures { FaultsAreFailedCalls }
+{}
+
+/// A text that is answered by the report of a run, by `replay` or by `run`, is answered by one that shows one history of the deck
+/// that it spells: a legal one, with which each line that is told agrees.
+pub fn answers_show_histories()
+    ensures { AnswersShowHistories }
+{}
 
 /// The events of systems that ran beside each other, in the order of the journal of their calls, are a run, in which each has
 /// something to do: it leads to their medium and to the systems as they are, has the history of the merged logs, and tells the lines
@@ -29,6 +50,22 @@ pub fn merged_runs()
 pub fn merged_rests()
     ensures { MergedRests }
 {}
+
+/// Each event that has something to do where it stands in a run of a deck is one of the deck's: it is of a system of the deck, a task of it
+/// or a lock entry is one that there is, and a system is removed by another.
+#[tactic(auto, using(crate::proofs::Doers::doers_of_deck))]
+pub fn doers_are_of_deck()
+    ensures { DoersAreOfDeck }
+{}
+
+/// A deck's text up to its events, with the printed lines of events of the deck behind it, spells the deck with these events, where it
+/// isn't too long.
+pub fn schedules_read_back()
+    ensures { SchedulesReadBack }
+{
+    one_deck();
+    printed_events();
+}
 
 /// A sink is given the whole line of a number, unless a write fails or memory is wanted.
 pub fn line_unless_memory()

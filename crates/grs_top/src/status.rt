@@ -4,9 +4,11 @@ ghost use Rattle.std.specs.Prelude.{◌≡◌};
 /// How a command ended.
 #[derive(Clone, Copy, Debug, PartialEq, Eq)]
 pub enum Status {
-    /// The whole report, or the line of a number, was written, and each task ended; or the name lists were written.
+    /// The whole report, or the line of a number, was written, and each task ended or was removed with its
+    /// system; or the name lists were written.
     Done,
-    /// The whole report, or the line of a number, was written, and some task hasn't ended.
+    /// The whole report, or the line of a number, was written, and some task of a live system hasn't
+    /// ended.
     Waits,
     /// The text is no deck, and the line of its first fault was written whole.
     Deck,

@@ -1,7 +1,7 @@
 use Rattle.std.proofs.Common.{◌≡◌, ℕ, List, [], ◌∷◌, ◌++◌, ap, ◌∙◌}
 use Rattle.std.specs.Prelude.{codes, if◌then◌else◌}
 use Rattle.std.specs.Fmt.{decimal}
-use Rattle.grs_report.specs.Lines.{spaced, line}
+use Rattle.grs_display.specs.Lines.{spaced, line}
 use Rattle.grs_top.specs.Generated.{gen_line}
 use Rattle.grs_top.proofs.GenLine.{first_words, more_words}
 use Rattle.grs_top.proofs.generate.line_of.Goals as goal
