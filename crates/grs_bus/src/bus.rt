@@ -40,6 +40,8 @@ impl Model for Bus {
 pub struct Seat {
     pub(crate) place: Place,
     pub(crate) system: SysId,
+    /// Whom the last call of the seat concerned.
+    pub(crate) concerned: u32,
 }
 
 impl Model for Seat {
@@ -59,5 +61,11 @@ impl Seat {
         ensures { result ≡ self.now.system }
     {
         self.system
+    }
+
+    /// The systems which the last call of the seat may have given something to do, so that who makes it can wake them: nobody before
+    /// the first call, and where it wasn't entered. No clause says which, since nothing but sleep rests on it.
+    pub fn concerned(&self) -> u32 {
+        self.concerned
     }
 }

@@ -59,13 +59,13 @@ impl Bus {
         unreachable!()
     }
 
-    // The answer to the call, and the length of the journal after it.
+    // The answer to the call, the length of the journal after it, and whom the call concerned.
     fn work(
         &self,
         place: &mut Place,
         system: SysId,
         call: Call,
-    ) -> (Result<(Reply, bool), NoMemory>, u64)
+    ) -> (Result<(Reply, bool), NoMemory>, u64, u32)
         requires table { place.old.table_id ≡ self.now.table }
         requires holds { Holds place.old.me (λ slot. MayCall slot.medium.state system call) }
         ensures same { IsSamePlace place.old place.new }
@@ -74,7 +74,7 @@ impl Bus {
     {
         let slot = place.slot_mut(&self.table.shared, 0);
         let answer = slot.answer(system, call);
-        (answer, slot.journal.len() as u64)
+        (answer, slot.journal.len() as u64, slot.concerned)
     }
 
     // Gives the word back, with the journal's length, and wakes one seat that waits for it.
@@ -110,7 +110,8 @@ impl Bus {
     {
         let system = seat.system;
         let _ = self.take(rt, &mut seat.place, system);
-        let (answer, count) = self.work(&mut seat.place, system, call);
+        let (answer, count, concerned) = self.work(&mut seat.place, system, call);
+        seat.concerned = concerned;
         self.give_back(&mut seat.place, count);
         answer
     }

@@ -34,6 +34,7 @@ impl Bus {
             medium,
             journal: Vec::new(alloc),
             alloc,
+            concerned: 0,
         };
         let mut slots = List::new(alloc);
         slots.push(slot)?;
@@ -63,11 +64,16 @@ impl Bus {
         for number in 1..systems {
             let place = self.table.shared.split_seat::<CutOff>(&mut lead);
             let system = SysId(number as u8);
-            others.push(Seat { place, system })?;
+            others.push(Seat {
+                place,
+                system,
+                concerned: 0,
+            })?;
         }
         let first = Seat {
             place: lead,
             system: SysId(0),
+            concerned: 0,
         };
         let mut seats = others.into_vec();
         if seats.insert(0, first).is_err() {
@@ -89,6 +95,7 @@ impl Bus {
         let Seat {
             place: mut lead,
             system: _,
+            concerned: _,
         } = rest.remove(0);
         self.gather(&mut lead, rest);
         let Bus { table, sleepers: _ } = self;
@@ -97,6 +104,7 @@ impl Bus {
             medium,
             journal,
             alloc: _,
+            concerned: _,
         } = closed.take(0);
         closed.free();
         (medium, List::from_vec(journal))
@@ -112,7 +120,11 @@ impl Bus {
     {
         let mut rest = rest;
         while let Some(seat) = rest.pop() {
-            let Seat { place, system: _ } = seat;
+            let Seat {
+                place,
+                system: _,
+                concerned: _,
+            } = seat;
             self.table.shared.join_seat::<TakeIn>(lead, place);
         }
     }

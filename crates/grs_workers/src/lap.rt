@@ -8,18 +8,19 @@ ghost use Rattle.grs_workers.specs.Stands.{is_leave, is_early};
 
 use grs_base::{List, NoMemory, SysId, TaskId};
 use grs_node::{Node, Prepared};
-use grs_wire::{Choice, Deck, Desk, JobDef, Order};
+use grs_wire::{Choice, Deck, Desk, JobDef, Order, Reply, StepDone, ToldLine};
 use std::alloc::Global;
+use std::collections::VecDeque;
 use std::thread;
 
 /// Behind how many choices that have nothing to do it is asked whether any has.
 const SOME_TRIES: usize = 3;
 
-/// A choice, and behind how many events it is tried where there is something else to do.
+/// A command of the desk, and behind how many events of the system it is tried where there is something else to do.
 #[derive(Clone, Copy)]
-struct Try {
+struct Command {
     after: u64,
-    choice: Choice,
+    order: Order,
 }
 
 /// What was picked last, as long as nobody has looked back at it.
@@ -39,9 +40,9 @@ enum Last {
 enum Then {
     /// A turn, or a look into the inbox.
     Turn,
-    /// A rest, since a turn or a look was asked.
+    /// What is left of the desk, and a rest, since a turn or a look was asked.
     Rest,
-    /// Both were asked.
+    /// All was asked.
     Nothing,
 }
 
@@ -49,36 +50,43 @@ enum Then {
 /// them.
 #[derive(Drop)]
 pub(crate) struct Lap {
-    tries: List<Try>,
+    tries: List<Choice>,
     /// Those of star mode, until the system is in it.
-    later: List<Try>,
+    later: List<Choice>,
+    desk: List<Command>,
     star: bool,
-    /// Where it is among them.
+    /// The tasks that may get on, in turn: all of them at first, and then those that just did, or were told something. They are tried
+    /// ahead of the other choices.
+    ready: VecDeque<TaskId>,
+    /// Where it is among the tries, and how many of them are left since the system changed.
     next: usize,
-    /// How many tries are left since the system changed: each choice, and then once more those of the desk that were put off.
     left: usize,
     /// How many lock entries there are, and in which of them interest is given up next.
     entries: u32,
     entry: u32,
-    events: u64,
     last: Last,
     then: Then,
-    /// A task or a request of the system got on since it was woken last. It rests only where none did, since else it will hear more.
-    busy: bool,
-    /// The last turn put nothing into the message, which may have stayed with the system.
-    stays: bool,
     /// How many steps the log had when somebody looked back last.
     steps: usize,
-}
-
-/// A choice that is tried at any time.
-fn any_time(choice: Choice) -> Try {
-    Try { after: 0, choice }
+    /// The system changed since commands of the desk were tried that are due.
+    has_changed: bool,
+    /// The whole desk was tried since the system was woken last.
+    desk_was_tried: bool,
+    /// A task or a request of the system got on since it was woken last. It rests only where none did, since else it will hear more.
+    busy: bool,
+    /// The last call brought entries or mail.
+    brought: bool,
+    /// Since it was woken last, the message came and brought nothing, or the inbox was empty, or all others slept.
+    in_vain: bool,
+    /// It has come to rest, and hasn't changed since.
+    at_rest: bool,
+    /// The last call was answered Stale, so that what it asked is to be asked again.
+    stale: bool,
 }
 
 /// Adds that each task of these jobs of a system goes on, and, in star mode, that it sends.
 fn add_tasks(
-    tries: &mut List<Try>,
+    tries: &mut List<Choice>,
     system: SysId,
     jobs: &[JobDef],
     sends: bool,
@@ -88,9 +96,9 @@ fn add_tasks(
     for def in jobs {
         for _ in 0..def.tasks.len() {
             let of_deck = TaskId { system, job, task };
-            tries.push(any_time(Choice::Task(of_deck)))?;
+            tries.push(Choice::Task(of_deck))?;
             if sends {
-                tries.push(any_time(Choice::Send(of_deck)))?;
+                tries.push(Choice::Send(of_deck))?;
             }
             task = task.saturating_add(1);
         }
@@ -99,25 +107,76 @@ fn add_tasks(
     Ok(())
 }
 
+/// The tasks that go on by these choices.
+fn tasks_of(alloc: Global, tries: &[Choice]) -> Result<VecDeque<TaskId>, NoMemory> {
+    let mut tasks = VecDeque::new(alloc);
+    for choice in tries {
+        if let Choice::Task(task) = choice {
+            add_ready(&mut tasks, *task)?;
+        }
+    }
+    Ok(tasks)
+}
+
+/// The task is tried behind those that may get on already.
+fn add_ready(ready: &mut VecDeque<TaskId>, task: TaskId) -> Result<(), NoMemory> {
+    match ready.push_back(task) {
+        Ok(()) => Ok(()),
+        Err(_) => Err(NoMemory),
+    }
+}
+
 /// Adds that owners are told in each of so many lock entries.
-fn add_entries(tries: &mut List<Try>, entries: u32) -> Result<(), NoMemory> {
+fn add_entries(tries: &mut List<Choice>, entries: u32) -> Result<(), NoMemory> {
     for entry in 0..entries {
-        tries.push(any_time(Choice::Tell(entry)))?;
+        tries.push(Choice::Tell(entry))?;
     }
     Ok(())
 }
 
-/// Adds the commands of a desk.
-fn add_desk(tries: &mut List<Try>, desk: &[Desk]) -> Result<(), NoMemory> {
+/// The commands of a desk.
+fn commands(alloc: Global, desk: &[Desk]) -> Result<List<Command>, NoMemory> {
+    let mut commands = List::new(alloc);
     for line in desk {
-        let choice = match line.order {
-            Order::Star => Choice::Switch,
-            Order::Vary(target) => Choice::Purge(target),
-        };
-        let after = u64::from(line.at);
-        tries.push(Try { after, choice })?;
+        commands.push(Command {
+            after: u64::from(line.at),
+            order: line.order,
+        })?;
     }
-    Ok(())
+    Ok(commands)
+}
+
+/// The choice to carry out a command.
+fn to_order(order: Order) -> Choice
+    ensures { is_leave result ≡ false }
+{
+    match order {
+        Order::Star => Choice::Switch,
+        Order::Vary(target) => Choice::Purge(target),
+    }
+}
+
+/// The task that a line tells something.
+fn told_task(line: &ToldLine) -> Option<TaskId> {
+    match line {
+        ToldLine::Coded {
+            task,
+            k: _,
+            part: _,
+            verb: _,
+            code: _,
+        }
+        | ToldLine::Shown {
+            task,
+            k: _,
+            verb: _,
+            code: _,
+            rows: _,
+        }
+        | ToldLine::Post { task, k: _ }
+        | ToldLine::Ended { task, code: _ } => Some(*task),
+        ToldLine::Desk { k: _, said: _ } => None,
+    }
 }
 
 /// The choice that there always is: a turn in ring mode, and else a look into the inbox.
@@ -135,71 +194,52 @@ fn turn_or_take(node: &mut Node<'_>) -> Result<(Choice, Prepared), NoMemory>
     }
 }
 
-/// Whether the last event of a system fixed something, and whether it told something.
-fn last_brought(node: &Node<'_>) -> (bool, bool) {
-    match node.log().steps.as_slice().last() {
-        Some(step) => (step.fixed.len() != 0, step.told.len() != 0),
-        None => (false, false),
-    }
-}
-
 impl Lap {
     /// The choices of a system of a deck: its tasks go on, its desk commands; and in star mode its requests are sent, settled
     /// and told, and its interest in lock entries is given up.
     pub(crate) fn new(alloc: Global, deck: &Deck, system: SysId) -> Result<Lap, NoMemory> {
         let mut tries = List::new(alloc);
         let mut later = List::new(alloc);
+        let mut desk = List::new(alloc);
         if let Some(def) = deck.systems.as_slice().get(system.0 as usize) {
             add_tasks(&mut tries, system, def.jobs.as_slice(), false)?;
-            add_desk(&mut tries, def.desk.as_slice())?;
             add_tasks(&mut later, system, def.jobs.as_slice(), true)?;
-            add_desk(&mut later, def.desk.as_slice())?;
+            desk = commands(alloc, def.desk.as_slice())?;
         }
-        later.push(any_time(Choice::Settle))?;
+        later.push(Choice::Settle)?;
         add_entries(&mut later, deck.entries)?;
-        let left = tries.len().saturating_mul(2);
+        let ready = tasks_of(alloc, tries.as_slice())?;
+        let left = tries.len();
         Ok(Lap {
             tries,
             later,
+            desk,
             star: false,
+            ready,
             next: 0,
             left,
             entries: deck.entries,
             entry: 0,
-            events: 0,
             last: Last::Nothing,
             then: Then::Turn,
-            busy: false,
-            stays: false,
             steps: 0,
+            has_changed: true,
+            desk_was_tried: false,
+            busy: false,
+            brought: false,
+            in_vain: false,
+            at_rest: false,
+            stale: false,
         })
     }
 
-    /// Whether a choice is tried now. A command of the desk is, once there were as many events, or all others had nothing to do.
-    fn is_due(&self, one: Try) -> bool
-        ensures { result ≡ true → is_leave one.choice ≡ false }
-    {
-        let late = self.left <= self.tries.len();
-        match one.choice {
-            Choice::Leave(_) => false,
-            Choice::Switch | Choice::Purge(_) => late || one.after <= self.events,
-            Choice::Task(_)
-            | Choice::Turn
-            | Choice::Send(_)
-            | Choice::Take
-            | Choice::Settle
-            | Choice::Tell(_)
-            | Choice::Rest => !late,
-        }
-    }
-
-    /// The choice where the system is among them, if it is tried now.
+    /// The choice where the system is among the tries.
     fn here(&self) -> Option<Choice>
         ensures { IfSome result (λ choice. is_leave choice ≡ false) }
     {
         match self.tries.as_slice().get(self.next) {
-            Some(one) if self.is_due(*one) => Some(one.choice),
-            Some(_) | None => None,
+            Some(Choice::Leave(_)) | None => None,
+            Some(choice) => Some(*choice),
         }
     }
 
@@ -212,27 +252,37 @@ impl Lap {
         }
     }
 
-    /// The event that was picked last changed the system, so that each choice may have something to do. It fixed something, and told
-    /// something, or didn't.
-    fn changed(&mut self, fixed: bool, told: bool) {
+    /// A call was answered Stale, so that what it asked is asked again.
+    fn ask_if_stale(&mut self) {
+        if self.stale {
+            self.stale = false;
+            self.at_rest = false;
+            self.then = Then::Turn;
+        }
+    }
+
+    /// The event that was picked last changed the system, so that each choice may have something to do. It fixed or told something,
+    /// or didn't.
+    fn changed(&mut self, got_on: bool) {
         match self.last {
             Last::Rest => {
                 self.last = Last::Nothing;
+                self.ask_if_stale();
                 return;
             }
-            Last::Turn => {
-                self.busy = self.busy || fixed || told;
-                self.stays = !fixed;
-            }
+            Last::Turn => self.busy = self.busy || got_on || self.brought,
             Last::Nothing | Last::Choice | Last::Leave | Last::Look => self.busy = true,
         }
+        self.at_rest = false;
+        self.has_changed = true;
         if !matches!(self.last, Last::Leave) {
             self.entry = 0;
         }
-        self.left = self.tries.len().saturating_mul(2);
+        self.left = self.tries.len();
         if matches!(self.then, Then::Nothing) {
             self.then = Then::Rest;
         }
+        self.ask_if_stale();
         if !matches!(self.last, Last::Look) {
             self.last = Last::Nothing;
         }
@@ -240,8 +290,10 @@ impl Lap {
 
     /// The event that was picked last changed nothing.
     fn unchanged(&mut self) {
-        if matches!(self.last, Last::Leave) {
-            self.entry = self.entry.saturating_add(1);
+        match self.last {
+            Last::Leave => self.entry = self.entry.saturating_add(1),
+            Last::Choice => self.move_on(),
+            Last::Nothing | Last::Turn | Last::Look | Last::Rest => {}
         }
         self.last = Last::Nothing;
     }
@@ -251,37 +303,107 @@ impl Lap {
         std::mem::swap(&mut self.tries, &mut self.later);
         self.star = true;
         self.next = 0;
-        self.left = self.tries.len().saturating_mul(2);
+        self.left = self.tries.len();
         self.then = Then::Turn;
+    }
+
+    /// The task of the last event may get on, and each other that it told something.
+    fn make_ready(&mut self, step: &StepDone) -> Result<(), NoMemory> {
+        let own = match step.choice {
+            Choice::Task(task) | Choice::Send(task) => Some(task),
+            _ => None,
+        };
+        if let Some(task) = own {
+            add_ready(&mut self.ready, task)?;
+        }
+        for line in step.told.as_slice() {
+            match told_task(line) {
+                Some(task) if own != Some(task) => add_ready(&mut self.ready, task)?,
+                Some(_) | None => {}
+            }
+        }
+        Ok(())
     }
 
     /// Sees whether the event that was picked last changed the system.
-    fn look_back(&mut self, node: &Node<'_>) {
+    fn look_back(&mut self, node: &Node<'_>) -> Result<(), NoMemory> {
         if !self.star && node.known_at_turn().is_none() {
             self.enter_star();
         }
-        let steps = node.log().steps.len();
-        if steps == self.steps {
-            self.unchanged();
-        } else {
-            self.steps = steps;
-            let (fixed, told) = last_brought(node);
-            self.changed(fixed, told);
+        let steps = node.log().steps.as_slice();
+        match steps.last() {
+            Some(step) if steps.len() != self.steps => {
+                self.steps = steps.len();
+                self.make_ready(step)?;
+                self.changed(step.fixed.len() != 0 || step.told.len() != 0);
+            }
+            Some(_) | None => self.unchanged(),
         }
+        Ok(())
     }
 
-    /// Whether the event that was picked last was a turn, or a look into the inbox.
-    pub(crate) fn asked(&self) -> bool {
-        matches!(self.last, Last::Turn | Last::Look)
+    /// What the last call was replied.
+    pub(crate) fn replied(&mut self, reply: &Reply) {
+        self.stale = matches!(reply, Reply::Stale { set: _ });
+        self.brought = match reply {
+            Reply::Turned {
+                entries,
+                taken,
+                closed: _,
+            } => {
+                self.in_vain = entries.len() == 0 && *taken == 0;
+                !self.in_vain
+            }
+            Reply::Empty => {
+                self.in_vain = true;
+                false
+            }
+            Reply::Taken { mail: _ } => true,
+            _ => false,
+        };
+    }
+
+    /// Whether it has come to rest, and hasn't changed since.
+    pub(crate) fn at_rest(&self) -> bool {
+        self.at_rest
     }
 
     /// The medium may have changed, so that a turn, or a look into the inbox, is due.
-    pub(crate) fn wake(&mut self) {
+    pub(crate) fn ask(&mut self) {
         self.then = Then::Turn;
-        self.busy = false;
     }
 
-    /// The choice where the system is among them, if it has something to do.
+    /// The system was woken, by others that had something for it, or since all others sleep.
+    pub(crate) fn wake(&mut self, alone: bool) {
+        self.ask();
+        self.in_vain = alone;
+        self.busy = false;
+        self.desk_was_tried = false;
+    }
+
+    /// What the choice comes to, if it has something to do.
+    fn try_choice(
+        &mut self,
+        node: &mut Node<'_>,
+        choice: Choice,
+    ) -> Result<Option<(Choice, Prepared)>, NoMemory>
+        requires { is_leave choice ≡ false }
+        ensures same { node.new ≡ node.old }
+        ensures prepared { IfOk result (λ o. IfSome o (λ x. x.1 ≡ prepare node.old.deck node.old.node x.0)) }
+        ensures some { IfOk result (λ o. IfSome o (λ x. x.1 ≢ Nothing)) }
+        ensures addressed { IfOk result (λ o. IfSome o (λ x. is_addressed node.old.deck node.old.node.tasks.system x.1 ≡ true)) }
+        ensures in_time { IfOk result (λ o. IfSome o (λ x. is_early node.old x.0 ≡ false)) }
+    {
+        match node.prepare(&choice)? {
+            Prepared::Nothing => Ok(None),
+            prepared => {
+                self.last = Last::Choice;
+                Ok(Some((choice, prepared)))
+            }
+        }
+    }
+
+    /// The choice where the system is among the tries, if it has something to do. Else it goes on to the next one.
     fn try_here(&mut self, node: &mut Node<'_>) -> Result<Option<(Choice, Prepared)>, NoMemory>
         ensures same { node.new ≡ node.old }
         ensures prepared { IfOk result (λ o. IfSome o (λ x. x.1 ≡ prepare node.old.deck node.old.node x.0)) }
@@ -289,18 +411,12 @@ impl Lap {
         ensures addressed { IfOk result (λ o. IfSome o (λ x. is_addressed node.old.deck node.old.node.tasks.system x.1 ≡ true)) }
         ensures in_time { IfOk result (λ o. IfSome o (λ x. is_early node.old x.0 ≡ false)) }
     {
-        let here = self.here();
-        self.move_on();
-        if let Some(choice) = here {
-            match node.prepare(&choice)? {
-                Prepared::Nothing => {}
-                prepared => {
-                    self.events = self.events.saturating_add(1);
-                    self.last = Last::Choice;
-                    return Ok(Some((choice, prepared)));
-                }
+        if let Some(choice) = self.here() {
+            if let Some(found) = self.try_choice(node, choice)? {
+                return Ok(Some(found));
             }
         }
+        self.move_on();
         Ok(None)
     }
 
@@ -322,6 +438,99 @@ impl Lap {
             }
         }
         Ok(None)
+    }
+
+    /// That a task goes on, or in star mode sends, if it has something to do.
+    fn try_task(
+        &mut self,
+        node: &mut Node<'_>,
+        task: TaskId,
+    ) -> Result<Option<(Choice, Prepared)>, NoMemory>
+        ensures same { node.new ≡ node.old }
+        ensures prepared { IfOk result (λ o. IfSome o (λ x. x.1 ≡ prepare node.old.deck node.old.node x.0)) }
+        ensures some { IfOk result (λ o. IfSome o (λ x. x.1 ≢ Nothing)) }
+        ensures addressed { IfOk result (λ o. IfSome o (λ x. is_addressed node.old.deck node.old.node.tasks.system x.1 ≡ true)) }
+        ensures in_time { IfOk result (λ o. IfSome o (λ x. is_early node.old x.0 ≡ false)) }
+    {
+        match self.try_choice(node, Choice::Task(task))? {
+            None if self.star => self.try_choice(node, Choice::Send(task)),
+            found => Ok(found),
+        }
+    }
+
+    /// The first of the tasks that may get on which has something to do.
+    fn find_ready(&mut self, node: &mut Node<'_>) -> Result<Option<(Choice, Prepared)>, NoMemory>
+        ensures same { node.new ≡ node.old }
+        ensures prepared { IfOk result (λ o. IfSome o (λ x. x.1 ≡ prepare node.old.deck node.old.node x.0)) }
+        ensures some { IfOk result (λ o. IfSome o (λ x. x.1 ≢ Nothing)) }
+        ensures addressed { IfOk result (λ o. IfSome o (λ x. is_addressed node.old.deck node.old.node.tasks.system x.1 ≡ true)) }
+        ensures in_time { IfOk result (λ o. IfSome o (λ x. is_early node.old x.0 ≡ false)) }
+    {
+        for _ in 0..self.ready.len() {
+            let Some(task) = self.ready.pop_front() else {
+                return Ok(None);
+            };
+            if let Some(found) = self.try_task(node, task)? {
+                return Ok(Some(found));
+            }
+        }
+        Ok(None)
+    }
+
+    /// A command of the desk, if one has something to do: of those that are due, or of all.
+    fn command(
+        &mut self,
+        node: &mut Node<'_>,
+        all: bool,
+    ) -> Result<Option<(Choice, Prepared)>, NoMemory>
+        ensures same { node.new ≡ node.old }
+        ensures prepared { IfOk result (λ o. IfSome o (λ x. x.1 ≡ prepare node.old.deck node.old.node x.0)) }
+        ensures some { IfOk result (λ o. IfSome o (λ x. x.1 ≢ Nothing)) }
+        ensures addressed { IfOk result (λ o. IfSome o (λ x. is_addressed node.old.deck node.old.node.tasks.system x.1 ≡ true)) }
+        ensures in_time { IfOk result (λ o. IfSome o (λ x. is_early node.old x.0 ≡ false)) }
+    {
+        for place in 0..self.desk.len() {
+            let Command { after, order } = match self.desk.as_slice().get(place) {
+                Some(command) => *command,
+                None => return Ok(None),
+            };
+            if all || after <= self.steps as u64 {
+                if let Some(found) = self.try_choice(node, to_order(order))? {
+                    return Ok(Some(found));
+                }
+            }
+        }
+        Ok(None)
+    }
+
+    /// A command of the desk that is due, once since the system changed.
+    fn command_due(&mut self, node: &mut Node<'_>) -> Result<Option<(Choice, Prepared)>, NoMemory>
+        ensures same { node.new ≡ node.old }
+        ensures prepared { IfOk result (λ o. IfSome o (λ x. x.1 ≡ prepare node.old.deck node.old.node x.0)) }
+        ensures some { IfOk result (λ o. IfSome o (λ x. x.1 ≢ Nothing)) }
+        ensures addressed { IfOk result (λ o. IfSome o (λ x. is_addressed node.old.deck node.old.node.tasks.system x.1 ≡ true)) }
+        ensures in_time { IfOk result (λ o. IfSome o (λ x. is_early node.old x.0 ≡ false)) }
+    {
+        if !self.has_changed {
+            return Ok(None);
+        }
+        self.has_changed = false;
+        self.command(node, false)
+    }
+
+    /// A command of the desk where there is nothing else to do, once since the system was woken.
+    fn command_left(&mut self, node: &mut Node<'_>) -> Result<Option<(Choice, Prepared)>, NoMemory>
+        ensures same { node.new ≡ node.old }
+        ensures prepared { IfOk result (λ o. IfSome o (λ x. x.1 ≡ prepare node.old.deck node.old.node x.0)) }
+        ensures some { IfOk result (λ o. IfSome o (λ x. x.1 ≢ Nothing)) }
+        ensures addressed { IfOk result (λ o. IfSome o (λ x. is_addressed node.old.deck node.old.node.tasks.system x.1 ≡ true)) }
+        ensures in_time { IfOk result (λ o. IfSome o (λ x. is_early node.old x.0 ≡ false)) }
+    {
+        if self.desk_was_tried {
+            return Ok(None);
+        }
+        self.desk_was_tried = true;
+        self.command(node, true)
     }
 
     /// The next lock entry in which interest can be given up, where nothing is pending.
@@ -358,7 +567,6 @@ impl Lap {
     {
         let (choice, prepared) = turn_or_take(node)?;
         self.then = Then::Rest;
-        self.stays = false;
         self.last = Last::Turn;
         if matches!(choice, Choice::Take) {
             self.last = Last::Look;
@@ -379,6 +587,7 @@ impl Lap {
             Prepared::Nothing => Ok(None),
             prepared => {
                 self.last = Last::Rest;
+                self.at_rest = true;
                 Ok(Some((Choice::Rest, prepared)))
             }
         }
@@ -398,7 +607,9 @@ impl Lap {
         self.leave(node)
     }
 
-    /// Behind all other choices: a turn or a look into the inbox, and then a rest, each once until the system changes or is woken.
+    /// Behind all other choices: a turn or a look into the inbox, and then what is left of the desk and a rest, each once until the
+    /// system changes or is woken. It rests where none of its tasks and requests got on, and the turn or look was in vain, or else it
+    /// would hear more.
     fn turn_then_rest(
         &mut self,
         node: &mut Node<'_>,
@@ -411,16 +622,19 @@ impl Lap {
     {
         match self.then {
             Then::Turn => Ok(Some(self.turn(node)?)),
-            Then::Rest | Then::Nothing if self.stays && node.pending() => {
-                Ok(Some(self.turn(node)?))
+            Then::Rest if !self.busy && (self.in_vain || self.at_rest) => {
+                match self.command_left(node)? {
+                    None => self.rest(node),
+                    found => Ok(found),
+                }
             }
-            Then::Rest if !self.busy => self.rest(node),
             Then::Rest | Then::Nothing => Ok(None),
         }
     }
 
     /// The next choice that has something to do, and what it comes to; none where there is nothing to do until the medium changes.
-    /// Mail is taken until the inbox is empty; then the choices are gone through, as long as the system changes.
+    /// Mail is taken until the inbox is empty. Then come commands of the desk that are due, the tasks that may get on, and all choices,
+    /// as long as the system changes.
     pub(crate) fn next(
         &mut self,
         node: &mut Node<'_>,
@@ -431,9 +645,15 @@ impl Lap {
         ensures addressed { IfOk result (λ o. IfSome o (λ x. is_addressed node.old.deck node.old.node.tasks.system x.1 ≡ true)) }
         ensures in_time { IfOk result (λ o. IfSome o (λ x. is_early node.old x.0 ≡ false)) }
     {
-        self.look_back(node);
+        self.look_back(node)?;
         if matches!(self.last, Last::Look) {
             return Ok(Some(self.turn(node)?));
+        }
+        if let Some(found) = self.command_due(node)? {
+            return Ok(Some(found));
+        }
+        if let Some(found) = self.find_ready(node)? {
+            return Ok(Some(found));
         }
         if let Some(found) = self.find(node)? {
             return Ok(Some(found));
@@ -457,7 +677,7 @@ impl Lap {
             Some(found) => Ok(found),
             None => {
                 thread::yield_now();
-                self.wake();
+                self.wake(false);
                 self.turn(node)
             }
         }

@@ -7,9 +7,10 @@ ghost use Rattle.grs_node.specs.declared.prepared.Prepared.TheVariants.{Call as 
 ghost use Rattle.grs_workers.specs.Stands.{stand, IsOn, Agrees, Deed, is_last, is_last_reply, is_early, IsDone};
 ghost use Rattle.grs_workers.specs.Rounds.{Went, Grew, Each, HasWorked, is_out};
 
+use crate::beds::Sleeper;
 use crate::gate::Gate;
 use crate::worker::Worker;
-use grs_base::NoMemory;
+use grs_base::{MOST_SYSTEMS, NoMemory};
 use grs_bus::Bus;
 use grs_node::Prepared;
 use grs_wire::{Call, Choice, Reply};
@@ -20,9 +21,6 @@ use std::thread::Threads;
 /// The most events that a worker makes in a round.
 const MOST_EVENTS: u32 = 64;
 
-/// The most threads of a round.
-pub(crate) const MOST_THREADS: usize = 64;
-
 /// Whether a reply ends the round of its worker.
 fn is_last_reply(reply: &Reply) -> bool
     ensures { result ≡ is_last_reply reply.now }
@@ -30,12 +28,13 @@ fn is_last_reply(reply: &Reply) -> bool
     matches!(reply, Reply::Over | Reply::Removed)
 }
 
-/// An event with this call: whether its reply ends the round.
+/// An event with this call: whether its reply ends the round. Whom it concerns is woken at once, where workers sleep.
 fn make_call<R: Wait, G: Gate>(
     rt: &R,
     bus: &Bus,
     worker: &mut Worker<'_>,
     gate: &G,
+    sleeper: Option<&Sleeper<'_>>,
     choice: Choice,
     call: Call,
 ) -> Result<bool, NoMemory>
@@ -51,6 +50,10 @@ fn make_call<R: Wait, G: Gate>(
     let system = worker.seat.system();
     gate.before(system, worker);
     let (reply, entered) = bus.call(rt, &mut worker.seat, call)?;
+    if let Some(sleeper) = sleeper {
+        sleeper.tell(worker.seat.concerned());
+    }
+    worker.lap.replied(&reply);
     let out = is_last_reply(&reply);
     worker.node.finish(&choice, Some((reply, entered)))?;
     worker.calls = worker.calls.saturating_add(1);
@@ -64,6 +67,7 @@ pub(crate) fn act<R: Wait, G: Gate>(
     bus: &Bus,
     worker: &mut Worker<'_>,
     gate: &G,
+    sleeper: Option<&Sleeper<'_>>,
     choice: Choice,
     prepared: Prepared,
 ) -> Result<bool, NoMemory>
@@ -82,7 +86,7 @@ pub(crate) fn act<R: Wait, G: Gate>(
             worker.node.finish(&choice, None)?;
             Ok(false)
         }
-        Prepared::Call(call) => make_call(rt, bus, worker, gate, choice, call),
+        Prepared::Call(call) => make_call(rt, bus, worker, gate, sleeper, choice, call),
         Prepared::Nothing => unreachable!(),
     }
 }
@@ -101,7 +105,7 @@ fn event<R: Wait, G: Gate>(
     ensures agrees { OnOk result (Agrees (stand worker.new)) }
 {
     let (choice, prepared) = worker.lap.pick(&mut worker.node)?;
-    act(rt, bus, worker, gate, choice, prepared)
+    act(rt, bus, worker, gate, None, choice, prepared)
 }
 
 /// The events of a round: whether one was answered Over or Removed. Behind that the worker makes none.
@@ -148,7 +152,7 @@ fn all_work<R: Threads + Wait + Sync, G: Gate + Sync>(
     thread::for_each_mut(
         rt,
         workers,
-        MOST_THREADS,
+        MOST_SYSTEMS,
         &|_, worker| work(rt, bus, worker, gate),
     );
 }

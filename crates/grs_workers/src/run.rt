@@ -1,5 +1,5 @@
 //! The systems of a deck beside each other, from their first events until all have come to rest.
-ghost use Rattle.std.specs.Prelude.{◌≡◌, map, All, IfOk, OnOk};
+ghost use Rattle.std.specs.Prelude.{◌≡◌, true, map, All, IfOk, OnOk};
 ghost use Rattle.grs_wire.specs.Decks.{IsDeck};
 ghost use Rattle.grs_workers.specs.Beside.{medium_of, RanBeside, AllLast, AreFirst, IsOver};
 ghost use Rattle.grs_workers.specs.Rounds.{Grew, Each};
@@ -18,6 +18,12 @@ use grs_wire::{Deck, JEntry};
 use std::alloc::Global;
 use std::sync::Wait;
 use std::thread::Threads;
+
+/// How often a worker that would sleep lets other threads run as long as some worker has yet to begin, in the first stretch, and in
+/// those behind it, where threads were wanting or slow before.
+const FIRST_PATIENCE: u64 = 10_000;
+
+const LATER_PATIENCE: u64 = 300;
 
 /// What systems that ran beside each other leave behind: the medium, the journal of its calls, and the systems in their order,
 /// each with its log.
@@ -44,10 +50,36 @@ fn begin<'d>(alloc: Global, deck: &'d Deck) -> Result<(Bus, Vec<Worker<'d>>), No
     Ok((bus, workers))
 }
 
-/// A stretch, and rounds, until each worker is answered Over or Removed in one.
+/// A stretch, and behind it a round, where each worker was answered Over or Removed, or nobody got on: whether each was answered so in
+/// the round.
+#[tactic(auto, using(crate::proofs::RoundLaws::rounds))]
+fn stretch_and_round<R: Threads + Wait + Sync, G: Gate + Sync>(
+    rt: &R,
+    alloc: Global,
+    bus: &Bus,
+    workers: &mut [Worker<'_>],
+    gate: &G,
+    patience: u64,
+) -> Result<bool, NoMemory>
+    requires on { All (λ w. IsOn bus.now (stand w)) workers.old }
+    requires agree { All (λ w. Agrees (stand w)) workers.old }
+    ensures grew { OnOk result (Each (λ v w. Grew (stand v) (stand w)) workers.old workers.new) }
+    ensures over { IfOk result (λ over. over ≡ true → All (λ w. IsOver (stand w)) workers.new) }
+    ensures on { OnOk result (All (λ w. IsOn bus.now (stand w)) workers.new) }
+    ensures agree { OnOk result (All (λ w. Agrees (stand w)) workers.new) }
+{
+    if !stretch(rt, alloc, bus, workers, gate, patience)? {
+        return Ok(false);
+    }
+    let over = round(rt, bus, workers, gate)?;
+    Ok(over)
+}
+
+/// Stretches and rounds, until each worker is answered Over or Removed in a round.
 #[tactic(auto, using(crate::proofs::RoundLaws::rounds))]
 fn rounds<R: Threads + Wait + Sync, G: Gate + Sync>(
     rt: &R,
+    alloc: Global,
     bus: &Bus,
     workers: &mut [Worker<'_>],
     gate: &G,
@@ -58,11 +90,12 @@ fn rounds<R: Threads + Wait + Sync, G: Gate + Sync>(
     ensures over { OnOk result (All (λ w. IsOver (stand w)) workers.new) }
     ensures on { OnOk result (All (λ w. IsOn bus.now (stand w)) workers.new) }
 {
-    stretch(rt, bus, workers, gate)?;
+    let mut patience = FIRST_PATIENCE;
     for _ in rt.forever() {
-        if round(rt, bus, workers, gate)? {
+        if stretch_and_round(rt, alloc, bus, workers, gate, patience)? {
             return Ok(());
         }
+        patience = LATER_PATIENCE;
     }
     unreachable!()
 }
@@ -97,7 +130,7 @@ pub fn run_workers<'d, R: Threads + Wait + Sync, G: Gate + Sync>(
     ensures last { IfOk result (λ r. AllLast deck.now r.journal) }
 {
     let (bus, mut workers) = begin(alloc, deck)?;
-    rounds(rt, &bus, workers.as_mut_slice(), gate)?;
+    rounds(rt, alloc, &bus, workers.as_mut_slice(), gate)?;
     let (nodes, seats) = apart(alloc, workers)?;
     let (medium, journal) = bus.close(seats);
     Ok(Ran {

@@ -3,26 +3,28 @@ ghost use Rattle.std.specs.Prelude.{◌≡◌, All, IfOk, IfErr, OnOk};
 ghost use Rattle.grs_workers.specs.Stands.{stand, IsOn, Agrees};
 ghost use Rattle.grs_workers.specs.Rounds.{Grew, Each, HasMoved};
 
+use crate::beds::{Beds, Sleeper, Woken};
 use crate::gate::Gate;
-use crate::news::{Listener, News};
-use crate::rounds::{MOST_THREADS, act, all_out};
+use crate::lap::Lap;
+use crate::rounds::{act, all_out};
 use crate::worker::Worker;
-use grs_base::NoMemory;
+use grs_base::{MOST_SYSTEMS, NoMemory};
 use grs_bus::Bus;
-use grs_node::Prepared;
+use grs_wire::Choice;
+use std::alloc::Global;
 use std::sync::Wait;
 use std::thread;
 use std::thread::Threads;
 
-/// What came of looking for an event.
+/// How a worker goes on.
 #[derive(Clone, Copy)]
-enum Came {
-    /// There was nothing to do.
-    Nothing,
-    /// The event was answered Over or Removed.
-    Last,
-    /// Another event was made.
-    Event,
+enum Goes {
+    /// With another event.
+    On,
+    /// It was answered Over or Removed.
+    Out,
+    /// Nobody is to sleep any more, or it was woken again and again, and had nothing to do.
+    Away,
 }
 
 /// The next event, if there is something to do.
@@ -31,8 +33,8 @@ fn event_if<R: Wait, G: Gate>(
     bus: &Bus,
     worker: &mut Worker<'_>,
     gate: &G,
-    listener: &mut Listener<'_>,
-) -> Result<Came, NoMemory>
+    sleeper: &Sleeper<'_>,
+) -> Result<Option<Goes>, NoMemory>
     requires on { IsOn bus.now (stand worker.old) }
     requires agrees { Agrees (stand worker.old) }
     ensures grew { OnOk result (Grew (stand worker.old) (stand worker.new)) }
@@ -40,65 +42,65 @@ fn event_if<R: Wait, G: Gate>(
     ensures agrees { OnOk result (Agrees (stand worker.new)) }
 {
     let Some((choice, prepared)) = worker.lap.next(&mut worker.node)? else {
-        return Ok(Came::Nothing);
+        return Ok(None);
     };
-    if matches!(prepared, Prepared::Call(_)) {
-        listener.call(rt);
+    if matches!(choice, Choice::Turn | Choice::Take) {
+        sleeper.asks();
     }
-    if act(rt, bus, worker, gate, choice, prepared)? {
-        Ok(Came::Last)
+    if act(rt, bus, worker, gate, Some(sleeper), choice, prepared)? {
+        Ok(Some(Goes::Out))
     } else {
-        Ok(Came::Event)
+        Ok(Some(Goes::On))
     }
 }
 
-/// Tells what the event was that a worker made last, whose log had so many steps before.
-fn report(worker: &Worker<'_>, steps: usize, listener: &mut Listener<'_>) {
-    if worker.lap.asked() {
-        listener.asked();
+/// There is nothing to do: the worker asks once more, where it has yet to sleep, and else it sleeps until it is called.
+fn rest<R: Wait>(rt: &R, lap: &mut Lap, sleeper: &mut Sleeper<'_>) -> Goes {
+    if sleeper.asks_again() {
+        lap.ask();
+        return Goes::On;
     }
-    let log = worker.node.log().steps.as_slice();
-    if log.len() > steps && log.last().is_some_and(|step| step.journalled) {
-        listener.tell();
+    let woken = sleeper.sleep(rt, lap.at_rest());
+    lap.wake(woken == Woken::Alone);
+    match woken {
+        Woken::Called | Woken::Alone => Goes::On,
+        Woken::Never => Goes::Away,
     }
 }
 
-/// The next event, or where there is nothing to do a sleep: whether the stretch ends for the worker.
+/// The next event, or where there is nothing to do a sleep.
 fn step<R: Wait, G: Gate>(
     rt: &R,
     bus: &Bus,
     worker: &mut Worker<'_>,
     gate: &G,
-    listener: &mut Listener<'_>,
-) -> Result<bool, NoMemory>
+    sleeper: &mut Sleeper<'_>,
+) -> Result<Goes, NoMemory>
     requires on { IsOn bus.now (stand worker.old) }
     requires agrees { Agrees (stand worker.old) }
     ensures grew { OnOk result (Grew (stand worker.old) (stand worker.new)) }
     ensures on { OnOk result (IsOn bus.now (stand worker.new)) }
     ensures agrees { OnOk result (Agrees (stand worker.new)) }
 {
-    listener.listen();
     let steps = worker.node.log().steps.len();
-    let came = event_if(rt, bus, worker, gate, listener)?;
-    match came {
-        Came::Nothing => {
-            worker.lap.wake();
-            Ok(listener.gives_up(rt))
+    match event_if(rt, bus, worker, gate, sleeper)? {
+        Some(goes) => {
+            if worker.node.log().steps.len() != steps {
+                sleeper.got_on();
+            }
+            Ok(goes)
         }
-        Came::Last | Came::Event => {
-            report(worker, steps, listener);
-            Ok(matches!(came, Came::Last))
-        }
+        None => Ok(rest(rt, &mut worker.lap, sleeper)),
     }
 }
 
-/// Events, until one is answered Over or Removed, or again and again there is nothing new.
+/// Events, until one is answered Over or Removed, or the worker gives up: whether one was.
 fn events_in_stretch<R: Wait, G: Gate>(
     rt: &R,
     bus: &Bus,
     worker: &mut Worker<'_>,
     gate: &G,
-    listener: &mut Listener<'_>,
+    sleeper: &mut Sleeper<'_>,
 ) -> Result<bool, NoMemory>
     requires on { IsOn bus.now (stand worker.old) }
     requires agrees { Agrees (stand worker.old) }
@@ -107,8 +109,10 @@ fn events_in_stretch<R: Wait, G: Gate>(
     ensures agrees { OnOk result (Agrees (stand worker.new)) }
 {
     for _ in rt.forever() {
-        if step(rt, bus, worker, gate, listener)? {
-            return Ok(true);
+        match step(rt, bus, worker, gate, sleeper)? {
+            Goes::On => {}
+            Goes::Out => return Ok(true),
+            Goes::Away => return Ok(false),
         }
     }
     unreachable!()
@@ -120,16 +124,17 @@ fn work_on<R: Wait, G: Gate>(
     bus: &Bus,
     worker: &mut Worker<'_>,
     gate: &G,
-    news: &News,
+    beds: &Beds,
     place: usize,
 )
     requires on { IsOn bus.now (stand worker.old) }
     requires agrees { Agrees (stand worker.old) }
     ensures { HasMoved bus.now worker.old worker.new }
 {
-    let mut listener = Listener::new(news, place);
-    worker.outcome = events_in_stretch(rt, bus, worker, gate, &mut listener);
-    listener.done();
+    let mut sleeper = Sleeper::new(beds, place);
+    worker.lap.wake(false);
+    worker.outcome = events_in_stretch(rt, bus, worker, gate, &mut sleeper);
+    sleeper.done(rt, !matches!(worker.outcome, Ok(true)));
 }
 
 /// All workers at once.
@@ -138,35 +143,40 @@ fn all_work_on<R: Threads + Wait + Sync, G: Gate + Sync>(
     bus: &Bus,
     workers: &mut [Worker<'_>],
     gate: &G,
+    beds: &Beds,
 )
     requires on { All (λ w. IsOn bus.now (stand w)) workers.old }
     requires agree { All (λ w. Agrees (stand w)) workers.old }
     ensures { Each (HasMoved bus.now) workers.old workers.new }
 {
-    let news = News::new(workers.len());
     thread::for_each_mut(
         rt,
         workers,
-        MOST_THREADS,
-        &|place, worker| work_on(rt, bus, worker, gate, &news, place),
+        MOST_SYSTEMS,
+        &|place, worker| work_on(rt, bus, worker, gate, beds, place),
     );
 }
 
 /// A stretch, for which it waits: all workers at once, each with as many events as it finds to do, until it is answered Over or Removed,
-/// or nobody gave it anything to do for a while. After NoMemory the run is to be given up.
+/// or gives up, as where there are no threads for all: whether a round is to follow, since each was answered so, or nobody got on. A
+/// worker that would sleep lets other threads run so often as long as some worker has yet to begin. After NoMemory the run is to be
+/// given up.
 pub(crate) fn stretch<R: Threads + Wait + Sync, G: Gate + Sync>(
     rt: &R,
+    alloc: Global,
     bus: &Bus,
     workers: &mut [Worker<'_>],
     gate: &G,
-) -> Result<(), NoMemory>
+    patience: u64,
+) -> Result<bool, NoMemory>
     requires on { All (λ w. IsOn bus.now (stand w)) workers.old }
     requires agree { All (λ w. Agrees (stand w)) workers.old }
     ensures grew { OnOk result (Each (λ v w. Grew (stand v) (stand w)) workers.old workers.new) }
     ensures on { OnOk result (All (λ w. IsOn bus.now (stand w)) workers.new) }
     ensures agree { OnOk result (All (λ w. Agrees (stand w)) workers.new) }
 {
-    all_work_on(rt, bus, workers, gate);
-    all_out(workers)?;
-    Ok(())
+    let beds = Beds::new(alloc, workers.len(), patience)?;
+    all_work_on(rt, bus, workers, gate, &beds);
+    let all = all_out(workers)?;
+    Ok(all || !beds.got_on())
 }

@@ -1,24 +1,15 @@
 //! That workers run beside each other: one is held ahead of its first call until another, which begins no sooner, has been answered
 //! its second. That comes about only where nobody waits for the one that is held. And that the printed steps are those of the workers.
+use crate::runs::{ran, reaches};
 use crossbeam_utils::atomic::AtomicCell;
-use grs_base::{List, NoMemory, SysId};
-use grs_io::{MemSink, MemSource};
-use grs_top::{Status, run_command};
+use grs_base::{List, SysId};
+use grs_top::Status;
 use grs_workers::{Gate, Worker};
-use std::alloc::Global;
-use std::sync::Wait;
 use std::test::Fail;
-use std::thread::Threads;
 
 /// Two systems of a ring with a task each that want the same resource.
 const RING: &[u8] = b"SYSTEM SYA\nJOB J1\nTASK T1\nENQ (A,B,E,SYSTEMS)\nDEQ (A,B,SYSTEMS)\n\
     SYSTEM SYB\nJOB J1\nTASK T1\nENQ (A,B,E,SYSTEMS)\nDEQ (A,B,SYSTEMS)\n";
-
-/// How often the gate looks whether the other system came, or was answered, before it gives up.
-const MOST_TURNS: u64 = 1_000_000_000;
-
-/// How many bytes a read or write moves.
-const CHUNK: usize = 4096;
 
 /// Holds the first call of one system until the second call of another is answered, and the first call of the other until the one has
 /// come. So whichever comes sooner waits for both to be at the gate. It keeps how many steps the log of each worker had that was lent
@@ -27,8 +18,8 @@ const CHUNK: usize = 4096;
 struct Held {
     first: SysId,
     second: SysId,
-    came: AtomicCell<bool>,
-    answered: AtomicCell<bool>,
+    came: AtomicCell<u64>,
+    answered: AtomicCell<u64>,
     /// The one saw that the other was answered.
     passed: AtomicCell<bool>,
     /// The other saw that the one had come.
@@ -36,23 +27,13 @@ struct Held {
     steps: [AtomicCell<u64>; 2],
 }
 
-/// Whether a flag is set in the end; it gives up behind so many turns.
-fn is_set(flag: &AtomicCell<bool>) -> bool {
-    for _ in 0..MOST_TURNS {
-        if flag.load() {
-            return true;
-        }
-    }
-    false
-}
-
 impl Held {
     fn new(first: u8, second: u8) -> Held {
         Held {
             first: SysId(first),
             second: SysId(second),
-            came: AtomicCell::new(false),
-            answered: AtomicCell::new(false),
+            came: AtomicCell::new(0),
+            answered: AtomicCell::new(0),
             passed: AtomicCell::new(false),
             met: AtomicCell::new(false),
             steps: [AtomicCell::new(0), AtomicCell::new(0)],
@@ -67,10 +48,10 @@ impl Held {
 
     fn hold(&self, system: SysId) {
         if system == self.first {
-            self.came.store(true);
-            self.passed.store(is_set(&self.answered));
+            self.came.store(1);
+            self.passed.store(reaches(&self.answered, 1));
         } else if system == self.second {
-            self.met.store(is_set(&self.came));
+            self.met.store(reaches(&self.came, 1));
         }
     }
 }
@@ -86,7 +67,7 @@ impl Gate for Held {
     fn after(&self, system: SysId, worker: &Worker<'_>) {
         self.keep(system, worker);
         if system == self.second && worker.calls == 2 {
-            self.answered.store(true);
+            self.answered.store(1);
         }
     }
 }
@@ -130,14 +111,6 @@ impl Outcome {
     }
 }
 
-fn ran<R: Threads + Wait + Sync>(rt: &R, alloc: Global, gate: &Held) -> Result<Outcome, NoMemory> {
-    let deck = List::from_bytes(alloc, RING)?;
-    let mut source = MemSource::new(deck, CHUNK, List::new(alloc));
-    let mut sink = MemSink::new(alloc, CHUNK, List::new(alloc));
-    let status = run_command(rt, alloc, &mut source, &mut sink, gate);
-    Ok(Outcome::of(status, sink.bytes(), gate))
-}
-
 #[test]
 fn a_system_that_is_held_holds_nobody(rt: HostRuntime) -> Result<(), Fail> {
     let right = Outcome {
@@ -147,8 +120,9 @@ fn a_system_that_is_held_holds_nobody(rt: HostRuntime) -> Result<(), Fail> {
     };
     for (first, second) in [(0, 1), (1, 0)] {
         let gate = Held::new(first, second);
-        let outcome = ran(&rt, rt.alloc(), &gate)?;
-        assert_eq!(rt; outcome, right);
+        let deck = List::from_bytes(rt.alloc(), RING)?;
+        let (status, report) = ran(&rt, rt.alloc(), deck, &gate)?;
+        assert_eq!(rt; Outcome::of(status, report.as_slice(), &gate), right);
     }
     Ok(())
 }

@@ -4,3 +4,9 @@
 
 #[cfg(test)]
 mod held;
+#[cfg(test)]
+mod runs;
+#[cfg(test)]
+mod three;
+#[cfg(test)]
+mod waking;

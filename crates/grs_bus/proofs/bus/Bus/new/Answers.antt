@@ -9,7 +9,7 @@ use Rattle.grs_bus.proofs.bus.Bus.new.Goals as goal
 pub new-requires-2 : goal.new-requires-2
 new-requires-2 c =
     let first = c.of-first.result.value in
-    let slot : Slot = record { medium = c.args.medium; journal = c.new.result; alloc = c.args.alloc } in
+    let slot : Slot = record { medium = c.args.medium; journal = c.new.result; alloc = c.args.alloc; concerned = 0 } in
     let one : c.into_vec.result.items ≡ slot ∷ [] =
     c.into_vec.ensures ∙ (c.in_ok-push.ensures.ok ∙ ap (λ (l : List Slot). l ++ slot ∷ []) c.new-slots.ensures) in
     subst (λ (l : List Slot). IsKept first (opening (0 ∷ []) l (founder first))) (sym one)

@@ -1,4 +1,8 @@
-use Rattle.std.proofs.Common.{rules, ◌≡◌, false, refl, sym}
+use Rattle.std.proofs.Common.{rules, ◌≡◌, false, refl, sym, ap, subst}
+use Rattle.grs_wire.specs.declared.medium.Call.{Call}
+use Rattle.grs_medium.specs.Apply.{ActFits, MayCall}
+use Rattle.grs_medium.specs.Medium.{MediumState}
+use Rattle.grs_medium.proofs.KeptSizes.{may_call_behind}
 use Rattle.grs_bus.specs.Journal.{is_entered}
 use Rattle.grs_bus.proofs.JournalLaws.{left_out, stays}
 use Rattle.grs_bus.proofs.slot.Slot.answer.Goals as goal
@@ -8,3 +12,13 @@ returns-then-not-is_acted_on-clause-ok c =
     let plain : is_entered c.args.self.now.medium.state c.args.caller c.args.call ≡ false =
     left_out _ _ _ (search rules) (search rules) in
     (search rules, sym plain, refl, sym (stays _ _ _ plain))
+
+pub concerned-self-requires : goal.concerned-self-requires
+concerned-self-requires c =
+    let ready = c.reserve-2.new.self.state in
+    let may : MayCall ready c.args.caller c.args.call =
+    subst (λ (m : MediumState). MayCall m c.args.caller c.args.call) (sym c.reserve-2.ensures.state) c.requires in
+    let fits : ActFits c.apply-given.new.self.state c.args.caller c.args.call.act =
+    subst (λ (m : MediumState). ActFits m c.args.caller c.args.call.act) (sym c.apply-given.ensures.state)
+    (may_call_behind ready c.args.caller c.args.call c.args.caller c.args.call may.1 may).1 in
+    subst (λ (x : Call). ActFits c.apply-given.new.self.state c.args.caller x.act) (sym c.in_ok-asked.ensures) fits

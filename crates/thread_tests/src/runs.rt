@@ -1,0 +1,65 @@
+//! Decks made from parts, and runs of their systems beside each other; and how a gate waits.
+use crossbeam_utils::atomic::AtomicCell;
+use grs_base::{List, NoMemory};
+use grs_io::{MemSink, MemSource};
+use grs_top::{Status, run_command};
+use grs_workers::Gate;
+use std::alloc::Global;
+use std::sync::Wait;
+use std::thread;
+use std::thread::Threads;
+
+/// How often a gate looks whether something came about before it gives up.
+const MOST_TURNS: u64 = 1_000_000_000;
+
+/// How many bytes a read or write moves.
+const CHUNK: usize = 4096;
+
+/// Behind how many looks who waits lets other threads run.
+const LOOKS: u64 = 128;
+
+/// Whether a count reaches this in the end; it gives up behind so many turns.
+pub fn reaches(count: &AtomicCell<u64>, least: u64) -> bool {
+    for turn in 0..MOST_TURNS {
+        if count.load() >= least {
+            return true;
+        }
+        if turn % LOOKS == 0 {
+            thread::yield_now();
+        }
+    }
+    false
+}
+
+/// Adds a system with a task that has these lines so many times; none where that is 0.
+pub fn add_system(
+    deck: &mut List<u8>,
+    name: &[u8],
+    lines: &[u8],
+    times: u32,
+) -> Result<(), NoMemory> {
+    deck.append(b"SYSTEM ")?;
+    deck.append(name)?;
+    deck.append(b"\n")?;
+    if times != 0 {
+        deck.append(b"JOB J1\nTASK T1\n")?;
+    }
+    for _ in 0..times {
+        deck.append(lines)?;
+    }
+    Ok(())
+}
+
+/// Runs a deck by threads under this gate: the status, and the report.
+pub fn ran<R: Threads + Wait + Sync, G: Gate + Sync>(
+    rt: &R,
+    alloc: Global,
+    deck: List<u8>,
+    gate: &G,
+) -> Result<(Status, List<u8>), NoMemory> {
+    let mut source = MemSource::new(deck, CHUNK, List::new(alloc));
+    let mut sink = MemSink::new(alloc, CHUNK, List::new(alloc));
+    let status = run_command(rt, alloc, &mut source, &mut sink, gate);
+    let report = List::from_bytes(alloc, sink.bytes())?;
+    Ok((status, report))
+}
