@@ -39,7 +39,7 @@ fn owners_in(alloc: Global, elems: &[Elem]) -> Result<List<TaskId>, NoMemory>
 
 /// The tasks that get control when the element at a place of a list leaves, where so many are shared before the first
 /// exclusive one.
-pub(crate) fn tasks_behind(
+pub fn tasks_behind(
     alloc: Global,
     elems: &[Elem],
     front: usize,

@@ -1,0 +1,3 @@
+pub mod LatchLemmas
+pub mod NumberLemmas
+pub mod WorkedRows
