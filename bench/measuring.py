@@ -7,7 +7,8 @@ Where an unproved program of the same tables is named, it runs each deck by turn
 same, and the table has ratios: how many times as long the first takes, and how many times as much memory.
 
 A time is that of the processor, the best of five runs; a peak of memory is that of a run of its own. `x` says how
-many times as long a deck takes as the one before it in its family, by each program.
+many times as long a deck takes as the one before it in its family, by each program. Under `run` each program makes events
+of its own, so what is written isn't compared, and the time is that of all processors; no memory is told.
 """
 import contextlib
 import math
@@ -27,26 +28,26 @@ def joined(lines):
 
 
 @contextlib.contextmanager
-def started(program, deck, output=subprocess.DEVNULL):
+def started(program, deck, output=subprocess.DEVNULL, word="replay"):
     """A program at work on a deck."""
     with tempfile.TemporaryFile("w+") as source:
         source.write(deck)
         source.seek(0)
-        yield subprocess.Popen([program, "replay"], stdin=source, stdout=output)
+        yield subprocess.Popen([program, word], stdin=source, stdout=output)
 
 
-def written(program, deck):
+def written(program, deck, word):
     """What a program writes of a deck."""
-    with started(program, deck, subprocess.PIPE) as child:
+    with started(program, deck, subprocess.PIPE, word) as child:
         text = child.communicate()[0]
     if child.returncode not in (0, 4):
         sys.exit("%s answered status %d" % (program, child.returncode))
     return text
 
 
-def seconds(program, deck):
+def seconds(program, deck, word):
     """The processor time of a run on a deck."""
-    with started(program, deck) as child:
+    with started(program, deck, word=word) as child:
         _, _, used = os.wait4(child.pid, 0)
         child.returncode = 0
     return used.ru_utime + used.ru_stime
@@ -78,13 +79,13 @@ def peak(program, deck):
     return int(said["VmHWM"].split()[0]) / 1024
 
 
-def times(deck):
+def times(deck, word):
     """The least time of each program on a deck."""
-    if len({written(program, deck) for program in PROGRAMS}) > 1:
+    if len({written(program, deck, word) for program in PROGRAMS}) > 1 and word == "replay":
         sys.exit("the programs don't write the same")
     best = [math.inf] * len(PROGRAMS)
     for _ in range(ROUNDS):
-        best = [min(least, seconds(program, deck)) for least, program in zip(best, PROGRAMS)]
+        best = [min(least, seconds(program, deck, word)) for least, program in zip(best, PROGRAMS)]
     return best
 
 
@@ -95,7 +96,7 @@ def machine():
     return "%s, %d processors, %d MB, %s" % (model, os.cpu_count(), memory, platform.platform())
 
 
-def print_table(families):
+def print_table(families, word="replay"):
     """A line for each deck. Each family has a name, and decks in order, each with a name of its own."""
     print(machine())
     columns = "%9s %6s %7s"
@@ -105,8 +106,8 @@ def print_table(families):
     for family, decks in families:
         before = None
         for name, deck in decks:
-            taken = times(deck)
-            peaks = [peak(program, deck) for program in PROGRAMS]
+            taken = times(deck, word)
+            peaks = [peak(program, deck) if word == "replay" else math.nan for program in PROGRAMS]
             grown = ["%.2f" % (now / then) for now, then in zip(taken, before)] if before else [""] * len(taken)
             cells = [columns % ("%.1f" % (time * 1000), growth, "%.1f" % memory) for time, growth, memory in zip(taken, grown, peaks)]
             if compared:
