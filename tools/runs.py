@@ -1,0 +1,804 @@
+"""A run of a deck by its events, followed by a model of it, to say in words what the program keeps to itself.
+
+The model was written from docs/SERVICE.md and docs/TABLES.md. It isn't proved and decides nothing: whoever takes words from it
+first compares its report with the program's. Each event answers why it had nothing to do, or None where it did something.
+"""
+import decks
+from lists import Lists, Wanted, by_kind, by_name, is_shared, resolve
+
+# how many requests a TURN takes along at most
+TURN_TAKES = 32
+
+
+# Requests and tasks
+
+class Asked:
+    """A request: an ENQ, a DEQ, a RELEASE at a task's end, a LOOK at slices; or the REMOVEal of a system."""
+
+    def __init__(self, verb, task, line=0, resource=None, full=False, **of):
+        self.verb, self.task, self.line, self.resource, self.full = verb, task, line, resource, full
+        self.control, self.ret, self.unit = of.get("control", ""), of.get("ret", "NONE"), of.get("unit")
+        # of a look: what it shows, from which slice on, how many slices, how many are left behind these, and what is told
+        self.wanted, self.first, self.count = of.get("wanted"), of.get("first", 0), of.get("count", 0)
+        self.left, self.shown_as, self.target = of.get("left", 0), of.get("shown_as"), of.get("target")
+
+    def is_shared(self):
+        return self.verb == "LOOK" or is_shared(self.resource)
+
+    def entry(self, entries):
+        return (self.first if self.verb == "LOOK" else decks.slice_of(*self.resource[1:])) % entries
+
+    def next_look(self, count):
+        return Asked("LOOK", self.task, self.line, wanted=self.wanted, first=self.first, count=count,
+                     left=self.left + self.count - count, shown_as=self.shown_as)
+
+
+class Held:
+    """What a task has asked for and got into a list: told is whether it was told control."""
+
+    def __init__(self, asked, told):
+        self.resource, self.control, self.unit, self.line, self.ret, self.told = (
+            asked.resource, asked.control, asked.unit, asked.line, asked.ret, told)
+
+
+# phases of a task
+READY, TO_SEND, SENT, HELD_ANSWER, HELD_LINE, ENDING, ENDED = range(7)
+
+
+class TaskState:
+    def __init__(self):
+        self.phase, self.line, self.records, self.asked, self.code, self.rows = READY, 0, [], None, "", []
+        # the event in which it came into its phase, and what its WAIT line is for
+        self.since, self.waits_for = 0, None
+
+    def record(self, resource):
+        return next((it for it in self.records if it.resource == resource), None)
+
+    def is_free(self):
+        return self.phase in (READY, ENDING)
+
+
+class Medium:
+    """What the systems share: in ring mode the message, in star mode lock words and inboxes."""
+
+    def __init__(self, systems, entries, is_star):
+        self.systems, self.is_star = systems, is_star
+        self.at, self.closed, self.still, self.entries = None if is_star else 0, is_star, set(), []
+        self.words, self.inbox = [(0, None)] * entries, [[] for _ in range(systems)]
+        self.resting, self.removed = set(), {}
+
+    def live(self):
+        return [it for it in range(self.systems) if it not in self.removed]
+
+    def after(self, system):
+        return [(system + step) % self.systems for step in range(1, self.systems + 1)]
+
+    def put(self, asked):
+        self.entries.append((asked, set(self.live())))
+
+    def turn(self, system, asked):
+        """The entries that the system hasn't seen, and whether the message is closed; None where the message isn't there."""
+        if self.at != system:
+            return None
+        given = [it for it, mask in self.entries if system in mask]
+        self.leave_masks(system)
+        if self.closed:
+            self.still.discard(system)
+            self.resting.discard(system)
+            self.at = next((it for it in self.after(system) if it in self.still), None)
+            return given, True
+        for it in asked:
+            self.put(it)
+        if given or asked:
+            self.resting.discard(system)
+        unseen = set().union(*(mask for _, mask in self.entries))
+        self.at = next((it for it in self.after(system) if it not in self.removed and (it not in self.resting or it in unseen)), system)
+        return given, False
+
+    def leave_masks(self, system):
+        for _, mask in self.entries:
+            mask.discard(system)
+        self.entries = [it for it in self.entries if it[1]]
+
+    def purge(self, by, target, event):
+        if self.is_star:
+            return "INSTAR"
+        if target in self.removed:
+            return "NOSUCH"
+        self.removed[target] = event
+        self.leave_masks(target)
+        self.put(Asked("REMOVE", None, target=target))
+        if self.at == target:
+            self.at = next(it for it in self.after(target) if it not in self.removed)
+        self.resting.discard(by)
+        return "DONE"
+
+    def switch(self, system, words):
+        if self.is_star:
+            return "ALREADY"
+        if any(system in mask for _, mask in self.entries):
+            return "BEHIND"
+        self.is_star = self.closed = True
+        self.words, self.still = words, set(self.live()) - {system}
+        if self.at not in self.still:
+            self.at = next((it for it in self.after(self.at) if it in self.still), None)
+        self.resting.discard(system)
+        return "DONE"
+
+    def submit(self, system, entry, asked):
+        """Whether the system manages the entry from here on; else the request is mailed."""
+        mask, manager = self.words[entry]
+        self.words[entry] = mask | 1 << system, system if manager is None else manager
+        self.resting.discard(system)
+        if manager is not None:
+            self.inbox[manager].append(("request", entry, system, asked))
+        return manager is None
+
+    def mail(self, system, to, mail):
+        self.inbox[to].append(mail)
+        self.resting.discard(system)
+
+    def leave(self, system, entry):
+        mask, manager = self.words[entry]
+        if manager == system and mask != 1 << system:
+            return mask & ~(1 << system)
+        self.words[entry] = (0, None) if manager == system else (mask & ~(1 << system), manager)
+        self.resting.discard(system)
+        return 0
+
+
+class Node:
+    """A system: its tasks, its own lists, in ring mode its table of the complex's, in star mode what it manages."""
+
+    def __init__(self, run, number):
+        self.run, self.number, self.deck, self.medium = run, number, run.deck, run.medium
+        self.name, self.desk = run.deck.systems[number].name, run.deck.systems[number].desk
+        self.is_star, self.table, self.own, self.outbox = run.deck.is_star, Lists(), Lists(), []
+        # of each entry that it manages: its lists, and who of another system is still to be told of which resource
+        self.managed, self.held, self.interest, self.done, self.knows = {}, [], set(), 0, set()
+        self.tasks = [TaskState() for _ in run.deck.systems[number].tasks]
+
+    def entry(self, resource):
+        return decks.slice_of(*resource[1:]) % self.deck.entries
+
+    def enter(self, state, phase):
+        state.phase, state.since = phase, self.run.event
+
+    # what tasks are told
+
+    def tell(self, *line):
+        self.run.told.append((self.run.event, self.number, line))
+
+    def answer(self, asked, answer):
+        """What an answer does to its task."""
+        place, state = asked.task[1], self.tasks[asked.task[1]]
+        state.asked = None
+        if asked.verb == "LOOK":
+            state.rows = state.rows + answer
+            if not asked.left:
+                return self.show(place, asked.shown_as)
+            state.asked = Asked("LOOK", asked.task, asked.line, wanted=asked.wanted, first=asked.first + asked.count, count=1,
+                                left=asked.left - 1, shown_as=asked.shown_as)
+            return self.enter(state, TO_SEND)
+        if asked.verb == "RELEASE":
+            state.records.remove(state.record(asked.resource))
+            return self.enter(state, ENDING)
+        if asked.verb == "ENQ" and asked.ret == "CHNG" and answer == "00":
+            state.record(asked.resource).control = "E"
+        elif asked.verb == "ENQ" and asked.ret != "TEST" and (answer in ("00", "WAIT") or (asked.ret, answer) == ("ECB", "04")):
+            state.records.append(Held(asked, answer == "00"))
+        elif asked.verb == "DEQ" and answer == "00":
+            state.records.remove(state.record(asked.resource))
+        if answer == "WAIT":
+            return self.enter(state, HELD_ANSWER)
+        self.tell("CODE", place, asked.line, asked.verb, answer)
+        if len(answer) == 3:
+            state.code = answer
+        self.enter(state, ENDING if len(answer) == 3 else READY)
+
+    def show(self, place, verb):
+        state = self.tasks[place]
+        self.tell("SHOWN", place, state.line, verb, state.rows)
+        state.rows = []
+        self.enter(state, READY)
+
+    def control(self, task, resource):
+        """One of its tasks has control by another's request."""
+        state, place = self.tasks[task[1]], task[1]
+        record = state.record(resource)
+        record.told = True
+        if state.asked and state.asked.verb in ("DEQ", "RELEASE") and state.asked.resource == resource:
+            return
+        if record.ret != "ECB":
+            self.tell("CODE", place, record.line, "ENQ", "00")
+            return self.enter(state, READY)
+        self.tell("POST", place, record.line)
+        if state.phase == HELD_LINE and state.waits_for == resource:
+            self.tell("CODE", place, state.line, "WAIT", "00")
+            self.enter(state, READY)
+
+    # events: each answers why it had nothing to do, or None
+
+    def stale(self):
+        """In place of what it was to do a system is only told who was removed."""
+        if self.knows == set(self.medium.removed):
+            return None
+        gone = [self.run.name(it) for it in sorted(set(self.medium.removed) - self.knows)]
+        self.knows = set(self.medium.removed)
+        return "by it %s only learns that %s was removed; its next event goes on" % (self.name, " and ".join(gone))
+
+    def task(self, place):
+        state, lines = self.tasks[place], self.deck.systems[self.number].tasks[place].lines
+        if state.phase == READY and state.line < len(lines):
+            state.line += 1
+            self.take_line(place, state, lines[state.line - 1])
+            return None
+        if state.phase == READY:
+            state.code = "000"
+            self.enter(state, ENDING)
+        if state.phase != ENDING:
+            return self.run.says.held((self.number, place))
+        if state.records:
+            self.ask(state, Asked("RELEASE", (self.number, place), resource=state.records[0].resource))
+        else:
+            self.enter(state, ENDED)
+            self.tell("END", place, state.code)
+        return None
+
+    def take_line(self, place, state, line):
+        task = self.number, place
+        if line.verb in ("GQSCAN", "DISPLAY"):
+            return self.take_display(task, state, line)
+        resource, has_unit = resolve(self.deck, self.number, self.deck.systems[self.number].tasks[place], line)
+        record = state.record(resource)
+        if line.verb == "WAIT" and record and not record.told:
+            state.waits_for = resource
+            self.enter(state, HELD_LINE)
+        elif line.verb == "WAIT":
+            self.tell("CODE", place, state.line, "WAIT", "00" if record else "08")
+        elif line.verb == "DEQ":
+            self.ask(state, Asked("DEQ", task, state.line, resource, ret=line.ret))
+        else:
+            self.ask(state, Asked("ENQ", task, state.line, resource, len(state.records) >= self.deck.limit,
+                                  control=line.control, ret=line.ret, unit=line.unit if has_unit else None))
+
+    def take_display(self, task, state, line):
+        wanted = Wanted(line)
+        if line.is_local:
+            rows = self.own.look(("LOCAL", self.number), wanted)
+            self.run.fix(Asked("LOOK", task, state.line, wanted=wanted), ("LOCAL", self.number), rows)
+            state.rows = state.rows + rows
+        if not line.count:
+            return self.show(task[1], line.verb)
+        count = 1 if self.is_star else line.count
+        self.ask(state, Asked("LOOK", task, state.line, wanted=wanted, first=line.first, count=count, left=line.count - count,
+                              shown_as=line.verb))
+
+    def ask(self, state, asked):
+        if asked.is_shared():
+            state.asked = asked
+            self.enter(state, TO_SEND)
+            if not self.is_star:
+                self.outbox.append(asked)
+            return
+        answer, owners = self.own.decide(asked, asked.full)
+        self.run.fix(asked)
+        self.answer(asked, answer)
+        for task in owners:
+            self.control(task, asked.resource)
+
+    def turn(self):
+        if self.is_star:
+            return self.run.says.no_turn(self)
+        stale = self.stale()
+        if stale:
+            return stale
+        put = self.outbox[:TURN_TAKES]
+        reply = self.medium.turn(self.number, put)
+        if reply is None:
+            return self.run.says.message()
+        given, closed = reply
+        if not closed:
+            for asked in put:
+                self.run.fix(asked)
+        for asked in given:
+            self.process(asked)
+        if closed:
+            return self.change()
+        for asked in put:
+            self.enter(self.tasks[asked.task[1]], SENT)
+        del self.outbox[:len(put)]
+        return None
+
+    def process(self, asked):
+        if asked.verb == "REMOVE":
+            freed = self.table.remove(asked.target)
+        elif asked.verb == "LOOK" and asked.task[0] != self.number:
+            return
+        else:
+            answer, owners = self.table.decide(asked, asked.full)
+            freed = [(task, asked.resource) for task in owners]
+            if asked.task[0] == self.number:
+                self.answer(asked, answer)
+        for task, resource in freed:
+            if task[0] == self.number:
+                self.control(task, resource)
+
+    def lock_words(self):
+        """The word of each entry, by its table: which systems have elements there, and the first of them."""
+        masks = [0] * self.deck.entries
+        for resource, queue in self.table.of.items():
+            for task, _ in queue:
+                masks[self.entry(resource)] |= 1 << task[0]
+        return [(mask, (mask & -mask).bit_length() - 1 if mask else None) for mask in masks]
+
+    def change(self):
+        """It changes to star mode, by its table."""
+        words, self.is_star = self.lock_words(), True
+        for entry, (mask, manager) in enumerate(words):
+            if manager == self.number:
+                self.managed[entry] = Lists(), set()
+            if mask >> self.number & 1:
+                self.interest.add(entry)
+        for resource, queue in self.table.of.items():
+            if self.entry(resource) in self.managed:
+                self.managed[self.entry(resource)][0].of[resource] = queue
+        for asked in self.outbox:
+            if asked.verb == "LOOK":
+                self.tasks[asked.task[1]].asked = asked.next_look(1)
+        self.outbox, self.table = [], Lists()
+
+    def decide(self, entry, asked):
+        """Decides a request of an entry that it manages; the answer."""
+        lists, untold = self.managed[entry]
+        answer, owners = lists.decide(asked, asked.full)
+        self.run.fix(asked)
+        if asked.verb in ("DEQ", "RELEASE") and all(task != asked.task for task, _ in lists.list(asked.resource)):
+            untold.discard((asked.resource, asked.task))
+        return answer, owners
+
+    def grant(self, entry, asked, owners):
+        for task in owners:
+            if task[0] == self.number:
+                self.control(task, asked.resource)
+            else:
+                self.managed[entry][1].add((asked.resource, task))
+
+    def send(self, place):
+        state = self.tasks[place]
+        if not self.is_star or state.phase != TO_SEND:
+            return self.run.says.no_send(self, (self.number, place))
+        asked, entry = state.asked, state.asked.entry(self.deck.entries)
+        if entry not in self.managed:
+            stale = self.stale()
+            if stale:
+                return stale
+            self.interest.add(entry)
+            if not self.medium.submit(self.number, entry, asked):
+                return self.enter(state, SENT)
+            self.managed[entry] = Lists(), set()
+        answer, owners = self.decide(entry, asked)
+        self.answer(asked, answer)
+        return self.grant(entry, asked, owners)
+
+    def take(self):
+        if not self.is_star:
+            return self.run.says.only_star(self)
+        stale = self.stale()
+        if stale:
+            return stale
+        if not self.medium.inbox[self.number]:
+            return "%s has no mail" % self.name
+        kind, *mail = self.medium.inbox[self.number].pop(0)
+        self.medium.resting.discard(self.number)
+        if kind == "request":
+            self.held.append(mail)
+        elif kind == "answer":
+            self.answer(*mail)
+        else:
+            self.control(*mail)
+        return None
+
+    def settle(self):
+        if not self.is_star:
+            return self.run.says.only_star(self)
+        if not self.held:
+            return self.run.says.no_settle(self)
+        stale = self.stale()
+        if stale:
+            return stale
+        entry, system, asked = self.held.pop(0)
+        answer, owners = self.decide(entry, asked)
+        self.medium.mail(self.number, system, ("answer", asked, answer))
+        return self.grant(entry, asked, owners)
+
+    def untold(self, entry):
+        """The first owner of another system that is still to be told of an entry: the task and the resource."""
+        lists, untold = self.managed.get(entry, (Lists(), set()))
+        for resource in sorted({resource for resource, _ in untold}, key=by_name):
+            for task in lists.owning(resource):
+                if (resource, task) in untold:
+                    return task, resource
+        return None
+
+    def tell_owner(self, entry):
+        first = self.untold(entry) if self.is_star else None
+        if not first:
+            return self.run.says.no_tell(self, entry)
+        stale = self.stale()
+        if stale:
+            return stale
+        task, resource = first
+        self.managed[entry][1].discard((resource, task))
+        self.medium.mail(self.number, task[0], ("control", task, resource))
+        return None
+
+    def holds(self, entry):
+        """Why a system can't leave an entry, or None."""
+        for place, state in enumerate(self.tasks):
+            asked = state.asked if state.asked and state.asked.is_shared() else None
+            if any(is_shared(it.resource) and self.entry(it.resource) == entry for it in state.records):
+                return "%s has a request on record there" % self.run.task_name((self.number, place))
+            if asked and asked.entry(self.deck.entries) == entry:
+                return "%s has a request there that isn't answered" % self.run.task_name((self.number, place))
+        if entry in self.managed and self.managed[entry][0].of:
+            return "%s manages it, and its lists aren't empty" % self.name
+        if entry in self.managed and any(it[0] == entry for it in self.held):
+            return "%s holds a request of it that isn't settled" % self.name
+        return None
+
+    def leave(self, entry):
+        if not self.is_star:
+            return self.run.says.only_star(self)
+        if entry not in self.interest:
+            return self.run.says.no_interest(self, entry)
+        if self.holds(entry):
+            return "%s stays in entry %d: %s" % (self.name, entry, self.holds(entry))
+        stale = self.stale()
+        if stale:
+            return stale
+        others = self.medium.leave(self.number, entry)
+        if others:
+            names = [self.run.name(it) for it in range(len(self.deck.systems)) if others >> it & 1]
+            return "%s manages entry %d, in which %s still has interest" % (self.name, entry, " and ".join(names))
+        self.interest.discard(entry)
+        self.managed.pop(entry, None)
+        return None
+
+    def order(self):
+        return self.desk[self.done][1:] if self.done < len(self.desk) else (None, None)
+
+    def switch(self):
+        if self.order()[0] != "SETGRS":
+            return self.run.says.no_order(self)
+        stale = self.stale()
+        if stale:
+            return stale
+        reply = self.medium.switch(self.number, [(0, None)] * self.deck.entries if self.is_star else self.lock_words())
+        if reply == "BEHIND":
+            return "the message has entries that %s hasn't seen; it sees them at its TURN" % self.name
+        self.carried_out("SETGRS", reply)
+        if reply == "DONE":
+            self.change()
+        return None
+
+    def purge(self, target):
+        if self.order() != ("VARY", self.run.name(target)):
+            return self.run.says.no_order(self)
+        stale = self.stale()
+        if stale:
+            return stale
+        reply = self.medium.purge(self.number, target, self.run.event)
+        self.carried_out("VARY", reply)
+        if reply == "DONE":
+            self.knows.add(target)
+            self.run.fix_removal(self.number, target)
+        return None
+
+    def carried_out(self, verb, reply):
+        self.done += 1
+        self.tell("DESK", None, self.done, verb, reply)
+
+    def pending(self):
+        """What it has still to do, in words, or None."""
+        free = next((place for place, state in enumerate(self.tasks) if state.is_free()), None)
+        if free is not None:
+            return "%s can go on" % self.run.task_name((self.number, free))
+        if self.outbox:
+            return "%s has a request that waits for a TURN" % self.run.task_name(self.outbox[0].task)
+        if self.done < len(self.desk):
+            return "a command of its desk isn't carried out"
+        waits = next((place for place, state in enumerate(self.tasks) if state.phase == TO_SEND), None)
+        if waits is not None:
+            return "%s has a request that waits for a SEND" % self.run.task_name((self.number, waits))
+        if self.held:
+            return "it holds a request that isn't settled"
+        told = next(filter(self.untold, self.managed), None)
+        return None if told is None else "an owner in entry %d is still to be told" % told
+
+    def rest(self):
+        pending = self.pending()
+        if pending:
+            return "%s may not rest: %s" % (self.name, pending)
+        stale = self.stale()
+        if not stale:
+            self.medium.resting.add(self.number)
+        return stale
+
+
+# A run
+
+class Run:
+    """A deck's systems, gone through its events. `history` has the event, the request and the answer of each entry."""
+
+    def __init__(self, deck):
+        self.deck, self.event, self.history, self.told, self.lists = deck, 0, [], [], Lists()
+        self.medium = Medium(len(deck.systems), deck.entries, deck.is_star)
+        self.nodes = [Node(self, number) for number in range(len(deck.systems))]
+        self.says = Says(self)
+
+    def name(self, system):
+        return self.deck.systems[system].name
+
+    def task_name(self, task):
+        found = self.deck.systems[task[0]].tasks[task[1]]
+        return "%s.%s.%s" % (self.name(task[0]), found.job, found.name)
+
+    def fix(self, asked, place=None, rows=None):
+        """A request takes its place in the history; of a look at several slices each one does."""
+        if place is not None:
+            self.history.append((self.event, asked, place, rows))
+        elif asked.verb == "LOOK":
+            for number in range(asked.first, asked.first + asked.count):
+                self.history.append((self.event, asked, number, self.lists.look(number, asked.wanted)))
+        else:
+            self.history.append((self.event, asked, None, self.lists.decide(asked, asked.full)[0]))
+
+    def fix_removal(self, by, target):
+        self.lists.remove(target)
+        self.history.append((self.event, Asked("REMOVE", (by, None), target=target), None, None))
+
+    def step(self, system, verb, of):
+        """Makes an event, and answers why it had nothing to do, or None."""
+        self.event += 1
+        if system in self.medium.removed:
+            return "%s was removed in event %d" % (self.name(system), self.medium.removed[system])
+        node = self.nodes[system]
+        act = {"TELL": node.tell_owner}.get(verb) or getattr(node, verb.lower())
+        return act() if of is None else act(of)
+
+    def is_at_rest(self):
+        live = self.medium.live()
+        return not (self.medium.entries or self.medium.still or any(self.medium.inbox[it] or self.nodes[it].pending() for it in live))
+
+
+# What it comes to, in the report's form
+
+def resource_text(run, resource):
+    names = [decks.printed(it) for it in resource[-2:]]
+    if resource[0] == "STEP":
+        system = run.deck.systems[resource[1]]
+        names.insert(0, next(task.job for task in system.tasks if task.job_number == resource[2]))
+    if not is_shared(resource):
+        names.insert(0, run.name(resource[1]))
+    return "%s(%s)" % (resource[0], ",".join(names))
+
+
+def row_text(run, letter, row):
+    resource, queue, owners = row
+    elements = ["%s:%s%s" % (run.task_name(task), control, "*" * (place < owners)) for place, (task, control) in enumerate(queue)]
+    return " ".join([letter, resource_text(run, resource), *elements])
+
+
+def history_lines(run):
+    for number, (_, asked, place, answer) in enumerate(run.history, 1):
+        by = "H %d %s" % (number, run.name(asked.task[0]) if asked.verb == "REMOVE" else run.task_name(asked.task))
+        if asked.verb == "REMOVE":
+            yield "%s REMOVE %s" % (by, run.name(asked.target))
+        elif asked.verb == "LOOK":
+            yield "%s LOOK %s %s %d" % (by, place if isinstance(place, int) else "LOCAL", asked.wanted, len(answer))
+            yield from (row_text(run, "R", row) for row in answer)
+        elif asked.verb == "ENQ":
+            yield "%s ENQ %s %s %s %s" % (by, resource_text(run, asked.resource), asked.control, asked.ret, answer)
+        elif asked.verb == "DEQ":
+            yield "%s DEQ %s %s %s" % (by, resource_text(run, asked.resource), asked.ret, answer)
+        else:
+            yield "%s RELEASE %s" % (by, resource_text(run, asked.resource))
+
+
+def told_line(run, event, kind, of):
+    if kind == "DESK":
+        yield "D %d %s %s @%d" % (*of, event)
+    elif kind == "CODE":
+        yield "T %d %s %s @%d" % (*of, event)
+    elif kind == "POST":
+        yield "T %d POST @%d" % (*of, event)
+    elif kind == "END":
+        yield "T END %s @%d" % (*of, event)
+    else:
+        line, verb, rows = of
+        yield "T %d %s %s %d @%d" % (line, verb, "00" if rows else "04", len(rows), event)
+        yield from (row_text(run, "R", row) for row in rows)
+
+
+def state_line(run, system, state):
+    if state.phase == ENDED:
+        return "S ENDED"
+    if system in run.medium.removed:
+        return "S REMOVED"
+    return "S WAITS" if state.phase in (HELD_ANSWER, HELD_LINE) else "S OPEN"
+
+
+def told_lines(run):
+    told = {}
+    for event, system, (kind, place, *of) in run.told:
+        told.setdefault((system, place), []).extend(told_line(run, event, kind, of))
+    for number, node in enumerate(run.nodes):
+        yield "SYSTEM " + node.name
+        yield from told.get((number, None), [])
+        for place, state in enumerate(node.tasks):
+            yield "TASK " + run.task_name((number, place)).partition(".")[2]
+            yield from told.get((number, place), [])
+            yield state_line(run, number, state)
+
+
+def unit_lines(run):
+    for node in run.nodes:
+        units = [it.unit for state in node.tasks for it in state.records if it.unit and it.told]
+        yield from ("U %s %s %d" % (node.name, unit, units.count(unit)) for unit in sorted(set(units)))
+
+
+def report(run):
+    ended = all(state.phase == ENDED for number in run.medium.live() for state in run.nodes[number].tasks)
+    lists = run.lists
+    return "".join(line + "\n" for line in [
+        "GRS REPORT 1", "SCHEDULE %d" % len(run.deck.events), *(event.text for event in run.deck.events),
+        "HISTORY %d" % len(run.history), *history_lines(run), "TOLD", *told_lines(run), "QUEUES",
+        *(row_text(run, "Q", (it, lists.list(it), lists.owners(it))) for it in sorted(lists.of, key=by_kind)),
+        "UNITS", *unit_lines(run), "WORDS",
+        *("W %d MASK %d MANAGER %s EPOCH 0" % (entry, mask, run.name(manager))
+          for entry, (mask, manager) in enumerate(run.medium.words) if mask),
+        "MODE STAR" if run.medium.is_star else "MODE RING", "END DONE" if ended else "END WAITS"])
+
+
+# Why an event had nothing to do, and why a task hasn't ended
+
+class Says:
+    """Sentences about a run as it stands."""
+
+    def __init__(self, run):
+        self.run = run
+
+    def who(self, elements):
+        """Some elements of a list, as the first three and how many more."""
+        named = ["%s (%s)" % (self.run.task_name(task), {"E": "exclusive", "S": "shared"}[control]) for task, control in elements[:3]]
+        return ", ".join(named) + (" and %d more" % (len(elements) - 3) if len(elements) > 3 else "")
+
+    def message(self):
+        at = self.run.medium.at
+        return "the message has gone its last lap" if at is None else "the message isn't here: it is at %s" % self.run.name(at)
+
+    def no_turn(self, node):
+        return "%s is in star mode, in which requests go by mail: SEND, TAKE, SETTLE" % node.name
+
+    def only_star(self, node):
+        return "%s is in ring mode, in which requests go with the message: TURN" % node.name
+
+    def no_order(self, node):
+        verb, target = node.order()
+        if verb is None:
+            return "the desk of %s has no command that isn't carried out" % node.name
+        waits = "SETGRS MODE=STAR, which SWITCH" if verb == "SETGRS" else "VARY GRS(%s),PURGE, which PURGE %s" % (target, target)
+        return "the next command at the desk of %s is %s carries out" % (node.name, waits)
+
+    def no_send(self, node, task):
+        if not node.is_star:
+            return self.only_star(node)
+        state, name = node.tasks[task[1]], self.run.task_name(task)
+        if state.is_free():
+            return "%s has nothing to send; its next step is %s TASK %s" % (name, node.name, name.partition(".")[2])
+        return "%s has nothing to send: %s" % (name, self.held(task))
+
+    def no_settle(self, node):
+        mail = self.run.medium.inbox[node.number]
+        waits = any(it[0] == "request" for it in mail)
+        return "%s has taken no request" % node.name + ("; one is in its inbox: %s TAKE" % node.name if waits else "")
+
+    def of_entry(self, node, entry):
+        return "%s %s entry %d" % (node.name, "manages no" if entry not in node.managed else "manages", entry)
+
+    def no_tell(self, node, entry):
+        if not node.is_star:
+            return self.only_star(node)
+        waiting = next(filter(node.untold, sorted(node.managed)), None)
+        said = "%s manages no entry %d" % (node.name, entry)
+        if entry in node.managed:
+            said = "no owner of another system is to be told in entry %d" % entry
+        if waiting is not None:
+            return "%s; %s is in entry %d" % (said, resource_text(self.run, node.untold(waiting)[1]), waiting)
+        held = sorted((at, resource) for at, (lists, _) in node.managed.items() for resource in lists.of)
+        if entry not in node.managed and held:
+            return "%s; %s is in entry %d" % (said, resource_text(self.run, held[0][1]), held[0][0])
+        return said
+
+    def no_interest(self, node, entry):
+        own = ", ".join(map(str, sorted(node.interest)))
+        return "%s has no interest in entry %d" % (node.name, entry) + ("; it has in %s" % own if own else "")
+
+    def line(self, task):
+        state = self.run.nodes[task[0]].tasks[task[1]]
+        return "line %d, %s" % (state.line, self.run.deck.systems[task[0]].tasks[task[1]].lines[state.line - 1].text)
+
+    def held(self, task):
+        """Why a task can't go on."""
+        state = self.run.nodes[task[0]].tasks[task[1]]
+        if state.phase == ENDED:
+            return "it has ended, in event %d" % state.since
+        if state.phase in (HELD_ANSWER, HELD_LINE):
+            return self.waiting(task)
+        return self.on_its_way(task)
+
+    def waits_for(self, state):
+        """The resource that a held task waits for."""
+        return state.waits_for if state.phase == HELD_LINE else state.records[-1].resource
+
+    def waiting(self, task):
+        """What a task waits for, and behind whom; or how control comes to it."""
+        node, state = self.run.nodes[task[0]], self.run.nodes[task[0]].tasks[task[1]]
+        resource = self.waits_for(state)
+        text = "it waits for %s (line %d) since event %d" % (resource_text(self.run, resource), state.line, state.since)
+        if task not in self.run.lists.owning(resource):
+            return "%s, behind %s" % (text, self.who(self.run.lists.front_of(resource, task)))
+        return "%s, and owns it: %s" % (text, self.control_comes(node, task, resource))
+
+    def control_comes(self, node, task, resource):
+        """How a task of this system, which owns a resource by the lists, is told so."""
+        mail = self.run.medium.inbox[node.number]
+        if any(it[0] == "control" and it[1:] == (task, resource) for it in mail):
+            return "the mail that says so is in its inbox: %s TAKE" % node.name
+        if not node.is_star:
+            return "%s is told when the message comes by: %s TURN" % (node.name, node.name)
+        entry = node.entry(resource)
+        manager = next((it.name for it in self.run.nodes if (resource, task) in it.managed.get(entry, (None, ()))[1]), None)
+        return "%s TELL %d tells it so, then %s TAKE" % (manager, entry, node.name) if manager else "that is on its way"
+
+    def request(self, state, task):
+        return "its RELEASE of %s" % resource_text(self.run, state.asked.resource) if state.asked.verb == "RELEASE" else (
+            "its request (%s)" % self.line(task))
+
+    def on_its_way(self, task):
+        """Where the request is that a task has asked and not been answered."""
+        node, state = self.run.nodes[task[0]], self.run.nodes[task[0]].tasks[task[1]]
+        asked, name = self.request(state, task), node.name
+        if not node.is_star:
+            at = self.message()
+            if state.phase == TO_SEND:
+                return "%s waits for a %s TURN; %s" % (asked, name, at.replace("isn't here: it ", ""))
+            return "%s goes round with the message, and is answered at %s TURN once it is back; %s" % (asked, name,
+                                                                                                   at.replace("isn't here: it ", ""))
+        if state.phase == TO_SEND:
+            return "%s waits for %s SEND %s" % (asked, name, self.run.task_name(task).partition(".")[2])
+        for other in self.run.nodes:
+            mail = self.run.medium.inbox[other.number]
+            if any(it[0] == "request" and it[3] is state.asked for it in mail):
+                return "%s is in the inbox of %s: %s TAKE, %s SETTLE, %s TAKE" % (asked, other.name, other.name, other.name, name)
+            if any(it[2] is state.asked for it in other.held):
+                return "%s is held by %s: %s SETTLE, %s TAKE" % (asked, other.name, other.name, name)
+        if any(it[0] == "answer" and it[1] is state.asked for it in self.run.medium.inbox[node.number]):
+            return "the answer to %s is in the inbox of %s: %s TAKE" % (asked, name, name)
+        return "%s goes round with the message, which %s takes as its last: %s TURN" % (asked, name, name)
+
+    def unended(self, task):
+        """Why a task hasn't ended."""
+        node, state = self.run.nodes[task[0]], self.run.nodes[task[0]].tasks[task[1]]
+        lines = len(self.run.deck.systems[task[0]].tasks[task[1]].lines)
+        event = "%s TASK %s" % (node.name, self.run.task_name(task).partition(".")[2])
+        if state.phase == READY and state.line < lines:
+            left = lines - state.line
+            return "it has %d %s left, and %s: %s" % (left, "lines" if left > 1 else "line",
+                                                       "was given no further event" if state.line else "was given no event", event)
+        if state.phase == READY:
+            return "it has no line left, and ends with its next event: %s" % event
+        if state.phase == ENDING:
+            return "it ends with %s, and was given no further event: %s" % (state.code, event)
+        return self.held(task)
