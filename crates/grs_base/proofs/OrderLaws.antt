@@ -1,18 +1,14 @@
 -- Laws of the order of resources.
-use Rattle.std.proofs.Common.{◌≡◌, ℕ, ◌+◌, ◌-◌, ◌<◌, ◌≤◌, suc, List, [], ◌∷◌, ◌++◌, length, take, set, get_or, refl, ap}
-use Rattle.std.proofs.Common.{sym, ◌∙◌, arith}
-use Rattle.std.specs.Prelude.{replicate}
-use Rattle.std.proofs.Common.{append_assoc}
-use Rattle.std.proofs.lemmas.List.{take_more, length-take-le}
-use Rattle.std.proofs.Math.Seq.{set-append_seam}
+use Rattle.std.proofs.Common.{◌≡◌, ℕ, List, [], ◌∷◌, ◌++◌, refl, ap, sym, ◌∙◌, arith}
 use Rattle.std.specs.declared.cmp.Ordering.{Ordering}
 use Rattle.std.specs.declared.cmp.Ordering.TheVariants.{Less, Equal, Greater}
 use Rattle.std.specs.Ordering.{on, ordering_then, eq_by_cmp, is_eq}
-use Rattle.std.specs.Cmp.{IsTotalOrder, tied_itself, Equal-is, both_ways, then_total, on_total}
+use Rattle.std.specs.Cmp.{IsTotalOrder, tied_itself, Equal-is, both_ways, then_total, on_total, nat_cmp_total}
 use Rattle.std.specs.Cmp.Lexicographic.{nat_list_cmp_total}
 use Rattle.std.specs.FinMap.{IsAntisymmetric, nat_cmp-IsAntisymmetric, slice_cmp-IsAntisymmetric}
 use Rattle.grs_base.specs.Same.{same_res}
-use Rattle.grs_base.specs.ResOrder.{group_of, qname_of, rname_of, padded, by_numbers, res_order}
+use Rattle.grs_base.specs.Names.{padded}
+use Rattle.grs_base.specs.ResOrder.{group_of, qname_of, rname_of, by_numbers, res_order}
 use Rattle.grs_base.specs.declared.resource.Res.{Res}
 use Rattle.grs_base.specs.declared.resource.Res.TheVariants.{Step, System, Systems}
 use Rattle.grs_base.proofs.SameLaws.{same_res-exact, same_res-itself}
@@ -72,17 +68,11 @@ ordering_then-equal Greater = refl
 
 pub ruleset orders = (ordering_then-equal)
 
--- one byte more is written before the blanks
-pub padded_more : (bs : List ℕ) (i : ℕ) (b n : ℕ) → i < length bs → length bs ≤ n → b ≡ get_or bs i 0
-    → set (take i bs ++ replicate (n - i) 32) i b ≡ take (i + 1) bs ++ replicate (n - (i + 1)) 32
-padded_more bs i b n h short is =
-    let blanks : List ℕ = replicate (n - (i + 1)) 32 in
-    let room : n - i ≡ suc (n - (i + 1)) = omega arith in
-    ap (λ (k : ℕ). set (take i bs ++ replicate k 32) i b) room
-    ∙ ap (λ (k : ℕ). set (take i bs ++ 32 ∷ blanks) k b) (sym (length-take-le i bs (omega arith)))
-    ∙ set-append_seam (take i bs) 32 blanks b
-    ∙ ap (λ (x : ℕ). take i bs ++ x ∷ blanks) is
-    ∙ sym (append_assoc (take i bs) (get_or bs i 0 ∷ []) blanks)
-    ∙ ap (λ (l : List ℕ). l ++ blanks) (sym (take_more bs i 0 h))
+-- equal bytes in front decide nothing
+pub by_numbers-front : (cs xs ys : List ℕ) → by_numbers (cs ++ xs) (cs ++ ys) ≡ by_numbers xs ys
+by_numbers-front [] xs ys = refl
+by_numbers-front (c ∷ cs) xs ys =
+    ap (λ (o : Ordering). ordering_then o (by_numbers (cs ++ xs) (cs ++ ys))) (tied_itself nat_cmp_total c)
+    ∙ by_numbers-front cs xs ys
 
-pub ruleset pads = (padded_more)
+pub ruleset runs = (by_numbers-front)

@@ -1,7 +1,7 @@
 -- Worked values: the hashes, slices and lock entries of names, and what looks show.
 use Rattle.std.proofs.Common.{◌≡◌, refl, codes, replicate}
 use Rattle.grs_base.specs.Slices.{hash_from, hash_of, slice_of, entry_of}
-use Rattle.grs_base.specs.ResOrder.{padded}
+use Rattle.grs_base.specs.Names.{padded}
 
 behind_a : hash_from 0 (padded (codes "A")) ≡ 28017
 behind_a = refl

@@ -1,8 +1,9 @@
 -- The order in which resources are shown.
-use Rattle.std.specs.Prelude.{ℕ, ◌-◌, List, [], ◌∷◌, ◌++◌, length, replicate}
+use Rattle.std.specs.Prelude.{ℕ, List, [], ◌∷◌}
 use Rattle.std.specs.declared.cmp.Ordering.{Ordering}
 use Rattle.std.specs.Ordering.{nat_cmp, on, then_cmp}
 use Rattle.std.specs.Cmp.Lexicographic.{slice_cmp}
+use Rattle.grs_base.specs.Names.{padded}
 use Rattle.grs_base.specs.declared.resource.Res.{Res}
 use Rattle.grs_base.specs.declared.resource.Res.TheVariants.{Step, System, Systems}
 
@@ -22,10 +23,6 @@ abbrev pub rname_of : Res → List ℕ
 rname_of (Systems q r) = r
 rname_of (System s q r) = r
 rname_of (Step s j q r) = r
-
--- a qname with blanks behind it, up to eight bytes
-abbrev pub padded : List ℕ → List ℕ
-padded q = q ++ replicate (8 - length q) 32
 
 -- Numbers are compared one by one, and a list stands before those that go on from it.
 abbrev pub by_numbers : List ℕ → List ℕ → Ordering

@@ -1,6 +1,6 @@
 -- How Systems resources are dealt out: each to one of 64 slices, and each slice to a lock entry.
 use Rattle.std.specs.Prelude.{ℕ, ◌+◌, ◌*◌, ◌%◌, List, [], ◌∷◌}
-use Rattle.grs_base.specs.ResOrder.{padded}
+use Rattle.grs_base.specs.Names.{padded}
 
 -- a hash that goes on over bytes
 abbrev pub hash_from : ℕ → List ℕ → ℕ

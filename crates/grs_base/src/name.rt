@@ -2,7 +2,7 @@
 //! be shorter than eight bytes, as if blanks stood behind it, is this project's own.
 ghost use Rattle.std.specs.Prelude.{◌≡◌, ◌≤◌, ◌↔◌, length, List, ℕ, IfOk, OnOk, Err, true, false};
 ghost use Rattle.grs_base.specs.Limits.{most_qname_bytes, most_rname_bytes};
-ghost use Rattle.grs_base.specs.Names.{trim_blanks, is_qname, is_rname, IsQname};
+ghost use Rattle.grs_base.specs.Names.{trim_blanks, is_qname, is_rname, IsQname, padded};
 ghost use Rattle.grs_base.specs.NameBytes.{bytes_of, HasPlace};
 
 use super::fault::{NameFault, NoMemory};
@@ -12,7 +12,7 @@ use std::hash::{Hash, Hasher};
 use std::marker::Model;
 
 /// The first name of a resource, of 1 to 8 bytes, seen as its bytes without trailing blanks. They are kept in place:
-/// the first `len` of `kept`.
+/// the first `len` of `kept`, with blanks behind them.
 #[derive(Drop)]
 pub struct Qname {
     len: u8,
@@ -21,14 +21,15 @@ pub struct Qname {
 
 impl Model for Qname {
     ghost use Rattle.std.specs.Prelude.{List, ℕ, take, ◌≤◌};
+    ghost use Rattle.std.specs.Prelude.{◌≡◌};
     ghost use Rattle.grs_base.specs.Limits.{most_qname_bytes};
-    ghost use Rattle.grs_base.specs.Names.{IsQname};
+    ghost use Rattle.grs_base.specs.Names.{IsQname, padded};
 
     ghost Value = { List ℕ };
 
     ghost view = { λ a. take a.len a.kept };
 
-    ghost invariant = { λ a. (a.len ≤ most_qname_bytes) × IsQname (take a.len a.kept) };
+    ghost invariant = { λ a. (a.len ≤ most_qname_bytes) × IsQname (take a.len a.kept) × (a.kept ≡ padded (take a.len a.kept)) };
 }
 
 /// How many bytes stand before the trailing blanks.
@@ -61,6 +62,17 @@ pub fn is_rname(bytes: &[u8]) -> bool
     1 <= bytes.len() && bytes.len() <= MOST_RNAME_BYTES
 }
 
+/// Bytes with blanks behind them, up to eight.
+#[tactic(auto, using(crate::proofs::NameLaws::pads))]
+fn with_blanks(bytes: &[u8]) -> [u8; MOST_QNAME_BYTES]
+    requires { length bytes.now ≤ most_qname_bytes }
+    ensures { result ≡ padded bytes.now }
+{
+    let mut kept = [b' '; MOST_QNAME_BYTES];
+    kept[..bytes.len()].copy_from_slice(bytes);
+    kept
+}
+
 impl Qname {
     /// The qname of bytes, without their trailing blanks. Answers BadLength exactly where there are more than 8
     /// bytes, trailing blanks counted, or none but blanks. It takes no memory.
@@ -74,11 +86,9 @@ impl Qname {
         if bytes.len() > MOST_QNAME_BYTES || end == 0 {
             return Err(NameFault::BadLength);
         }
-        let mut kept = [b' '; MOST_QNAME_BYTES];
-        kept[..end].copy_from_slice(&bytes[..end]);
         Ok(Qname {
             len: end as u8,
-            kept,
+            kept: with_blanks(&bytes[..end]),
         })
     }
 
@@ -99,6 +109,13 @@ impl Qname {
         ensures name { IsQname self.now }
     {
         &self.kept[..usize::from(self.len)]
+    }
+
+    /// The bytes with blanks behind them, up to eight.
+    pub(crate) fn padded(&self) -> &[u8]
+        ensures { result.now ≡ padded self.now }
+    {
+        &self.kept
     }
 }
 

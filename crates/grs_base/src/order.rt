@@ -1,7 +1,8 @@
 //! The order in which resources are shown, which is this project's own.
 ghost use Rattle.std.specs.Prelude.{◌≡◌};
 ghost use Rattle.std.specs.Ordering.{on, then_cmp};
-ghost use Rattle.grs_base.specs.ResOrder.{group_of, qname_of, rname_of, padded as padded_name, by_numbers, res_order};
+ghost use Rattle.grs_base.specs.Names.{padded};
+ghost use Rattle.grs_base.specs.ResOrder.{group_of, qname_of, rname_of, by_numbers, res_order};
 
 use super::name::{Qname, Rname};
 use super::resource::Res;
@@ -30,7 +31,11 @@ impl Res {
     pub fn order(&self, other: &Res) -> Ordering
         ensures { result ≡ res_order self.now other.now }
     {
-        order_of_groups(self, other).then(order_of_names(self, other))
+        let groups = order_of_groups(self, other);
+        if groups.is_ne() {
+            return groups;
+        }
+        order_of_names(self, other)
     }
 }
 
@@ -66,24 +71,52 @@ fn order_of_groups(a: &Res, b: &Res) -> Ordering
     }
 }
 
-/// A qname with blanks behind it, up to eight bytes.
-#[tactic(auto, using(crate::proofs::OrderLaws::pads))]
-pub(crate) fn padded(name: &Qname) -> [u8; 8]
-    ensures { result ≡ padded_name name.now }
+/// Two runs of bytes behind as many equal ones as eight at a time pass, which their order doesn't hang on.
+#[tactic(auto, using(crate::proofs::OrderLaws::runs))]
+fn behind_equal<'a>(a: &'a [u8], b: &'a [u8]) -> (&'a [u8], &'a [u8])
+    ensures { by_numbers result.0.now result.1.now ≡ by_numbers a.now b.now }
 {
-    let bytes = name.bytes();
-    let mut padded = [b' '; 8];
-    for (i, b) in bytes.iter().enumerate() {
-        padded[i] = *b;
+    let (mut first, mut second) = (a, b);
+    'eights: while let (Some((x, xs)), Some((y, ys))) = (
+        first.split_first_chunk::<8>(),
+        second.split_first_chunk::<8>(),
+    ) {
+        if x != y {
+            return (first, second);
+        }
+        first = xs;
+        second = ys;
     }
-    padded
+    (first, second)
 }
 
-fn order_of_names(a: &Res, b: &Res) -> Ordering
-    ensures { result ≡ then_cmp (on (λ r. padded_name (qname_of r)) by_numbers) (then_cmp (on rname_of by_numbers) (on qname_of by_numbers)) a.now b.now }
+/// The order of two runs of bytes.
+#[tactic(auto, using(crate::proofs::OrderLaws::runs))]
+fn order_of_bytes(a: &[u8], b: &[u8]) -> Ordering
+    ensures { result ≡ by_numbers a.now b.now }
 {
-    let padded_qnames = padded(a.qname()).cmp(&padded(b.qname()));
-    let rnames = a.rname().bytes().cmp(&b.rname().bytes());
-    let qnames = a.qname().bytes().cmp(&b.qname().bytes());
-    padded_qnames.then(rnames.then(qnames))
+    let (mut first, mut second) = behind_equal(a, b);
+    'bytes: while let (Some((x, xs)), Some((y, ys))) = (first.split_first(), second.split_first()) {
+        if x != y {
+            return x.cmp(y);
+        }
+        first = xs;
+        second = ys;
+    }
+    first.len().cmp(&second.len())
+}
+
+/// The order of the names. The qnames without their blanks are compared for names that are else the same.
+fn order_of_names(a: &Res, b: &Res) -> Ordering
+    ensures { result ≡ then_cmp (on (λ r. padded (qname_of r)) by_numbers) (then_cmp (on rname_of by_numbers) (on qname_of by_numbers)) a.now b.now }
+{
+    let padded_qnames = order_of_bytes(a.qname().padded(), b.qname().padded());
+    if padded_qnames.is_ne() {
+        return padded_qnames;
+    }
+    let rnames = order_of_bytes(a.rname().bytes(), b.rname().bytes());
+    if rnames.is_ne() {
+        return rnames;
+    }
+    order_of_bytes(a.qname().bytes(), b.qname().bytes())
 }

@@ -4,7 +4,6 @@ ghost use Rattle.std.specs.Prelude.{◌≡◌, ◌<◌, ◌≢◌};
 ghost use Rattle.grs_base.specs.Slices.{hash_from, slice_of, entry_of};
 
 use super::name::{Qname, Rname};
-use super::order::padded;
 
 /// How many slices there are.
 pub const SLICES: u32 = 64;
@@ -32,7 +31,7 @@ pub fn slice_of(q: &Qname, r: &Rname) -> u32
     ensures value { result ≡ slice_of q.now r.now }
     ensures below { result < SLICES }
 {
-    let hash = hashed(0, &padded(q));
+    let hash = hashed(0, q.padded());
     hashed(hash, r.bytes()) % SLICES
 }
 
