@@ -1,19 +1,21 @@
 -- Places that lead to one another by their classes, and the entries of one class, the last first.
-use Rattle.std.proofs.Common.{◌≡◌, ◌<◌, ◌+◌, ℕ, zero, suc, Bool, true, false, cond, ◌&&◌, List, [], ◌∷◌, ◌++◌, map}
+use Rattle.std.proofs.Common.{◌≡◌, ◌<◌, ◌≤◌, ◌+◌, ℕ, zero, suc, Bool, true, false, cond, ◌&&◌, List, [], ◌∷◌, ◌++◌, map}
 use Rattle.std.proofs.Common.{length, take, Option, Some, None, refl, ap, sym, ◌∙◌, subst, arith, nat_eq, append_assoc}
 use Rattle.std.proofs.Common.{append-nil, length-append}
 use Rattle.std.specs.Prelude.{slice_get, slice_index_or, not, is_some}
-use Rattle.std.specs.Map.{lookup}
 use Rattle.std.proofs.lemmas.Bool.{eqb-true, eq-eqb, and_parts, and_from}
+use Rattle.std.proofs.lemmas.Bool.Decides.{nat_tests}
+use Rattle.std.proofs.lemmas.Nat.{mod_below}
 use Rattle.grs_base.specs.Same.{same_res}
 use Rattle.grs_base.specs.Looks.{is_of_place}
+use Rattle.grs_base.specs.Slices.{hash_of, slice_of}
 use Rattle.grs_base.specs.declared.look.Filter.{Filter}
 use Rattle.grs_base.specs.declared.look.Place.{Place}
 use Rattle.grs_base.specs.declared.look.Place.TheVariants.{Slice, Local}
 use Rattle.grs_base.specs.declared.resource.Res.{Res}
 use Rattle.grs_base.specs.declared.resource.Res.TheVariants.{Step, System, Systems}
 use Rattle.grs_base.proofs.SameLaws.{same_res-exact, same_res-itself}
-use Rattle.queue_table.specs.Classes.{later, last_place, befores, IsChained, class_of, class_at}
+use Rattle.queue_table.specs.Classes.{most_classes, end_at, later, last_place, befores, IsChained, class_of, class_at, has_class}
 use Rattle.queue_table.specs.Names.{Numbers, queue_number, name_of, is_paired}
 use Rattle.queue_table.specs.Shown.{may_show}
 
@@ -46,23 +48,45 @@ befores-get front (x ∷ cs) zero c h =
 befores-get front (x ∷ cs) (suc i) c h =
     befores-get (front ++ x ∷ []) cs i c h ∙ ap (λ l. Some (last_place c l)) (append_assoc front (x ∷ []) (take i cs))
 
-pub chained-none : IsChained [] [] []
-chained-none = record { last = λ c. refl; before = refl }
+-- no places
+pub chained-none : (last : List (Option ℕ)) → ((k : ℕ) → end_at last k ≡ None) → IsChained last [] []
+chained-none last none = record { last = none; before = refl; any = λ l. absurd (omega (arith, l)) }
+
+-- the last places stand elsewhere, with as much room
+pub chained-longer : (last more : List (Option ℕ)) (bs : List (Option ℕ)) (cs : List ℕ) → IsChained last bs cs
+    → ((k : ℕ) → end_at more k ≡ end_at last k) → length last ≤ length more → IsChained more bs cs
+chained-longer last more bs cs h same longer =
+    record { last = λ k. same k ∙ h.last k; before = h.before; any = λ l. omega (arith, h.any l, longer) }
 
 -- one place more
-pub chained-push : (last more : List (ℕ × ℕ)) (bs : List (Option ℕ)) (cs : List ℕ) (c : ℕ) → IsChained last bs cs
-    → ((k : ℕ) → lookup (nat_eq k) more ≡ cond (nat_eq c k) (Some (length cs)) (lookup (nat_eq k) last))
-    → IsChained more (bs ++ lookup (nat_eq c) last ∷ []) (cs ++ c ∷ [])
-chained-push last more bs cs c h is = record {
-  last = λ k. is k ∙ ap (cond (nat_eq c k) (Some (length cs))) (h.last k) ∙ sym (last_place-push k c cs);
+pub chained-push : (last more : List (Option ℕ)) (bs : List (Option ℕ)) (cs : List ℕ) (c : ℕ) → IsChained last bs cs
+    → most_classes ≤ length more
+    → ((k : ℕ) → end_at more k ≡ cond (nat_eq k c) (Some (length cs)) (end_at last k))
+    → IsChained more (bs ++ end_at last c ∷ []) (cs ++ c ∷ [])
+chained-push last more bs cs c h room is = record {
+  last = λ k.
+      is k
+      ∙ ap (λ (b : Bool). cond b (Some (length cs)) (end_at last k)) (same_test k)
+      ∙ ap (cond (nat_eq c k) (Some (length cs))) (h.last k)
+      ∙ sym (last_place-push k c cs);
   before =
-      ap (λ l. l ++ lookup (nat_eq c) last ∷ []) h.before
+      ap (λ l. l ++ end_at last c ∷ []) h.before
       ∙ ap (λ o. befores [] cs ++ o ∷ []) (h.last c)
       ∙ sym (befores-push [] cs c);
+  any = λ l. room;
 }
+  where
+    same_test : (k : ℕ) → nat_eq k c ≡ nat_eq c k
+    same_test k = by_test (nat_eq k c) refl (nat_eq c k) refl
+      where
+        by_test : (a : Bool) → nat_eq k c ≡ a → (b : Bool) → nat_eq c k ≡ b → a ≡ b
+        by_test true f true g = refl
+        by_test true f false g = sym (eq-eqb c k (sym (eqb-true k c f))) ∙ g
+        by_test false f true g = sym f ∙ eq-eqb k c (sym (eqb-true c k g))
+        by_test false f false g = refl
 
 -- the place before one
-pub chained-before : (last : List (ℕ × ℕ)) (bs : List (Option ℕ)) (cs : List ℕ) (i c : ℕ) → IsChained last bs cs
+pub chained-before : (last : List (Option ℕ)) (bs : List (Option ℕ)) (cs : List ℕ) (i c : ℕ) → IsChained last bs cs
     → slice_get cs i ≡ Some c → slice_get bs i ≡ Some (last_place c (take i cs))
 chained-before last bs cs i c h at = ap (λ l. slice_get l i) h.before ∙ befores-get [] cs i c at
 
@@ -158,6 +182,27 @@ get-class (x ∷ front) back e = get-class front back e
 take-class : (front back : Numbers) → take (length front) (classes_of (front ++ back)) ≡ classes_of front
 take-class [] back = refl
 take-class (x ∷ front) back = ap (λ l. class_of x.0 ∷ l) (take-class front back)
+
+-- the class of what stands at a place
+pub class_at_place : (es : Numbers) (i c : ℕ) (e : Res × ℕ) → slice_get es i ≡ Some e
+    → slice_get (classes_of es) i ≡ Some c → class_of e.0 ≡ c
+class_at_place [] i c e at h = absurd (cc)
+class_at_place (x ∷ es) zero c e at h =
+    let same : x ≡ e = cc in let own : class_of x.0 ≡ c = cc in ap (λ (y : Res × ℕ). class_of y.0) (sym same) ∙ own
+class_at_place (x ∷ es) (suc i) c e at h = class_at_place es i c e at h
+
+-- the classes of one entry more
+pub classes-more : (es : Numbers) (i : ℕ) (e : Res × ℕ) → slice_get es i ≡ Some e
+    → classes_of (take (i + 1) es) ≡ classes_of (take i es) ++ class_of e.0 ∷ []
+classes-more es i e at =
+    let next : i + 1 ≡ suc i = omega arith in
+    ap (λ (n : ℕ). classes_of (take n es)) next ∙ by_next es i e at
+  where
+    by_next : (xs : Numbers) (k : ℕ) (x : Res × ℕ) → slice_get xs k ≡ Some x
+        → classes_of (take (suc k) xs) ≡ classes_of (take k xs) ++ class_of x.0 ∷ []
+    by_next [] k x h = absurd (cc)
+    by_next (y ∷ xs) zero x h = let same : y ≡ x = cc in ap (λ (z : Res × ℕ). class_of z.0 ∷ []) same
+    by_next (y ∷ xs) (suc k) x h = ap (λ (l : List ℕ). class_of y.0 ∷ l) (by_next xs k x h)
 
 -- ---- a walk from the last entry of a class to the first
 -- What is still to be visited: the entries of the class in this front, of which the next stands last.
@@ -295,7 +340,7 @@ none_of None h = refl
 none_of (Some a) h = absurd (cc)
 
 -- the first part of what pairs entries
-number_free : (e : Res × ℕ) (es : Numbers) → is_paired (e ∷ es) ≡ true
+pub number_free : (e : Res × ℕ) (es : Numbers) → is_paired (e ∷ es) ≡ true
     → (queue_number es e.0 ≡ None) × (name_of es e.1 ≡ None) × (is_paired es ≡ true)
 number_free e es p =
     let both = and_parts (not (is_some (queue_number es e.0)) && not (is_some (name_of es e.1))) (is_paired es) p in
@@ -399,3 +444,22 @@ class-of_place (Local t) (Step s j q r) h = ap (λ n. 64 + n) (eqb-true s.0 t.0 
 
 pub class-may_show : (p : Place) (f : Filter) (r : Res) → may_show (Some p) f r ≡ true → class_of r ≡ class_at p
 class-may_show p f r h = class-of_place p r (and_parts _ _ h).0
+
+-- and those of its class are the place's, or none is
+pub place-of_class : (p : Place) (r : Res) → class_of r ≡ class_at p → is_of_place p r ≡ has_class p
+place-of_class (Slice n) (Systems q r) h =
+    let below : slice_of q r < 64 = mod_below (hash_of q r) 64 (omega arith) in
+    let same : slice_of q r ≡ n = h in
+    grind (arith, nat_tests, eq-eqb (slice_of q r) n same, below, same)
+place-of_class (Slice n) (System s q r) h = grind (arith, nat_tests, h)
+place-of_class (Slice n) (Step s j q r) h = grind (arith, nat_tests, h)
+place-of_class (Local t) (Systems q r) h =
+    let below : slice_of q r < 64 = mod_below (hash_of q r) 64 (omega arith) in
+    let same : slice_of q r ≡ 64 + t.0 = h in
+    absurd (omega (arith, below, same))
+place-of_class (Local t) (System s q r) h =
+    let same : 64 + s.0 ≡ 64 + t.0 = h in eq-eqb s.0 t.0 (omega (arith, same))
+place-of_class (Local t) (Step s j q r) h =
+    let same : 64 + s.0 ≡ 64 + t.0 = h in eq-eqb s.0 t.0 (omega (arith, same))
+
+pub ruleset own_classes = (place-of_class)

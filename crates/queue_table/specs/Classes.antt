@@ -1,6 +1,5 @@
 -- Which class each place of a list has.
-use Rattle.std.specs.Prelude.{◌≡◌, ℕ, suc, ◌+◌, cond, nat_eq, List, [], ◌∷◌, ◌++◌, Option, Some, None}
-use Rattle.std.specs.Map.{lookup}
+use Rattle.std.specs.Prelude.{◌≡◌, ◌<◌, ◌≤◌, ℕ, zero, suc, ◌+◌, Bool, true, cond, nat_eq, nat_lt, List, [], ◌∷◌, ◌++◌, length, Option, Some, None}
 use Rattle.grs_base.specs.declared.look.Place.{Place}
 use Rattle.grs_base.specs.declared.look.Place.TheVariants.{Slice, Local}
 use Rattle.grs_base.specs.declared.resource.Res.{Res}
@@ -12,6 +11,16 @@ use Rattle.queue_table.specs.Names.{Numbers}
 pub record ClassesView : Type 0 where
   pub classes : List ℕ
   pub room : ℕ
+
+-- how many classes there may be: 64 slices, and 256 systems
+abbrev pub most_classes : ℕ
+most_classes = 320
+
+-- what is kept for a class, under its number
+abbrev pub end_at : List (Option ℕ) → ℕ → Option ℕ
+end_at [] c = None
+end_at (o ∷ os) zero = o
+end_at (o ∷ os) (suc c) = end_at os c
 
 -- one place further on
 abbrev pub later : Option ℕ → Option ℕ → Option ℕ
@@ -28,10 +37,12 @@ abbrev pub befores : List ℕ → List ℕ → List (Option ℕ)
 befores front [] = []
 befores front (c ∷ cs) = last_place c front ∷ befores (front ++ c ∷ []) cs
 
--- what is kept beside the classes: of each class the last place, and of each place the one before
-pub record IsChained (ends : List (ℕ × ℕ)) (links : List (Option ℕ)) (classes : List ℕ) : Type 0 where
-  pub last : (c : ℕ) → lookup (nat_eq c) ends ≡ last_place c classes
+-- what is kept beside the classes: of each class the last place, and of each place the one before; and there is room for
+-- the last place of any class once there is a place
+pub record IsChained (ends : List (Option ℕ)) (links : List (Option ℕ)) (classes : List ℕ) : Type 0 where
+  pub last : (c : ℕ) → end_at ends c ≡ last_place c classes
   pub before : links ≡ befores [] classes
+  pub any : 0 < length classes → most_classes ≤ length ends
 
 -- the class of a resource: of one of the whole complex its slice, of others one for each system
 abbrev pub class_of : Res → ℕ
@@ -43,6 +54,11 @@ class_of (Step s j q r) = 64 + s.0
 abbrev pub class_at : Place → ℕ
 class_at (Slice n) = n
 class_at (Local s) = 64 + s.0
+
+-- whether these are all of the place, and not of a system's own: there are 64 slices
+abbrev pub has_class : Place → Bool
+has_class (Slice n) = nat_lt n 64
+has_class (Local s) = true
 
 -- the resources that a table knows, each with the number of its queue, and for how many more there is room
 pub record ResourcesView : Type 0 where

@@ -1,14 +1,14 @@
 //! Which class each place of a list has, so that the places of one class are found without going over the others: its last
 //! place leads to the one before, and so on. What the classes are for isn't known here.
-ghost use Rattle.std.specs.Prelude.{◌≡◌, ◌<◌, ◌≤◌, ◌++◌, ◌∷◌, [], ℕ, cond, nat_eq, take, slice_get, vec_len, vec_capacity, Some, OnOk};
-ghost use Rattle.std.specs.Map.{lookup};
-ghost use Rattle.indexmap.specs.IndexMap.{spare};
-ghost use Rattle.queue_table.specs.Classes.{last_place};
+ghost use Rattle.std.specs.Prelude.{◌≡◌, ◌<◌, ◌≤◌, ◌+◌, ◌++◌, ◌∷◌, [], ℕ, None, cond, nat_eq, length, take, slice_get, vec_len, vec_capacity, Some, OnOk};
+ghost use Rattle.queue_table.specs.Classes.{end_at, last_place, most_classes};
 
 use grs_base::NoMemory;
-use indexmap::IndexMap;
 use std::alloc::Global;
 use std::marker::Model;
+
+/// How many classes there may be: 64 slices, and 256 systems.
+const MOST_CLASSES: usize = 320;
 
 /// A place: its class, and the place before it that has the same one.
 #[derive(Clone, Copy)]
@@ -17,44 +17,78 @@ struct Link {
     before: Option<usize>,
 }
 
-/// The classes of the places of a list, seen as these, beside whether there is room for one more.
+/// The classes of the places of a list, seen as these, beside for how many more there is room. The last place of a class
+/// stands under its number.
 #[derive(Drop)]
 pub(crate) struct Classes {
-    last: IndexMap<u32, usize>,
+    last: Vec<Option<usize>>,
     links: Vec<Link>,
 }
 
 impl Model for Classes {
-    ghost use Rattle.std.specs.Prelude.{◌-◌, min, map, vec_len, vec_capacity};
-    ghost use Rattle.indexmap.specs.IndexMap.{spare};
-    ghost use Rattle.queue_table.specs.Classes.{ClassesView, IsChained};
+    ghost use Rattle.std.specs.Prelude.{◌-◌, cond, map, nat_le, length, vec_len, vec_capacity};
+    ghost use Rattle.queue_table.specs.Classes.{ClassesView, IsChained, most_classes};
 
     ghost Value = { ClassesView };
 
-    ghost view = { λ a. record { classes = map (λ l. l.class) a.links.items; room = min (spare a.last) (vec_capacity a.links - vec_len a.links) } };
+    ghost view = { λ a. record { classes = map (λ l. l.class) a.links.items; room = cond (nat_le most_classes (length a.last.items)) (vec_capacity a.links - vec_len a.links) 0 } };
 
-    ghost invariant = { λ a. IsChained a.last.entries (map (λ l. l.before) a.links.items) (map (λ l. l.class) a.links.items) };
+    ghost invariant = { λ a. IsChained a.last.items (map (λ l. l.before) a.links.items) (map (λ l. l.class) a.links.items) };
 }
 
 /// The last place of a class.
-fn find_last(last: &IndexMap<u32, usize>, class: u32) -> Option<usize>
-    ensures { result ≡ lookup (nat_eq class) last.now.entries }
+#[tactic(auto, using(crate::proofs::EndLemmas::ends))]
+fn find_last(last: &Vec<Option<usize>>, class: u32) -> Option<usize>
+    ensures { result ≡ end_at last.now.items class }
 {
-    last.get(&class).copied()
+    let at = class as usize;
+    if at < last.len() { last[at] } else { None }
 }
 
 /// This place is the last one of a class.
-fn set_last(last: &mut IndexMap<u32, usize>, class: u32, place: usize)
-    requires { 1 ≤ spare last.old }
-    ensures { (c : ℕ) → lookup (nat_eq c) last.new.entries ≡ cond (nat_eq class c) (Some place) (lookup (nat_eq c) last.old.entries) }
+#[tactic(auto, using(crate::proofs::EndLemmas::ends))]
+fn set_last(last: &mut Vec<Option<usize>>, class: u32, place: usize)
+    requires { class < length last.old.items }
+    ensures len { length last.new.items ≡ length last.old.items }
+    ensures last { (c : ℕ) → end_at last.new.items c ≡ cond (nat_eq c class) (Some place) (end_at last.old.items c) }
 {
-    let _ = last.insert(class, place);
+    last[class as usize] = Some(place);
+}
+
+/// Makes room for the last place of any class.
+#[tactic(auto, using(crate::proofs::EndLemmas::ends))]
+fn reserve_last(last: &mut Vec<Option<usize>>) -> Result<(), NoMemory>
+    ensures last { (c : ℕ) → end_at last.new.items c ≡ end_at last.old.items c }
+    ensures longer { length last.old.items ≤ length last.new.items }
+    ensures room { OnOk result (most_classes ≤ length last.new.items) }
+{
+    let held = last.len();
+    if held >= MOST_CLASSES {
+        return Ok(());
+    }
+    match last.resize(MOST_CLASSES, None) {
+        Ok(()) => Ok(()),
+        Err(_) => Err(NoMemory),
+    }
+}
+
+/// No class has a place any more.
+#[tactic(auto, using(crate::proofs::EndLemmas::ends))]
+fn clear_last(last: &mut Vec<Option<usize>>)
+    ensures len { length last.new.items ≡ length last.old.items }
+    ensures last { (c : ℕ) → end_at last.new.items c ≡ None }
+{
+    let held = last.len();
+    last.clear();
+    let _ = last.resize(held, None);
 }
 
 /// Puts a place behind others.
 fn add_link(links: &mut Vec<Link>, link: Link)
     requires { vec_len links.old < vec_capacity links.old }
-    ensures { links.new.items ≡ links.old.items ++ link ∷ [] }
+    ensures links { links.new.items ≡ links.old.items ++ link ∷ [] }
+    ensures len { vec_len links.new ≡ vec_len links.old + 1 }
+    ensures capacity { vec_capacity links.old ≤ vec_capacity links.new }
 {
     let _ = links.push(link);
 }
@@ -65,7 +99,7 @@ impl Classes {
         ensures { result.classes ≡ [] }
     {
         Classes {
-            last: IndexMap::new(alloc),
+            last: Vec::new(alloc),
             links: Vec::new(alloc),
         }
     }
@@ -75,20 +109,32 @@ impl Classes {
         ensures classes { self.new.classes ≡ self.old.classes }
         ensures room { OnOk result (1 ≤ self.new.room) }
     {
-        if self.last.reserve(1).is_err() || self.links.reserve(1).is_err() {
-            return Err(NoMemory);
+        reserve_last(&mut self.last)?;
+        match self.links.reserve(1) {
+            Ok(()) => Ok(()),
+            Err(_) => Err(NoMemory),
         }
-        Ok(())
     }
 
     /// One more place, of this class.
     pub(crate) fn push(&mut self, class: u32)
-        requires { 1 ≤ self.old.room }
-        ensures { self.new.classes ≡ self.old.classes ++ class ∷ [] }
+        requires class { class < most_classes }
+        requires room { 1 ≤ self.old.room }
+        ensures classes { self.new.classes ≡ self.old.classes ++ class ∷ [] }
+        ensures room { self.old.room ≤ self.new.room + 1 }
     {
         let before = find_last(&self.last, class);
         set_last(&mut self.last, class, self.links.len());
         add_link(&mut self.links, Link { class, before });
+    }
+
+    /// Lets all places go, and keeps their room.
+    pub(crate) fn clear(&mut self)
+        ensures classes { self.new.classes ≡ [] }
+        ensures room { length self.old.classes ≤ self.new.room }
+    {
+        clear_last(&mut self.last);
+        self.links.clear();
     }
 
     /// The last place of a class.

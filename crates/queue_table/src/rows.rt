@@ -4,13 +4,14 @@ ghost use Rattle.std.specs.Prelude.{◌≡◌, ◌++◌, ◌∷◌, [], true, co
 ghost use Rattle.grs_base.specs.Lists.{is_apart};
 ghost use Rattle.grs_base.specs.State.{list_at, list_of};
 ghost use Rattle.grs_base.specs.Rows.{lists_of, row_of, rows_of};
+ghost use Rattle.queue_table.specs.Classes.{class_of, class_at};
 ghost use Rattle.queue_table.specs.Names.{named, IsTable};
 ghost use Rattle.grs_base.specs.Looks.{look};
 ghost use Rattle.queue_table.specs.Shown.{plain, with_list, may_show, passes, shows};
 
 use super::parts::number;
 use super::placed::Placed;
-use super::resources::Resources;
+use super::resources::{Resources, has_class};
 use gqscan::{is_of_place, matches_filter};
 use grs_base::{Elem, Filter, List, NoMemory, Place, Queues, Res, Row};
 use ret_codes::owners_among;
@@ -45,10 +46,11 @@ fn add_list<Q: Queues>(
     requires { Q.is_live queues.now queue ≡ true }
     ensures { OnOk result (plain lists.new.entries ≡ with_list res.now (list_at nat_eq (Q.elements queues.now) queue) (plain lists.old.entries)) }
 {
-    let elems = queues.elems(alloc, queue)?;
-    if elems.len() == 0 {
+    let held = queues.len(queue);
+    if held == 0 {
         return Ok(());
     }
+    let elems = queues.elems(alloc, queue)?;
     let res = res.copy(alloc)?;
     match lists.insert(Placed { res }, elems) {
         Ok(_) => Ok(()),
@@ -64,6 +66,15 @@ fn may_be_shown(place: Option<Place>, chosen: &Filter, res: &Res) -> bool
         Some(place) => is_of_place(place, res) && matches_filter(chosen, res, true),
         None => matches_filter(chosen, res, true),
     }
+}
+
+/// The same of a resource of the class of a place, whose names tell no more than the class does where it is looked at.
+#[tactic(auto, using(crate::proofs::ClassLemmas::own_classes))]
+fn may_be_shown_at(place: Place, chosen: &Filter, res: &Res) -> bool
+    requires { class_of res.now ≡ class_at place }
+    ensures { result ≡ may_show (Some place) chosen.now res.now }
+{
+    has_class(place) && matches_filter(chosen, res, true)
 }
 
 /// Puts the list of a resource among others, if it is to be shown.
@@ -125,7 +136,7 @@ fn lists_at<Q: Queues>(
     'places: while let Some(at) = next {
         match numbers.entry(at) {
             Some((res, queue)) => {
-                let shown = may_be_shown(Some(place), chosen, res);
+                let shown = may_be_shown_at(place, chosen, res);
                 add_list_shown(alloc, queues, shown, res, queue, &mut lists)?
             }
             None => unreachable!(),

@@ -2,7 +2,7 @@ use Rattle.std.proofs.Common.{◌≡◌, ◌<◌, ◌∙◌, sym, ap, subst, ref
 use Rattle.grs_base.specs.State.{list_at}
 use Rattle.queue_table.specs.Classes.{class_at, class_of}
 use Rattle.queue_table.specs.Shown.{plain, with_list, may_show}
-use Rattle.queue_table.proofs.ClassLemmas.{classes_of, class-may_show, way_left, way-less}
+use Rattle.queue_table.proofs.ClassLemmas.{classes_of, class-may_show, class_at_place, way_left, way-less}
 use Rattle.queue_table.proofs.PurgeLemmas.{number_at-live}
 use Rattle.queue_table.proofs.RowLemmas.{Gathers, gathers-begins, gathers-next, gathers-ends, gathers-class}
 use Rattle.queue_table.proofs.RowLemmas.{gathers-there}
@@ -18,6 +18,17 @@ pub add_list_shown-requires : goal.add_list_shown-requires
 add_list_shown-requires g c =
     number_at-live (g.Q.Queues.is_live c.args.queues.now) c.args.numbers.now.entries c.in-Some.at
     (c.in-Some-entry.res.now, c.in-Some-entry.queue) c.requires.table.live_numbers c.in-Some-entry.ensures.entry
+
+pub may_be_shown_at-shown-requires : goal.may_be_shown_at-shown-requires
+may_be_shown_at-shown-requires g c =
+    let shown = may_show (Some c.args.place) c.args.chosen.now in
+    let elements = g.Q.Queues.elements c.args.queues.now in
+    class_at_place c.args.numbers.now.entries c.in-Some.at (class_at c.args.place)
+    (c.in-Some-entry.res.now, c.in-Some-entry.queue) c.in-Some-entry.ensures.entry
+    (gathers-class shown (class_at c.args.place) c.args.numbers.now.entries elements (plain c.places.lists.entries)
+    c.in-Some.at
+    (subst (Gathers shown (class_at c.args.place) c.args.numbers.now.entries elements (plain c.places.lists.entries))
+    c.in-Some.is c.places.invariant))
 
 pub unreachable-requires : goal.unreachable-requires
 unreachable-requires g c =
@@ -58,7 +69,7 @@ places-preserved g c =
     (c.in_ok-add_list_shown-in-Some-entry.ensures
     ∙ ap (λ (b : Bool).
     cond b (with_list c.in-Some-entry.res.now (list_at nat_eq elements c.in-Some-entry.queue) lists) lists)
-    c.may_be_shown-shown.ensures)
+    c.may_be_shown_at-shown.ensures)
     c.before-next.ensures
 
 none-left : (o : Option ℕ) → ((p : ℕ) → o ≡ Some p → ⊥) → o ≡ None

@@ -10,7 +10,7 @@ returns c =
     let classes : map (λ (l : Link). l.class) c.self.inside.links.items ≡ c.args.self.now.classes =
     ap (λ (v : ClassesView). v.classes) c.self.view_is in
     let there =
-    chained-before c.self.inside.last.entries (map (λ (l : Link). l.before) c.self.inside.links.items)
+    chained-before c.self.inside.last.items (map (λ (l : Link). l.before) c.self.inside.links.items)
     (map (λ (l : Link). l.class) c.self.inside.links.items) c.args.place c.args.class c.self.invariant
     (ap (λ (l : List ℕ). slice_get l c.args.place) classes ∙ c.requires) in
     ap (λ (l : Link). l.before) c.index.ensures
