@@ -1,4 +1,5 @@
 pub mod Journal
+pub mod Entered
 pub mod Seats
 pub mod Places
 pub mod Rule

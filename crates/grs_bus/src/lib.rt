@@ -5,6 +5,7 @@
 mod bus;
 mod calls;
 mod ends;
+pub mod laws;
 mod slot;
 mod steps;
 pub mod threads;
