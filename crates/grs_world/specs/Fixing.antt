@@ -1,12 +1,13 @@
--- What an event fixes: what it must, by its choice and the reply to its call, and what a task may fix by itself.
-use Rattle.std.specs.Prelude.{◌≡◌, Bool, true, false, not, ◌&&◌, cond, List, [], ◌∷◌, ◌++◌, map, take, Option, Some}
-use Rattle.std.specs.Prelude.{None, slice_get}
-use Rattle.grs_base.specs.Same.{same_task}
+-- What an event fixes: by its choice and the reply to its call, or, where it makes none, by what its task asks.
+use Rattle.std.specs.Prelude.{◌≡◌, ℕ, cond, List, [], ◌∷◌, ◌++◌, map, take, Option, Some, None, is_some, slice_get}
 use Rattle.grs_base.specs.declared.resource.SysId.{SysId}
 use Rattle.grs_base.specs.declared.resource.TaskId.{TaskId}
+use Rattle.grs_legal.specs.Asks.{lines_of}
+use Rattle.grs_legal.specs.declared.meaning.Meaning.{Meaning}
+use Rattle.grs_legal.specs.declared.meaning.Meaning.TheVariants as lines
 use Rattle.grs_medium.specs.Apply.{reply_to}
 use Rattle.grs_medium.specs.Medium.{MediumState}
-use Rattle.grs_node.specs.Node.{NodeState, prepare}
+use Rattle.grs_node.specs.Node.{NodeState, has_most, prepare}
 use Rattle.grs_node.specs.Star.{StarPart}
 use Rattle.grs_node.specs.declared.prepared.Prepared.{Prepared}
 use Rattle.grs_node.specs.declared.prepared.Prepared.TheVariants.{Quiet, Call, Nothing}
@@ -21,9 +22,14 @@ use Rattle.grs_wire.specs.declared.medium.Reply.TheVariants as replies
 use Rattle.grs_wire.specs.declared.request.Fixed.{Fixed}
 use Rattle.grs_wire.specs.declared.request.Fixed.TheVariants.{Asked, LocalLook, Purged}
 use Rattle.grs_wire.specs.declared.request.Req.{Req}
+use Rattle.grs_wire.specs.declared.request.Want.{Want}
+use Rattle.grs_wire.specs.declared.request.Want.TheVariants.{Enq, Deq, Release}
 use Rattle.ring_mode.specs.Ring.{is_for_all}
 use Rattle.task_state.specs.View.{state_of}
 use Rattle.task_state.specs.declared.state.Asked.{Asked as AskedOf}
+use Rattle.task_state.specs.declared.state.Phase.{Phase}
+use Rattle.task_state.specs.declared.state.Phase.TheVariants as phases
+use Rattle.task_state.specs.declared.state.Rec.{Rec}
 use Rattle.grs_world.specs.World.{World, fixed_by, run}
 
 -- what a task asks for that isn't answered yet, if it asks for something
@@ -46,6 +52,10 @@ held_first (Some p) = one_request (slice_get p.held 0)
 -- ---- An event that makes a call. A Turn fixes the first requests of the outbox, as many as were put in; a Send for
 -- whose entry there was no manager what its task asks for; a Settle the request that was held first; and a removal
 -- itself.
+abbrev pub when_turned : NodeState → Choice → ℕ → List Fixed
+when_turned n choices.Turn taken = map Asked (take taken n.outbox)
+when_turned n _ taken = []
+
 abbrev pub when_sole : NodeState → Choice → List Fixed
 when_sole n (choices.Send t) = waits_at n t
 when_sole n _ = []
@@ -60,47 +70,66 @@ when_purged _ = []
 
 -- With any other reply nothing is fixed.
 abbrev pub fixed_by_reply : NodeState → Choice → Reply → List Fixed
-fixed_by_reply n choice (replies.Turned entries taken closed) = map Asked (take taken n.outbox)
+fixed_by_reply n choice (replies.Turned entries taken closed) = when_turned n choice taken
 fixed_by_reply n choice replies.Sole = when_sole n choice
 fixed_by_reply n choice replies.Settled = when_settled n choice
 fixed_by_reply n choice replies.Purged = when_purged choice
 fixed_by_reply n choice _ = []
 
--- ---- An event that makes none. A task that goes on fixes one thing at most, which is its own and of its system alone:
--- a request for a resource that isn't one of the whole complex, or a look at the system's own lists.
-abbrev pub is_own_of : TaskId → Fixed → Bool
-is_own_of t (Asked q) = same_task t q.task && not (is_for_all (res_wanted q.want))
-is_own_of t (LocalLook u filter) = same_task t u
-is_own_of t (Purged target) = false
+-- ---- An event that makes none. A task that goes on fixes what it asks of its own system alone: a request for a
+-- resource that isn't one of the whole complex.
+abbrev pub at_once : TaskId → Want → List Fixed
+at_once t w = cond (is_for_all (res_wanted w)) [] (Asked (record { task = t; want = w }) ∷ [])
 
-abbrev pub OwnAtMost : TaskId → List Fixed → Type 0
-OwnAtMost t [] = Unit {0}
-OwnAtMost t (f ∷ []) = is_own_of t f ≡ true
-OwnAtMost t (f ∷ g ∷ fs) = ⊥
+-- A task takes its next line: an ENQ, by which a record may be made if the task doesn't have as many as it may, or a
+-- DEQ; or it shows lists, and looks at its system's own.
+abbrev pub fixed_by_line : ℕ → NodeState → TaskId → Meaning → List Fixed
+fixed_by_line limit n t (lines.Enq r c ret unit) = at_once t (Enq r c ret (has_most limit n.tasks t))
+fixed_by_line limit n t (lines.Deq r have) = at_once t (Deq r have)
+fixed_by_line limit n t (lines.Shows d) = cond (is_some d.home) (LocalLook t d.filter ∷ []) []
+fixed_by_line limit n t _ = []
+
+-- A task that ends, or has no line left, releases what it has on record first.
+abbrev pub fixed_at_end : TaskId → List Rec → List Fixed
+fixed_at_end t [] = []
+fixed_at_end t (x ∷ xs) = at_once t (Release x.res)
+
+abbrev pub fixed_when_ready : ℕ → NodeState → TaskId → Option Meaning → List Fixed
+fixed_when_ready limit n t None = fixed_at_end t (state_of n.tasks t).records
+fixed_when_ready limit n t (Some l) = fixed_by_line limit n t l
+
+abbrev pub fixed_in_phase : ℕ → NodeState → TaskId → List Meaning → Phase → List Fixed
+fixed_in_phase limit n t ls phases.Ready = fixed_when_ready limit n t (slice_get ls (state_of n.tasks t).line)
+fixed_in_phase limit n t ls (phases.Ending code) = fixed_at_end t (state_of n.tasks t).records
+fixed_in_phase limit n t ls _ = []
+
+abbrev pub fixed_by_task : ℕ → NodeState → TaskId → Option (List Meaning) → List Fixed
+fixed_by_task limit n t None = []
+fixed_by_task limit n t (Some ls) = fixed_in_phase limit n t ls (state_of n.tasks t).phase
 
 -- And a manager decides what its own task asks for that waits to be sent.
-abbrev pub FixesAlone : NodeState → Choice → List Fixed → Type 0
-FixesAlone n (choices.Task t) fs = OwnAtMost t fs
-FixesAlone n (choices.Send t) fs = fs ≡ waits_at n t
-FixesAlone n _ fs = fs ≡ []
+abbrev pub fixed_alone : Deck → NodeState → Choice → List Fixed
+fixed_alone deck n (choices.Task t) = fixed_by_task deck.limit n t (lines_of deck t)
+fixed_alone deck n (choices.Send t) = waits_at n t
+fixed_alone deck n _ = []
 
 -- ---- what an event of a system fixes, by what its choice comes to
-abbrev pub Fixes : MediumState → SysId → NodeState → Choice → Prepared → List Fixed → Type 0
-Fixes m s n choice Nothing fs = fs ≡ []
-Fixes m s n choice Quiet fs = FixesAlone n choice fs
-Fixes m s n choice (Call call) fs = fs ≡ fixed_by_reply n choice (reply_to m s call)
+abbrev pub fixed_by_event : Deck → MediumState → SysId → NodeState → Choice → Prepared → List Fixed
+fixed_by_event deck m s n choice Nothing = []
+fixed_by_event deck m s n choice Quiet = fixed_alone deck n choice
+fixed_by_event deck m s n choice (Call call) = fixed_by_reply n choice (reply_to m s call)
 
 -- the system of an event, if it is there and wasn't removed
 abbrev pub acting : World → SysId → Option NodeState
 acting w s = cond (has w.medium.removed s.0) None (slice_get w.nodes s.0)
 
 -- An event of such a system adds just that to what was fixed, under its system's number; any other event nothing.
-abbrev pub FixesMore : Deck → World → Event → List (SysId × Fixed) → Option NodeState → Type 0
-FixesMore deck w e fixed None = fixed ≡ w.fixed
-FixesMore deck w e fixed (Some n) =
-    (fs : List Fixed) × (fixed ≡ w.fixed ++ fixed_by e.system fs)
-    × Fixes w.medium e.system n e.choice (prepare deck n e.choice) fs
+abbrev pub fixed_more : Deck → World → Event → Option NodeState → List (SysId × Fixed)
+fixed_more deck w e None = []
+fixed_more deck w e (Some n) =
+    fixed_by e.system (fixed_by_event deck w.medium e.system n e.choice (prepare deck n e.choice))
 
 abbrev pub EventFixes : Deck → List Event → Event → Type 0
 EventFixes deck es next =
-    FixesMore deck (run deck es) next (run deck (es ++ next ∷ [])).fixed (acting (run deck es) next.system)
+    let w = run deck es in
+    (run deck (es ++ next ∷ [])).fixed ≡ w.fixed ++ fixed_more deck w next (acting w next.system)

@@ -38,11 +38,12 @@ pub fn changes_fix_nothing()
     ensures { (deck : Deck) → (events : List Event) → (next : Event) → ChangesFixNothing deck events next }
 {}
 
-/// What an event fixes, by its choice and the reply to its call: a Turn the requests that it put in, a Send that found no manager
-/// what its task asks for, a Settle the request that was held first, a removal itself, and with any other reply nothing. Without
-/// a call a manager fixes what its own task asks for that waits to be sent, and a task that goes on one thing at most: a request
-/// of its own for a resource of its system alone, or its look at that system's lists. An event of a system that isn't there, or
-/// was removed, fixes nothing.
+/// What an event adds to what was fixed, by its choice and the reply to its call: a Turn the requests that it put in, a Send that
+/// found no manager what its task asks for, a Settle the request that was held first, a removal itself, and any other choice or
+/// reply nothing. Without a call a manager fixes what its own task asks for that waits to be sent, and a task that goes on what
+/// it asks of its system alone: the request of its ENQ or DEQ, or of the release with which it ends, for a resource that isn't one
+/// of the whole complex, or the look of its line at that system's lists. An event of a system that isn't there, or was removed,
+/// fixes nothing.
 pub fn what_events_fix()
     ensures { (deck : Deck) → (events : List Event) → (next : Event) → EventFixes deck events next }
 {}

@@ -1,9 +1,8 @@
--- What an event fixes, by its choice and the reply to its call. It needs nothing of the run.
+-- What an event fixes, by its choice, the reply to its call and its task's line. It needs nothing of the run.
 use Rattle.std.proofs.Common.{◌≡◌, ℕ, Bool, true, false, cond, ◌&&◌, List, [], ◌∷◌, map, take, Option, Some, None}
-use Rattle.std.proofs.Common.{refl, ap, sym, ◌∙◌, subst}
-use Rattle.std.specs.Prelude.{is_none, not, slice_get, ◌==◌}
-use Rattle.std.proofs.lemmas.Bool.{and_from}
-use Rattle.grs_base.proofs.SameLaws.{same_task-itself}
+use Rattle.std.proofs.Common.{refl, ap, sym, ◌∙◌, subst, append-nil}
+use Rattle.std.specs.Prelude.{◌+◌, ◌++◌, is_none, is_some, length, nat_le, slice_get, ◌==◌}
+use Rattle.std.proofs.lemmas.Bool.{and_parts}
 use Rattle.grs_base.specs.declared.resource.Res.{Res}
 use Rattle.grs_base.specs.declared.resource.SysId.{SysId}
 use Rattle.grs_base.specs.declared.resource.TaskId.{TaskId}
@@ -14,12 +13,13 @@ use Rattle.grs_legal.specs.declared.meaning.Meaning.TheVariants as lines
 use Rattle.grs_medium.specs.Apply.{reply_to}
 use Rattle.grs_medium.specs.Medium.{MediumState}
 use Rattle.grs_node.proofs.Fits.{by-reply}
+use Rattle.grs_wire.specs.Replies.{is_listed}
 use Rattle.grs_node.specs.Node.{NodeState, Step, ask, change_to_star, decide, end_step, finish, finish_call}
 use Rattle.grs_node.specs.Node.{finish_quiet, finish_star, is_for_deck, is_of_deck, look_home, may_go, may_send}
 use Rattle.grs_node.specs.Node.{is_pending, next_order, phase_step, post, prepare, prepared_by}
 use Rattle.grs_node.specs.Node.{purge_call, purged, put_in, read_entries, read_entry, ready_step, send_own, show}
 use Rattle.grs_node.specs.Node.{star_call, star_need, star_step, switch_call, take_line, take_mail, take_step}
-use Rattle.grs_node.specs.Node.{task_step, turn_call, turned}
+use Rattle.grs_node.specs.Node.{task_step, turn_call, turned, with_tasks}
 use Rattle.grs_node.specs.Star.{StarPart, StarStep, begin_at, begun, decide_own, entry_asked, entry_for, first_held}
 use Rattle.grs_node.specs.Star.{fixing_none, leave_by, leave_step, manages, may_leave, own_step, send_of, send_step}
 use Rattle.grs_node.specs.Star.{send_to, sent_to, serves, settle_by, settle_step, settled_by, settled_first, tell_by}
@@ -46,81 +46,108 @@ use Rattle.grs_wire.specs.declared.medium.RingBody.{RingBody}
 use Rattle.grs_wire.specs.declared.medium.RingBody.TheVariants as bodies
 use Rattle.grs_wire.specs.declared.medium.RingEntry.{RingEntry}
 use Rattle.grs_wire.specs.declared.request.Fixed.{Fixed}
-use Rattle.grs_wire.specs.declared.request.Fixed.TheVariants.{Asked}
+use Rattle.grs_wire.specs.declared.request.Fixed.TheVariants.{Asked, LocalLook}
 use Rattle.grs_wire.specs.declared.request.Req.{Req}
 use Rattle.grs_wire.specs.declared.request.Want.{Want}
 use Rattle.grs_wire.specs.declared.request.Want.TheVariants as wants
 use Rattle.grs_wire.proofs.WantLaws.{by_test}
 use Rattle.ring_mode.specs.Ring.{is_for_all}
-use Rattle.task_state.specs.View.{TasksView, state_of}
+use Rattle.task_state.proofs.ViewLaws.{state_of-same}
+use Rattle.task_state.specs.View.{TasksView, code_in, is_task, state_of, with_line, with_phase}
 use Rattle.task_state.specs.declared.state.Asked.{Asked as AskedOf}
 use Rattle.task_state.specs.declared.state.Phase.{Phase}
 use Rattle.task_state.specs.declared.state.Phase.TheVariants as phases
 use Rattle.task_state.specs.declared.state.Rec.{Rec}
-use Rattle.grs_world.specs.Fixing.{EventFixes, Fixes, FixesAlone, FixesMore, OwnAtMost, acting, asks_for}
-use Rattle.grs_world.specs.Fixing.{fixed_by_reply}
-use Rattle.grs_world.specs.Fixing.{held_first, one_request, waits_at, when_purged, when_settled, when_sole}
-use Rattle.grs_world.specs.World.{World, Turnout, carry_out, chosen, counted, first_world, happens, happens_at, placed}
+use Rattle.grs_world.specs.Fixing.{EventFixes, acting, asks_for, at_once, fixed_alone, fixed_at_end, fixed_by_event}
+use Rattle.grs_world.specs.Fixing.{fixed_by_line, fixed_by_reply, fixed_by_task, fixed_in_phase, fixed_more}
+use Rattle.grs_world.specs.Fixing.{fixed_when_ready, held_first, one_request, waits_at, when_purged, when_settled}
+use Rattle.grs_world.specs.Fixing.{when_sole, when_turned}
+use Rattle.grs_world.specs.World.{World, carry_out, chosen, counted, first_world, fixed_by, happens, happens_at, placed}
 use Rattle.grs_world.specs.World.{run}
+use Rattle.grs_medium.proofs.Replies.{replies_are_listed}
 use Rattle.grs_world.proofs.run.Each.{run-push}
 
 -- ---- a task goes on
-by_decide : (n : NodeState) (t : TaskId) (w : Want) (unit : Option ℕ) → is_for_all (res_wanted w) ≡ false
-    → OwnAtMost t (decide n t w unit).fixed
-unfolding decide
-by_decide n t w unit alone = and_from _ _ (same_task-itself t) (ap not alone)
+by_ask : (n : NodeState) (t : TaskId) (w : Want) (unit : Option ℕ) → (ask n t w unit).fixed ≡ at_once t w
+unfolding ask post decide
+by_ask n t w unit = by_home (is_for_all (res_wanted w))
+  where
+    by_home : (b : Bool)
+        → (cond {A = Step} b (post n t w unit) (decide n t w unit)).fixed
+        ≡ cond b [] (Asked (record { task = t; want = w }) ∷ [])
+    by_home true = refl
+    by_home false = refl
 
-by_post : (n : NodeState) (t : TaskId) (w : Want) (unit : Option ℕ) → OwnAtMost t (post n t w unit).fixed
-unfolding post
-by_post n t w unit = tt
-
-by_ask : (n : NodeState) (t : TaskId) (w : Want) (unit : Option ℕ) → OwnAtMost t (ask n t w unit).fixed
-unfolding ask
-by_ask n t w unit =
-    by_test (λ (s : Step). OwnAtMost t s.fixed) (is_for_all (res_wanted w)) (post n t w unit) (decide n t w unit)
-    (λ all. by_post n t w unit) (λ alone. by_decide n t w unit alone)
-
-by_show : (n : NodeState) (t : TaskId) (d : Display) → OwnAtMost t (show n t d).fixed
+by_show : (n : NodeState) (t : TaskId) (d : Display)
+    → (show n t d).fixed ≡ cond (is_some d.home) (LocalLook t d.filter ∷ []) []
 unfolding show
 by_show n t d = by_home d.home
   where
-    by_home : (o : Option SysId) → OwnAtMost t (look_home n t d o).fixed
-    by_home None = tt
-    by_home (Some u) = same_task-itself t
+    by_home : (o : Option SysId)
+        → (look_home n t d o).fixed ≡ cond (is_some o) (LocalLook t d.filter ∷ []) []
+    by_home None = refl
+    by_home (Some u) = refl
 
-by_line : (limit : ℕ) (n : NodeState) (t : TaskId) (l : Meaning) → OwnAtMost t (take_line limit n t l).fixed
+by_line : (limit : ℕ) (n : NodeState) (t : TaskId) (l : Meaning)
+    → (take_line limit n t l).fixed ≡ fixed_by_line limit n t l
 unfolding take_line
 by_line limit n t (lines.Enq r c ret unit) = by_ask n t _ unit
 by_line limit n t (lines.Deq r have) = by_ask n t (wants.Deq r have) None
-by_line limit n t (lines.Wait r) = tt
+by_line limit n t (lines.Wait r) = refl
 by_line limit n t (lines.Shows d) = by_show n t d
-by_line limit n t lines.Nothing = tt
+by_line limit n t lines.Nothing = refl
 
-by_end : (n : NodeState) (t : TaskId) (code : ℕ) (xs : List Rec) → OwnAtMost t (end_step n t code xs).fixed
+by_end : (n : NodeState) (t : TaskId) (code : ℕ) (xs : List Rec) → (end_step n t code xs).fixed ≡ fixed_at_end t xs
 unfolding end_step
-by_end n t code [] = tt
+by_end n t code [] = refl
 by_end n t code (x ∷ xs) = by_ask n t (wants.Release x.res) None
 
-by_ready : (limit : ℕ) (n : NodeState) (t : TaskId) (l : Option Meaning) → OwnAtMost t (ready_step limit n t l).fixed
+-- what a task has on record stays as it takes a line, and as it begins to end
+records-line : (v : TasksView) (t : TaskId) → is_task v t ≡ true
+    → (state_of (with_line v t) t).records ≡ (state_of v t).records
+unfolding with_line
+records-line v t here = ap (λ x. x.records) (state_of-same v t (λ x. record x { line = x.line + 1 }) here)
+
+records-phase : (v : TasksView) (t : TaskId) (p : Phase) → is_task v t ≡ true
+    → (state_of (with_phase v t p) t).records ≡ (state_of v t).records
+unfolding with_phase
+records-phase v t p here =
+    ap (λ x. x.records) (state_of-same v t (λ x. record x { phase = p; code = code_in p x.code }) here)
+
+line-taken : (limit : ℕ) (n : NodeState) (t : TaskId) → is_task n.tasks t ≡ true → (l : Meaning)
+    → fixed_by_line limit (with_tasks n (with_line n.tasks t)) t l ≡ fixed_by_line limit n t l
+line-taken limit n t here (lines.Enq r c ret unit) =
+    ap (λ (xs : List Rec). at_once t (wants.Enq r c ret (nat_le limit (length xs)))) (records-line n.tasks t here)
+line-taken limit n t here (lines.Deq r have) = refl
+line-taken limit n t here (lines.Wait r) = refl
+line-taken limit n t here (lines.Shows d) = refl
+line-taken limit n t here lines.Nothing = refl
+
+by_ready : (limit : ℕ) (n : NodeState) (t : TaskId) → is_task n.tasks t ≡ true → (l : Option Meaning)
+    → (ready_step limit n t l).fixed ≡ fixed_when_ready limit n t l
 unfolding ready_step
-by_ready limit n t None = by_end _ t 0 _
-by_ready limit n t (Some l) = by_line limit _ t l
+by_ready limit n t here None = by_end _ t 0 _ ∙ ap (fixed_at_end t) (records-phase n.tasks t (phases.Ending 0) here)
+by_ready limit n t here (Some l) = by_line limit _ t l ∙ line-taken limit n t here l
 
-by_phase : (limit : ℕ) (n : NodeState) (t : TaskId) (ls : List Meaning) (p : Phase)
-    → OwnAtMost t (phase_step limit n t ls p).fixed
+by_phase : (limit : ℕ) (n : NodeState) (t : TaskId) → is_task n.tasks t ≡ true → (ls : List Meaning) (p : Phase)
+    → (phase_step limit n t ls p).fixed ≡ fixed_in_phase limit n t ls p
 unfolding phase_step
-by_phase limit n t ls phases.Ready = by_ready limit n t _
-by_phase limit n t ls (phases.Ending c) = by_end n t c _
-by_phase limit n t ls phases.ToSend = tt
-by_phase limit n t ls phases.Sent = tt
-by_phase limit n t ls phases.HeldAnswer = tt
-by_phase limit n t ls (phases.HeldLine r) = tt
-by_phase limit n t ls phases.Ended = tt
+by_phase limit n t here ls phases.Ready = by_ready limit n t here _
+by_phase limit n t here ls (phases.Ending c) = by_end n t c _
+by_phase limit n t here ls phases.ToSend = refl
+by_phase limit n t here ls phases.Sent = refl
+by_phase limit n t here ls phases.HeldAnswer = refl
+by_phase limit n t here ls (phases.HeldLine r) = refl
+by_phase limit n t here ls phases.Ended = refl
 
-by_task : (limit : ℕ) (n : NodeState) (t : TaskId) (o : Option (List Meaning))
-    → OwnAtMost t (task_step limit n t o).fixed
-by_task limit n t None = tt
-by_task limit n t (Some ls) = by_phase limit n t ls (state_of n.tasks t).phase
+by_task : (limit : ℕ) (n : NodeState) (t : TaskId) → is_task n.tasks t ≡ true → (o : Option (List Meaning))
+    → (task_step limit n t o).fixed ≡ fixed_by_task limit n t o
+by_task limit n t here None = refl
+by_task limit n t here (Some ls) = by_phase limit n t here ls (state_of n.tasks t).phase
+
+may_go-task : (deck : Deck) (n : NodeState) (t : TaskId) → may_go deck n t ≡ true → is_task n.tasks t ≡ true
+unfolding may_go
+may_go-task deck n t h = (and_parts _ _ h).0
 
 -- ---- a manager's own request
 by_own : (v : TasksView) (p : StarPart) (t : TaskId) (o : Option AskedOf) → (own_step v p t o).fixed ≡ asks_for t o
@@ -268,47 +295,96 @@ by_purged n (choices.Tell e) = refl
 by_purged n (choices.Leave e) = refl
 by_purged n choices.Switch = refl
 
--- ---- any reply
+-- ---- any reply that the medium gives: Turned comes to a Turn alone
+abbrev is_turn : Choice → Bool
+is_turn choices.Turn = true
+is_turn _ = false
+
+abbrev is_turn_act : Act → Bool
+is_turn_act (acts.Turn out) = true
+is_turn_act _ = false
+
+abbrev Heard : Choice → Reply → Type 0
+Heard choice (replies.Turned entries taken closed) = is_turn choice ≡ true
+Heard choice _ = Unit {0}
+
+turn-listed : (act : Act) (es : List RingEntry) (k : ℕ) (closed : Bool)
+    → is_listed act (replies.Turned es k closed) ≡ true → is_turn_act act ≡ true
+turn-listed (acts.Turn out) es k closed h = refl
+turn-listed (acts.Switch words) es k closed h = absurd (cc)
+turn-listed (acts.Submit entry req) es k closed h = absurd (cc)
+turn-listed acts.Take es k closed h = absurd (cc)
+turn-listed (acts.Settle to mail) es k closed h = absurd (cc)
+turn-listed (acts.Tell to mail) es k closed h = absurd (cc)
+turn-listed (acts.Leave entry) es k closed h = absurd (cc)
+turn-listed (acts.Purge target) es k closed h = absurd (cc)
+turn-listed acts.Rest es k closed h = absurd (cc)
+
+heard : (choice : Choice) (act : Act) → is_turn_act act ≡ is_turn choice → (r : Reply) → is_listed act r ≡ true
+    → Heard choice r
+heard choice act suits =
+    by-reply (λ r. is_listed act r ≡ true → Heard choice r) (λ es k b h. sym suits ∙ turn-listed act es k b h)
+    (λ x h. tt)
+    (λ k h. tt) (λ h. tt) (λ h. tt) (λ h. tt) (λ h. tt) (λ m h. tt) (λ h. tt) (λ h. tt) (λ h. tt) (λ h. tt) (λ k h. tt)
+    (λ h. tt) (λ h. tt) (λ h. tt) (λ h. tt) (λ h. tt) (λ k h. tt) (λ h. tt)
+
+by_turned : (deck : Deck) (n : NodeState) (choice : Choice) (es : List RingEntry) (k : ℕ) (closed : Bool)
+    → is_turn choice ≡ true → (turned deck n es k closed).fixed ≡ when_turned n choice k
+by_turned deck n choices.Turn es k closed h = by_turn deck n es k closed
+by_turned deck n choices.Switch es k closed h = absurd (cc)
+by_turned deck n choices.Rest es k closed h = absurd (cc)
+by_turned deck n choices.Take es k closed h = absurd (cc)
+by_turned deck n choices.Settle es k closed h = absurd (cc)
+by_turned deck n (choices.Task t) es k closed h = absurd (cc)
+by_turned deck n (choices.Send t) es k closed h = absurd (cc)
+by_turned deck n (choices.Tell e) es k closed h = absurd (cc)
+by_turned deck n (choices.Leave e) es k closed h = absurd (cc)
+by_turned deck n (choices.Purge target) es k closed h = absurd (cc)
+
 by_call : (deck : Deck) (n : NodeState) (choice : Choice)
     → ((r : Reply) → (finish_star deck n n.star choice r).fixed ≡ by_star_reply n choice r)
-    → (r : Reply) → (finish_call deck n choice r).fixed ≡ fixed_by_reply n choice r
+    → (r : Reply) → Heard choice r → (finish_call deck n choice r).fixed ≡ fixed_by_reply n choice r
 unfolding finish_call
 by_call deck n choice part =
-    by-reply (λ r. (finish_call deck n choice r).fixed ≡ fixed_by_reply n choice r) (λ es k b. by_turn deck n es k b)
-    (λ h. part (replies.NotYours h)) (λ k. part (replies.Behind k)) refl refl (part replies.Sole) (part replies.Sent)
-    (λ m. part (replies.Taken m)) (part replies.Empty) (part replies.Settled) (part replies.Told) (part replies.Left)
-    (λ k. part (replies.Kept k)) (by_purged n choice) refl refl (part replies.Resting) (part replies.Over) (λ k. refl)
-    (part replies.Removed)
+    by-reply (λ r. Heard choice r → (finish_call deck n choice r).fixed ≡ fixed_by_reply n choice r)
+    (λ es k b h. by_turned deck n choice es k b h) (λ x h. part (replies.NotYours x)) (λ k h. part (replies.Behind k))
+    (λ h. refl) (λ h. refl) (λ h. part replies.Sole) (λ h. part replies.Sent) (λ m h. part (replies.Taken m))
+    (λ h. part replies.Empty) (λ h. part replies.Settled) (λ h. part replies.Told) (λ h. part replies.Left)
+    (λ k h. part (replies.Kept k)) (λ h. by_purged n choice) (λ h. refl) (λ h. refl) (λ h. part replies.Resting)
+    (λ h. part replies.Over) (λ k h. refl) (λ h. part replies.Removed)
 
 -- ---- any choice
 module _ (deck : Deck) (m : MediumState) (s : SysId) (n : NodeState) where
   abbrev On : Choice → Prepared → Type 0
-  On choice x = Fixes m s n choice x (carry_out deck m s n choice x).step.fixed
+  On choice x = (carry_out deck m s n choice x).step.fixed ≡ fixed_by_event deck m s n choice x
 
   on_nothing : (choice : Choice) → On choice Nothing
   unfolding carry_out
   on_nothing choice = refl
 
-  on_quiet : (choice : Choice) → FixesAlone n choice (finish_quiet deck n choice).fixed → On choice Quiet
+  on_quiet : (choice : Choice) → (finish_quiet deck n choice).fixed ≡ fixed_alone deck n choice → On choice Quiet
   unfolding carry_out finish
   on_quiet choice h = h
 
   on_call : (choice : Choice)
       → ((r : Reply) → (finish_star deck n n.star choice r).fixed ≡ by_star_reply n choice r) → (c : CallOfMedium)
-      → On choice (Call c)
+      → is_turn_act c.act ≡ is_turn choice → On choice (Call c)
   unfolding carry_out finish
-  on_call choice part c = by_call deck n choice part (reply_to m s c)
+  on_call choice part c suits =
+      by_call deck n choice part (reply_to m s c) (heard choice c.act suits (reply_to m s c) (replies_are_listed m s c))
 
-  on_plain : (choice : Choice) → is_plain choice ≡ true → (c : CallOfMedium) → On choice (Call c)
+  on_plain : (choice : Choice) → is_plain choice ≡ true → (c : CallOfMedium) → is_turn_act c.act ≡ is_turn choice
+      → On choice (Call c)
   on_plain choice plain = on_call choice (by_plain deck n n.star refl choice plain)
 
   module _ (p : StarPart) (is : n.star ≡ Some p) where
-    on_asks : (choice : Choice) → Ready n p choice → (act : Act) → On choice (prepared_by n.known (Asks act))
+    on_asks : (choice : Choice) → Ready n p choice → (act : Act) → is_turn_act act ≡ is_turn choice
+        → On choice (prepared_by n.known (Asks act))
     unfolding finish_star
-    on_asks choice ready act =
+    on_asks choice ready act suits =
         on_call choice (λ r.
         subst (λ o. (finish_star deck n o choice r).fixed ≡ by_star_reply n choice r) (sym is)
-        (by_star deck n p is choice r ready)) (record { known = n.known; act = act })
+        (by_star deck n p is choice r ready)) (record { known = n.known; act = act }) suits
 
     -- a manager's own request
     on_alone : (t : TaskId) → On (choices.Send t) (prepared_by n.known Alone)
@@ -331,7 +407,8 @@ module _ (deck : Deck) (m : MediumState) (s : SysId) (n : NodeState) where
             by_test (λ x. On (choices.Send t) (prepared_by n.known x)) (manages p e) Alone
             (Asks (acts.Submit e (record { task = t; want = a.req.want }))) (λ h. on_alone t)
             (λ h.
-            on_asks (choices.Send t) (a, opened, e, entry) (acts.Submit e (record { task = t; want = a.req.want })))
+            on_asks (choices.Send t) (a, opened, e, entry) (acts.Submit e (record { task = t; want = a.req.want }))
+            refl)
 
         by_request : (o : Option AskedOf) → (state_of n.tasks t).outstanding ≡ o
             → On (choices.Send t) (prepared_by n.known (send_of p t o))
@@ -342,32 +419,34 @@ module _ (deck : Deck) (m : MediumState) (s : SysId) (n : NodeState) where
     on_settle None held = on_nothing choices.Settle
     on_settle (Some q) held =
         by_test (λ x. On choices.Settle (prepared_by n.known x)) (serves p q) (Asks _) Idle
-        (λ h. on_asks choices.Settle (q, held, h) _) (λ h. on_nothing choices.Settle)
+        (λ h. on_asks choices.Settle (q, held, h) (acts.Settle _ _) refl) (λ h. on_nothing choices.Settle)
 
     on_tell : (e : ℕ) (o : Option (TaskId × Res)) → On (choices.Tell e) (prepared_by n.known (tell_by o))
     on_tell e None = on_nothing (choices.Tell e)
-    on_tell e (Some x) = on_asks (choices.Tell e) tt _
+    on_tell e (Some x) = on_asks (choices.Tell e) tt (acts.Tell _ _) refl
 
     on_leave : (e : ℕ) → On (choices.Leave e) (prepared_by n.known (leave_by p n.tasks e))
     on_leave e =
         by_test (λ x. On (choices.Leave e) (prepared_by n.known x)) (may_leave p n.tasks e) (Asks (acts.Leave e)) Idle
-        (λ h. on_asks (choices.Leave e) tt (acts.Leave e)) (λ h. on_nothing (choices.Leave e))
+        (λ h. on_asks (choices.Leave e) tt (acts.Leave e) refl) (λ h. on_nothing (choices.Leave e))
 
-  fixes-chosen : (choice : Choice) → Fixes m s n choice (prepare deck n choice) (chosen deck m s n choice).step.fixed
+  fixes-chosen : (choice : Choice)
+      → (chosen deck m s n choice).step.fixed ≡ fixed_by_event deck m s n choice (prepare deck n choice)
   unfolding chosen prepare star_call finish_quiet
   fixes-chosen (choices.Task t) =
       by_test (On (choices.Task t)) (may_go deck n t) Quiet Nothing
-      (λ h. on_quiet (choices.Task t) (by_task deck.limit n t (lines_of deck t))) (λ h. on_nothing (choices.Task t))
+      (λ h. on_quiet (choices.Task t) (by_task deck.limit n t (may_go-task deck n t h) (lines_of deck t)))
+      (λ h. on_nothing (choices.Task t))
   fixes-chosen choices.Turn = by_mode n.star
     where
       by_mode : (o : Option StarPart) → On choices.Turn (turn_call n o)
-      by_mode None = on_plain choices.Turn refl _
+      by_mode None = on_plain choices.Turn refl (record { known = n.known; act = acts.Turn _ }) refl
       by_mode (Some p) = on_nothing choices.Turn
   fixes-chosen choices.Switch = by_order (next_order deck n)
     where
       by_order : (o : Option Order) → On choices.Switch (switch_call deck n o)
       by_order None = on_nothing choices.Switch
-      by_order (Some orders.Star) = on_plain choices.Switch refl _
+      by_order (Some orders.Star) = on_plain choices.Switch refl (record { known = n.known; act = acts.Switch _ }) refl
       by_order (Some (orders.Vary named)) = on_nothing choices.Switch
   fixes-chosen (choices.Purge target) = by_order (next_order deck n)
     where
@@ -376,10 +455,11 @@ module _ (deck : Deck) (m : MediumState) (s : SysId) (n : NodeState) where
       by_order (Some orders.Star) = on_nothing (choices.Purge target)
       by_order (Some (orders.Vary named)) =
           by_test (On (choices.Purge target)) (named.0 == target.0) (Call _) Nothing
-          (λ h. on_plain (choices.Purge target) refl _) (λ h. on_nothing (choices.Purge target))
+          (λ h. on_plain (choices.Purge target) refl (record { known = n.known; act = acts.Purge target }) refl)
+          (λ h. on_nothing (choices.Purge target))
   fixes-chosen choices.Rest =
       by_test (On choices.Rest) (is_pending deck n) Nothing (Call _) (λ h. on_nothing choices.Rest)
-      (λ h. on_plain choices.Rest refl _)
+      (λ h. on_plain choices.Rest refl (record { known = n.known; act = acts.Rest }) refl)
   fixes-chosen (choices.Send t) = by_mode n.star refl
     where
       by_mode : (o : Option StarPart) → n.star ≡ o → On (choices.Send t) (star_call deck n o (choices.Send t))
@@ -389,7 +469,7 @@ module _ (deck : Deck) (m : MediumState) (s : SysId) (n : NodeState) where
     where
       by_mode : (o : Option StarPart) → n.star ≡ o → On choices.Take (star_call deck n o choices.Take)
       by_mode None is = on_nothing choices.Take
-      by_mode (Some p) is = on_asks p is choices.Take tt acts.Take
+      by_mode (Some p) is = on_asks p is choices.Take tt acts.Take refl
   fixes-chosen choices.Settle = by_mode n.star refl
     where
       by_mode : (o : Option StarPart) → n.star ≡ o → On choices.Settle (star_call deck n o choices.Settle)
@@ -408,29 +488,25 @@ module _ (deck : Deck) (m : MediumState) (s : SysId) (n : NodeState) where
 
 -- ---- in the world
 fixes-next : (deck : Deck) (w : World) (e : Event)
-    → FixesMore deck w e (happens deck w e).fixed (acting w e.system)
+    → (happens deck w e).fixed ≡ w.fixed ++ fixed_more deck w e (acting w e.system)
 unfolding happens happens_at placed
 fixes-next deck w e = by_node (slice_get w.nodes e.system.0)
   where
-    gone : (b : Bool) → FixesMore deck w e w.fixed (cond b None None)
-    gone true = refl
-    gone false = refl
+    gone : (b : Bool) → w.fixed ≡ w.fixed ++ fixed_more deck w e (cond b None None)
+    gone true = sym (append-nil w.fixed)
+    gone false = sym (append-nil w.fixed)
 
     here : (n : NodeState) (b : Bool)
-        → FixesMore deck w e
-        (cond b (counted w) (placed w e.system n (chosen deck w.medium e.system n e.choice))).fixed
-        (cond b None (Some n))
-    here n true = refl
-    here n false =
-        let o : Turnout = chosen deck w.medium e.system n e.choice in
-        (o.step.fixed, refl, fixes-chosen deck w.medium e.system n e.choice)
+        → (cond b (counted w) (placed w e.system n (chosen deck w.medium e.system n e.choice))).fixed
+        ≡ w.fixed ++ fixed_more deck w e (cond b None (Some n))
+    here n true = sym (append-nil w.fixed)
+    here n false = ap (λ fs. w.fixed ++ fixed_by e.system fs) (fixes-chosen deck w.medium e.system n e.choice)
 
     by_node : (o : Option NodeState)
-        → FixesMore deck w e (happens_at deck w e o).fixed (cond (has w.medium.removed e.system.0) None o)
+        → (happens_at deck w e o).fixed ≡ w.fixed ++ fixed_more deck w e (cond (has w.medium.removed e.system.0) None o)
     by_node None = gone (has w.medium.removed e.system.0)
     by_node (Some n) = here n (has w.medium.removed e.system.0)
 
 pub event_fixes : (deck : Deck) (es : List Event) (next : Event) → EventFixes deck es next
 event_fixes deck es next =
-    subst (λ (x : World). FixesMore deck (run deck es) next x.fixed (acting (run deck es) next.system))
-    (sym (run-push deck es (first_world deck) next)) (fixes-next deck (run deck es) next)
+    ap (λ (x : World). x.fixed) (run-push deck es (first_world deck) next) ∙ fixes-next deck (run deck es) next
