@@ -1,6 +1,7 @@
 //! What the tasks of a system are told: the answers to their own requests, and control that another's
-//! request gave them. Only the tasks change here, never the lists.
-ghost use Rattle.std.specs.Prelude.{◌≡◌, true, cond, length, option_copied, IfOk, OnOk};
+//! request gave them. Only the tasks change here, never the lists. Where memory is wanting in the midst of it a part may have
+//! been done, unless a clause says that all is as it was: the system is then to be given up.
+ghost use Rattle.std.specs.Prelude.{◌≡◌, true, cond, length, option_copied, IfOk, OnOk, OnErr};
 ghost use Rattle.gqscan.specs.Shown.{code_for};
 ghost use Rattle.task_state.specs.View.{is_task, state_of, without_record, with_told};
 ghost use Rattle.task_state.specs.Replies as steps;
@@ -21,6 +22,7 @@ use std::alloc::Global;
 pub fn tell_code(tasks: &mut Tasks, task: TaskId, verb: Verb, code: Code) -> Result<(), NoMemory>
     requires { is_task tasks.old task ≡ true }
     ensures step { OnOk result (tasks.new ≡ steps.tell_code tasks.old task verb code) }
+    ensures err { OnErr result (tasks.new ≡ tasks.old) }
     ensures system { tasks.new.system ≡ tasks.old.system }
     ensures count { length tasks.new.tasks ≡ length tasks.old.tasks }
 {
@@ -121,7 +123,8 @@ fn after_code(
     }
 }
 
-/// The same by the whole answer of a request that was decided at once. Looks aren't.
+/// The same by the whole answer of a request that was decided at once. Looks aren't. Where memory is wanting the record may have
+/// changed, and nothing was told.
 #[tactic(auto, using(crate::proofs::Keeps::keeps), unfolding(crate::specs::Replies::replied))]
 pub fn replied(
     alloc: Global,
@@ -247,7 +250,8 @@ fn tell_all(tasks: &mut Tasks, res: &Res, owners: &[TaskId]) -> Result<(), NoMem
     Ok(())
 }
 
-/// Tells control to the tasks that became owners of this resource, if it is one.
+/// Tells control to the tasks that became owners of this resource, if it is one. Where memory is wanting some were told it, and
+/// one more may be marked and go on.
 #[tactic(auto, using(crate::proofs::Keeps::keeps), unfolding(crate::specs::Replies::tell_new))]
 pub fn tell_new(tasks: &mut Tasks, res: Option<&Res>, owners: &[TaskId]) -> Result<(), NoMemory>
     ensures step { OnOk result (tasks.new ≡ steps.tell_new tasks.old (option_copied res.entry) owners.now) }
@@ -270,7 +274,8 @@ fn code_of_rows(rows: &List<Row>) -> Result<Code, NoMemory>
     }
 }
 
-/// Tells a task the rows that its last line shows, all of them, and leaves none.
+/// Tells a task the rows that its last line shows, all of them, and leaves none. Where memory is wanting it has none either, and
+/// was told none.
 #[tactic(auto, using(crate::proofs::Keeps::keeps), unfolding(crate::specs::Replies::tell_rows))]
 pub fn tell_rows(tasks: &mut Tasks, task: TaskId, verb: Verb) -> Result<(), NoMemory>
     requires { is_task tasks.old task ≡ true }
@@ -387,7 +392,8 @@ fn answer_asked(
     }
 }
 
-/// Answers the request of a task that isn't answered yet, if it has one.
+/// Answers the request of a task that isn't answered yet, if it has one. Where memory is wanting the request is no longer
+/// outstanding, its record and rows may have changed, and nothing was told.
 #[tactic(auto, using(crate::proofs::Keeps::keeps, crate::proofs::ViewLaws::still_asked), unfolding(crate::specs::Replies::tell_answer_any, crate::specs::Replies::tell_answer, crate::specs::Replies::recalled))]
 pub fn tell_answer(
     alloc: Global,
