@@ -1,5 +1,5 @@
 -- When the checks' answers come, and those to a Turn, a Switch, a Purge and a Rest.
-use Rattle.std.proofs.Common.{◌≡◌, ℕ, Bool, true, false, cond, not, ◌&&◌, List, refl, ap, sym, eqb}
+use Rattle.std.proofs.Common.{◌≡◌, ℕ, Bool, true, false, cond, not, ◌&&◌, List, refl, ap, sym}
 use Rattle.std.specs.Prelude.{◌↔◌, Option, Some, None, is_none, ◌==◌}
 use Rattle.std.proofs.lemmas.Bool.{true≢false, false≢true}
 use Rattle.grs_base.specs.declared.resource.SysId.{SysId}
@@ -10,6 +10,7 @@ use Rattle.grs_wire.specs.declared.medium.Reply.{Reply}
 use Rattle.grs_wire.specs.declared.medium.Reply.TheVariants.{Turned, NotYours, Behind, Switched, Already, Purged}
 use Rattle.grs_wire.specs.declared.medium.Reply.TheVariants.{NoSuch, InStar, Resting, Over, Stale, Removed}
 use Rattle.rsa_message.specs.Message.{first_number, turn_reply, stands_at}
+use Rattle.grs_wire.specs.Replies.{is_of_act}
 use Rattle.grs_wire.specs.Unseen.{unseen}
 use Rattle.grs_medium.specs.Apply.{turn_row, switch_ring, switch_row, is_live, without_system, purge_row, resting}
 use Rattle.grs_medium.specs.Apply.{rest_row, row, apply}
@@ -18,7 +19,7 @@ use Rattle.grs_medium.specs.Causes.{is_removed, turns_elsewhere, switches_in_sta
 use Rattle.grs_medium.specs.Causes.{purges_in_star, purges_nobody, rests_last, rests_early, RemovedComes, StaleComes}
 use Rattle.grs_medium.specs.Causes.{NotYoursComes, AlreadyComes, BehindComes, SwitchedComes, InStarComes, NoSuchComes}
 use Rattle.grs_medium.specs.Causes.{OverComes, RestingComes}
-use Rattle.grs_medium.proofs.ReplyKinds.{kind_of, neither, other_reply, never, heard}
+use Rattle.grs_medium.proofs.Replies.{neither, other_reply, never, heard}
 
 -- the rows of a Turn, a Switch, a Purge and a Rest
 turn_not_yours : (here : Bool) (entries : List RingEntry) (taken : ℕ) (closed : Bool) (holder at : Option SysId)
@@ -123,22 +124,26 @@ second_check true k m x given set other = neither (λ e. absurd cc) (λ p. true�
 second_check false true m x given set other = neither other (λ p. false≢true p.1.0)
 second_check false false m x given set other = (λ e. (refl, (refl, cc)), λ p. ap Stale (sym p.1.1))
 
--- no act has the kind of the checks
-before_none : (act : Act) → eqb (kind_of act) 4 ≡ false
-before_none (Turn out) = refl
-before_none act = refl
+-- a check is no reply to what an act asks
+no_removed : (act : Act) → is_of_act act Removed ≡ false
+no_removed (Turn out) = refl
+no_removed act = refl
+
+no_stale : (act : Act) (set : ℕ) → is_of_act act (Stale set) ≡ false
+no_stale (Turn out) set = refl
+no_stale act set = refl
 
 pub removed_comes : RemovedComes
 unfolding apply
 removed_comes m c call =
     first_check (is_removed m c) (call.known == m.removed) m (row m c call.act) m.removed
-    (other_reply m c call.act Removed (before_none call.act))
+    (other_reply m c call.act Removed (no_removed call.act))
 
 pub stale_comes : StaleComes
 unfolding apply
 stale_comes m c call set =
     second_check (is_removed m c) (call.known == m.removed) m (row m c call.act) m.removed set
-    (other_reply m c call.act (Stale set) (before_none call.act))
+    (other_reply m c call.act (Stale set) (no_stale call.act set))
 
 pub not_yours_comes : NotYoursComes
 not_yours_comes m c call at = heard m c call (NotYours at) refl (row_not_yours m c call.act at)

@@ -6,7 +6,7 @@ pub mod KeepLaws
 pub mod KeptSizes
 pub mod ChangeLaws
 pub mod Differs
-pub mod ReplyKinds
+pub mod Replies
 pub mod CauseLaws
 pub mod StarCauses
 pub mod TurnLaws

@@ -19,7 +19,7 @@ use Rattle.grs_medium.specs.Medium.{MediumState, inbox, word}
 use Rattle.grs_medium.specs.Causes.{submits_alone, submits_to_another, taken_mail, takes_nothing, settles, tells}
 use Rattle.grs_medium.specs.Causes.{leaves_others, leaves, interested, SoleComes, SentComes, TakenComes, EmptyComes}
 use Rattle.grs_medium.specs.Causes.{SettledComes, ToldComes, KeptComes, LeftComes}
-use Rattle.grs_medium.proofs.ReplyKinds.{neither, other_reply, never, heard}
+use Rattle.grs_medium.proofs.Replies.{neither, other_reply, never, heard}
 
 -- the rows of a Submit, a Take and a Leave
 submit_sole : (m : MediumState) (c : SysId) (entry : ℕ) (req : Req) (o : Option SysId)

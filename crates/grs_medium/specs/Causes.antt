@@ -7,6 +7,7 @@ use Rattle.grs_wire.specs.declared.medium.Act.TheVariants.{Turn, Switch, Submit,
 use Rattle.grs_wire.specs.declared.medium.Call.{Call}
 use Rattle.grs_wire.specs.declared.medium.Mail.{Mail}
 use Rattle.grs_wire.specs.declared.medium.Reply.TheVariants as replies
+use Rattle.grs_wire.specs.Replies.{is_listed}
 use Rattle.grs_wire.specs.LockWords.{interest, manager, is_manager}
 use Rattle.lock_structure.specs.Laws.{has_others}
 use Rattle.rsa_message.specs.Message.{stands_at, first_number}
@@ -112,6 +113,10 @@ leaves m c act = false
 abbrev pub interested : MediumState → Act → ℕ
 interested m (Leave entry) = interest (word m entry)
 interested m act = 0
+
+-- Whatever is called, the reply is one of those that are listed for its act.
+abbrev pub RepliesAreListed : Type 0
+RepliesAreListed = (m : MediumState) (c : SysId) (call : Call) → is_listed call.act (reply_to m c call) ≡ true
 
 abbrev pub RemovedComes : Type 0
 RemovedComes =

@@ -1,5 +1,5 @@
 //! Laws of the medium: each function's contract is one, and there is nothing to run.
-ghost use Rattle.grs_medium.specs.Causes.{RemovedComes, StaleComes, NotYoursComes, AlreadyComes, BehindComes, SwitchedComes, InStarComes, NoSuchComes, OverComes, RestingComes, SoleComes, SentComes, TakenComes, EmptyComes, SettledComes, ToldComes, KeptComes, LeftComes};
+ghost use Rattle.grs_medium.specs.Causes.{RepliesAreListed, RemovedComes, StaleComes, NotYoursComes, AlreadyComes, BehindComes, SwitchedComes, InStarComes, NoSuchComes, OverComes, RestingComes, SoleComes, SentComes, TakenComes, EmptyComes, SettledComes, ToldComes, KeptComes, LeftComes};
 ghost use Rattle.grs_medium.specs.Changes.{LeavesTheRest, ChangesWhatItSays};
 ghost use Rattle.grs_medium.specs.TurnReplies.{TurnIsRefused, TurnIsServed};
 
@@ -11,6 +11,11 @@ pub fn leaves_the_rest()
 /// A call that is said to change the medium changes it, if its lock entry and the inbox that it mails to are there.
 pub fn changes_what_it_says()
     ensures { ChangesWhatItSays }
+{}
+
+/// Each call is answered by one of the replies that are listed for what it asks, so a system may be finished with it.
+pub fn replies_are_listed()
+    ensures { RepliesAreListed }
 {}
 
 /// A caller is answered Removed exactly where it was removed.

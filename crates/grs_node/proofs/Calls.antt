@@ -9,7 +9,8 @@ use Rattle.contention_mgr.specs.Manager.{Managed, no_elements, entry_wanted, kep
 use Rattle.std.specs.Option.{option_map}
 use Rattle.grs_base.specs.declared.resource.SysId.{SysId}
 use Rattle.grs_base.specs.declared.resource.TaskId.{TaskId}
-use Rattle.grs_node.specs.Finish.{may_come, is_listed}
+use Rattle.grs_node.specs.Finish.{may_come}
+use Rattle.grs_wire.specs.Replies.{is_listed}
 use Rattle.grs_node.specs.Node.{NodeState, prepare, star_call, star_need, prepared_by, may_send, desk_of, desk_count}
 use Rattle.grs_node.specs.Node.{next_order, switch_call, purge_call, turn_call, may_go, is_pending}
 use Rattle.grs_node.specs.Star.{StarPart, send_of, send_to, leave_by, may_leave, manages, entry_for, entry_asked}

@@ -15,7 +15,7 @@ use Rattle.grs_base.specs.declared.resource.TaskId.{TaskId}
 use Rattle.grs_base.specs.declared.rnl.Which.TheVariants as which
 use Rattle.grs_node.specs.Addressed.{is_addressed}
 use Rattle.grs_node.specs.Change.{one_by_one}
-use Rattle.grs_node.specs.Finish.{is_listed}
+use Rattle.grs_wire.specs.Replies.{is_listed}
 use Rattle.grs_node.specs.Node.{NodeState, only, prepare, change_to_star, turned, put_in, all_sent, read_entries}
 use Rattle.grs_node.specs.Node.{switched, desk_told, finish_call, finish_star}
 use Rattle.grs_node.specs.Star.{StarPart}

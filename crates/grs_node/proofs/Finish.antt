@@ -1,19 +1,29 @@
 -- A reply that says nothing new leaves the system, and so does a call without an entry in the journal.
-use Rattle.std.proofs.Common.{◌≡◌, ℕ, true, false, [], ◌∷◌, Option, Some, None, refl, ap, sym, ◌∙◌}
+use Rattle.std.proofs.Common.{◌≡◌, ℕ, true, false, [], ◌∷◌, Option, Some, None, refl, ap, sym, subst, ◌∙◌}
 use Rattle.std.specs.Prelude.{◌==◌}
 use Rattle.std.proofs.lemmas.Bool.{and_parts, eqb-true}
 use Rattle.grs_wire.specs.declared.medium.Reply.TheVariants as replies
-use Rattle.grs_node.specs.Finish.{UnjournalledLeaves, RepliesLeave}
+use Rattle.grs_node.specs.Finish.{may_come, UnjournalledLeaves, RepliesLeave}
 use Rattle.grs_node.specs.Log.{finished}
 use Rattle.grs_base.specs.declared.resource.TaskId.{TaskId}
 use Rattle.grs_node.specs.Node.{NodeState, only, with_star, take_step, star_step, read_entries, all_sent, put_in}
-use Rattle.grs_node.specs.Node.{turned, finish_star, finish_call, finish}
+use Rattle.grs_node.specs.Node.{turned, finish_star, finish_call, prepare, finish}
 use Rattle.grs_node.specs.Star.{StarPart, fixing_none, send_step, settle_step, tell_step, leave_step}
 use Rattle.grs_wire.specs.declared.deck.Choice.{Choice}
 use Rattle.grs_wire.specs.declared.deck.Choice.TheVariants as choices
 use Rattle.grs_wire.specs.declared.deck.Deck.{Deck}
+use Rattle.grs_node.specs.declared.prepared.Prepared.{Prepared}
+use Rattle.grs_node.specs.declared.prepared.Prepared.TheVariants.{Call}
+use Rattle.grs_wire.specs.Replies.{is_listed}
+use Rattle.grs_wire.specs.declared.medium.Call.{Call as MediumCall}
 use Rattle.grs_wire.specs.declared.medium.Reply.{Reply}
 use Rattle.task_state.specs.View.{TasksView}
+
+-- what was prepared may come to each reply that is listed for its call
+pub may_come-listed : (deck : Deck) (n : NodeState) (choice : Choice) (call : MediumCall) (reply : Reply)
+    → prepare deck n choice ≡ Call call → is_listed call.act reply ≡ true → may_come (prepare deck n choice) reply ≡ true
+may_come-listed deck n choice call reply h listed =
+    subst (λ (p : Prepared). may_come p reply ≡ true) (sym h) listed
 
 -- a reply that says nothing new to any choice of star mode
 by-choice : (deck : Deck) (v : TasksView) (p : StarPart) (reply : Reply)

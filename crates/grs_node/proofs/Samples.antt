@@ -20,7 +20,8 @@ use Rattle.grs_wire.specs.declared.medium.Reply.TheVariants as replies
 use Rattle.grs_wire.specs.declared.medium.RingBody.TheVariants as bodies
 use Rattle.grs_wire.specs.declared.medium.RingEntry.{RingEntry}
 use Rattle.grs_wire.specs.Unseen.{unseen}
-use Rattle.grs_node.specs.Finish.{is_listed, may_come, leaves_all}
+use Rattle.grs_node.specs.Finish.{may_come}
+use Rattle.grs_wire.specs.Replies.{is_listed, leaves_all}
 use Rattle.grs_node.specs.declared.prepared.Prepared.TheVariants.{Quiet, Call}
 
 -- a Turn may be answered by where the message stands, and not by what a Rest is answered

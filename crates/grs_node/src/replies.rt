@@ -1,6 +1,6 @@
 //! Which replies say nothing new.
 ghost use Rattle.std.specs.Prelude.{◌≡◌};
-ghost use Rattle.grs_node.specs.Finish.{leaves_all};
+ghost use Rattle.grs_wire.specs.Replies.{leaves_all};
 
 use grs_wire::Reply;
 

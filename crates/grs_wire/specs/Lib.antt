@@ -1,6 +1,7 @@
 pub mod Decks
 pub mod Masks
 pub mod Unseen
+pub mod Replies
 pub mod LockWords
 pub mod ToldTo
 pub mod Wants

@@ -8,12 +8,15 @@ use Rattle.std.proofs.lemmas.List.Sums.{sum_by-append}
 use Rattle.grs_base.specs.declared.resource.SysId.{SysId}
 use Rattle.grs_bus.specs.Journal.{is_entered, entry_of, after_all}
 use Rattle.grs_bus.specs.Seats.{SeatValue, IsAnswered}
-use Rattle.grs_node.specs.Finish.{leaves_all, may_come, MayFinish}
+use Rattle.grs_node.specs.Finish.{may_come, MayFinish}
+use Rattle.grs_wire.specs.Replies.{leaves_all}
 use Rattle.grs_node.specs.Log.{NodeView, step_done, finished}
 use Rattle.grs_workers.specs.Makes.{Makes}
 use Rattle.grs_node.specs.Node.{NodeState, prepare, finish}
 use Rattle.grs_node.specs.declared.prepared.Prepared.TheVariants.{Call}
-use Rattle.grs_node.proofs.Finish.{unjournalled_leaves}
+use Rattle.grs_medium.proofs.Replies.{replies_are_listed}
+use Rattle.grs_medium.specs.Apply.{reply_to}
+use Rattle.grs_node.proofs.Finish.{may_come-listed, unjournalled_leaves}
 use Rattle.grs_wire.specs.declared.deck.Choice.{Choice}
 use Rattle.grs_wire.specs.declared.deck.Deck.{Deck}
 use Rattle.grs_wire.specs.declared.log.StepDone.{StepDone}
@@ -23,7 +26,6 @@ use Rattle.grs_wire.specs.declared.medium.Reply.{Reply}
 use Rattle.grs_workers.specs.Stands.{Stand, journalled_steps, quiet_steps, Agrees, Deed, is_last, IsAlone, IsCalled}
 use Rattle.grs_workers.specs.Stands.{IsDone, IsDoneBy, Does}
 use Rattle.grs_workers.specs.Rounds.{most_events, made, Went, Grew}
-use Rattle.grs_workers.proofs.Listed.{may_come-reply}
 use Rattle.grs_workers.proofs.LeftOut.{leaves_all-left_out}
 
 -- ---- a system may be finished with what its seat was told
@@ -33,7 +35,8 @@ pub may_finish : (node : NodeView) (seat after : SeatValue) (choice : Choice) (c
     → MayFinish node choice (Some told)
 may_finish node seat after choice call told prepared a = (
   subst (λ (r : Reply). may_come (prepare node.deck node.node choice) r ≡ true) (sym a.reply)
-      (may_come-reply (after_all seat.bus.first a.journal) seat.system node.deck node.node choice call prepared),
+      (may_come-listed node.deck node.node choice call (reply_to (after_all seat.bus.first a.journal) seat.system call) prepared
+      (replies_are_listed (after_all seat.bus.first a.journal) seat.system call)),
   by_entry (is_entered (after_all seat.bus.first a.journal) seat.system call) refl,
 ) where
   by_entry : (b : Bool) → is_entered (after_all seat.bus.first a.journal) seat.system call ≡ b

@@ -12,7 +12,7 @@ use Rattle.grs_medium.specs.Apply.{leave_row, is_live, without_system, purge_row
 use Rattle.grs_medium.specs.Apply.{reply_to, row_changes, changes}
 use Rattle.grs_medium.specs.Inboxes.{is_empty}
 use Rattle.grs_medium.specs.Medium.{MediumState, inbox, word, all_rest, medium_at_end}
-use Rattle.grs_node.specs.Finish.{leaves_all}
+use Rattle.grs_wire.specs.Replies.{leaves_all}
 use Rattle.grs_wire.specs.LockWords.{is_kept, interest, manager, is_manager, leave_reply, leave_changes}
 use Rattle.grs_wire.specs.Masks.{has}
 use Rattle.grs_wire.specs.Unseen.{is_unseen, unseen}

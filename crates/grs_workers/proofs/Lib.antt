@@ -1,6 +1,5 @@
 pub mod Choices
 pub mod Fits
-pub mod Listed
 pub mod LeftOut
 pub mod DeedLaws
 pub mod RoundLaws

@@ -3,5 +3,4 @@ pub mod Logged
 pub mod Calls
 pub mod Nodes
 pub mod Happens
-pub mod Listed
 pub mod Turns

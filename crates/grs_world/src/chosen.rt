@@ -92,7 +92,7 @@ fn replied(
 }
 
 /// A call that was prepared, and its reply.
-#[tactic(auto, using(crate::proofs::code::Calls::calls, grs_medium::proofs::KeptSizes::sizes, crate::proofs::code::Listed::listed))]
+#[tactic(auto, using(crate::proofs::code::Calls::calls, grs_medium::proofs::KeptSizes::sizes))]
 fn called(
     alloc: Global,
     medium: &mut Medium,

@@ -16,7 +16,7 @@ use Rattle.grs_medium.proofs.KeptSizes.{keeps_systems}
 use Rattle.grs_medium.proofs.SetLaws.{all_others_false}
 use Rattle.grs_medium.specs.Apply.{resting, rest_row, row, row_changes, changes, apply, reply_to, medium_after}
 use Rattle.grs_medium.specs.Medium.{MediumState, systems_of, all_rest, medium_at_end}
-use Rattle.grs_node.specs.Finish.{is_listed}
+use Rattle.grs_wire.specs.Replies.{is_listed}
 use Rattle.grs_node.specs.Log.{NodeView}
 use Rattle.grs_node.specs.Node.{NodeState, is_pending}
 use Rattle.grs_wire.proofs.MaskLaws.{has-zero, with-present}
@@ -29,7 +29,7 @@ use Rattle.grs_wire.specs.declared.medium.Call.{Call}
 use Rattle.grs_wire.specs.declared.medium.JEntry.{JEntry}
 use Rattle.grs_wire.specs.declared.medium.Reply.{Reply}
 use Rattle.grs_wire.specs.declared.medium.Reply.TheVariants.{Over, Resting, Stale, Removed}
-use Rattle.grs_workers.proofs.Listed.{is_listed-reply}
+use Rattle.grs_medium.proofs.Replies.{replies_are_listed}
 use Rattle.grs_workers.specs.Beside.{medium_of, IsServed, AreServed, RanBeside, LastCall, AllLast}
 use Rattle.grs_workers.specs.Stands.{is_last_reply}
 use Rattle.grs_world.proofs.system.First.{systems_of-first}
@@ -142,7 +142,7 @@ end_by m c known (acts.Purge t) listed over = absurd (cc)
 
 pub end_of : (m : MediumState) (c : SysId) (call : Call) → reply_to m c call ≡ Over → IsEnd m c call
 end_of m c call over =
-    end_by m c call.known call.act (subst (λ (r : Reply). is_listed call.act r ≡ true) over (is_listed-reply m c call))
+    end_by m c call.known call.act (subst (λ (r : Reply). is_listed call.act r ≡ true) over (replies_are_listed m c call))
     over
 
 -- a removed caller has no entry

@@ -8,7 +8,7 @@ use Rattle.grs_medium.specs.Apply.{turn_row, switch_ring, switch_row, manages, j
 use Rattle.grs_medium.specs.Apply.{take_row, mail_row, leave_row, is_live, without_system, purge_row, resting, rest_row}
 use Rattle.grs_medium.specs.Apply.{row, apply, reply_to, medium_after}
 use Rattle.grs_medium.specs.Medium.{MediumState, inbox, word, all_rest, medium_at_end}
-use Rattle.grs_node.specs.Finish.{leaves_all}
+use Rattle.grs_wire.specs.Replies.{leaves_all}
 use Rattle.grs_wire.proofs.MaskLaws.{has-without_same, has-without_other, has-with_other}
 use Rattle.grs_wire.specs.LockWords.{is_kept, interest, leave_reply, leave_changes}
 use Rattle.grs_wire.specs.Masks.{has, without, with_also}

@@ -8,6 +8,9 @@ use Rattle.grs_base.specs.declared.resource.SysId.{SysId}
 use Rattle.grs_medium.specs.Apply.{ActFits, reply_to, medium_after}
 use Rattle.grs_medium.specs.Medium.{MediumState, systems_of}
 use Rattle.grs_node.specs.Addressed.{is_act_addressed}
+use Rattle.grs_medium.proofs.Replies.{replies_are_listed}
+use Rattle.grs_node.proofs.Finish.{may_come-listed}
+use Rattle.grs_node.specs.Finish.{may_come}
 use Rattle.grs_node.specs.Node.{NodeState, prepare, finish}
 use Rattle.grs_base.specs.Limits.{most_additions}
 use Rattle.grs_node.specs.declared.prepared.Prepared.{Prepared}
@@ -58,4 +61,10 @@ pub chosen-call : (deck : Deck) (m : MediumState) (c : SysId) (n : NodeState) (c
 unfolding chosen carry_out
 chosen-call deck m c n choice call h = ap (λ (p : Prepared). carry_out deck m c n choice p) h
 
-pub ruleset calls = (act-fits)
+-- what was prepared may come to the medium's reply
+pub may_come-reply : (m : MediumState) (c : SysId) (deck : Deck) (n : NodeState) (choice : Choice) (call : CallOfMedium)
+    → prepare deck n choice ≡ Call call → may_come (prepare deck n choice) (reply_to m c call) ≡ true
+may_come-reply m c deck n choice call h =
+    may_come-listed deck n choice call (reply_to m c call) h (replies_are_listed m c call)
+
+pub ruleset calls = (act-fits, may_come-reply)

@@ -5,7 +5,7 @@ use Rattle.std.specs.Prelude.{◌≢◌}
 use Rattle.grs_wire.specs.declared.deck.Choice.{Choice}
 use Rattle.grs_wire.specs.declared.log.StepDone.{StepDone}
 use Rattle.grs_wire.specs.declared.medium.Reply.{Reply}
-use Rattle.grs_node.specs.Finish.{leaves_all}
+use Rattle.grs_wire.specs.Replies.{leaves_all}
 use Rattle.grs_node.specs.Node.{finish}
 use Rattle.grs_node.specs.Log.{NodeView, step_done, finished}
 use Rattle.grs_node.proofs.Finish.{replies_leave}

@@ -17,8 +17,7 @@ use Rattle.grs_wire.specs.declared.medium.Reply.{Reply}
 use Rattle.grs_wire.specs.declared.medium.Reply.TheVariants.{Turned}
 use Rattle.grs_wire.specs.declared.request.Req.{Req}
 use Rattle.grs_world.specs.World.{chosen}
-use Rattle.grs_world.proofs.code.Calls.{chosen-call}
-use Rattle.grs_world.proofs.code.Listed.{may_come-reply}
+use Rattle.grs_world.proofs.code.Calls.{chosen-call, may_come-reply}
 
 -- what a Turn that was prepared leads to, by what the medium makes of it
 module _ (deck : Deck) (m : MediumState) (c : SysId) (n : NodeState) (known : ℕ)
