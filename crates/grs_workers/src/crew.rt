@@ -1,10 +1,11 @@
 //! The workers of a deck.
-ghost use Rattle.std.specs.Prelude.{◌≡◌, ◌<◌, ◌∷◌, ◌++◌, [], length, map, All, IfOk, OnOk};
+ghost use Rattle.std.specs.Prelude.{◌≡◌, ◌<◌, ◌∷◌, ◌++◌, [], length, map, vec_len, vec_capacity, All, IfOk, OnOk};
 ghost use Rattle.grs_bus.specs.Seats.{AllSeats, AreTheSeats, IsNew};
 ghost use Rattle.grs_medium.specs.Medium.{systems_of};
 ghost use Rattle.grs_wire.specs.Decks.{IsDeck};
 ghost use Rattle.grs_workers.specs.Stands.{stand, first_stand, IsOn, Agrees};
 
+use crate::lap::Lap;
 use crate::worker::Worker;
 use grs_base::{List, NoMemory};
 use grs_bus::{Bus, Seat};
@@ -12,7 +13,19 @@ use grs_node::Node;
 use grs_wire::Deck;
 use std::alloc::Global;
 
-/// Adds a worker with this seat, of the system whose seat it is.
+/// Makes room for one worker more.
+fn make_room(workers: &mut Vec<Worker<'_>>) -> Result<(), NoMemory>
+    ensures same { workers.new.items ≡ workers.old.items }
+    ensures room { OnOk result (vec_len workers.new < vec_capacity workers.new) }
+{
+    match workers.reserve(1) {
+        Ok(()) => Ok(()),
+        Err(_) => Err(NoMemory),
+    }
+}
+
+/// Adds a worker with this seat, of the system whose seat it is. All that may want memory is made ahead of the worker, so that
+/// no system is dropped here.
 fn add_worker<'d>(
     alloc: Global,
     deck: &'d Deck,
@@ -23,11 +36,10 @@ fn add_worker<'d>(
     requires system { seat.system.0 < length deck.now.systems }
     ensures { OnOk result (map stand workers.new.items ≡ map stand workers.old.items ++ first_stand deck.now seat ∷ []) }
 {
+    make_room(workers)?;
+    let lap = Lap::new(alloc, deck, seat.system())?;
     let node = Node::new(alloc, deck, seat.system())?;
-    let worker = Worker::new(alloc, deck, node, seat)?;
-    if workers.push(worker).is_err() {
-        return Err(NoMemory);
-    }
+    workers.push_reserved(Worker::new(node, seat, lap));
     Ok(())
 }
 
