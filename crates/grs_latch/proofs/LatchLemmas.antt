@@ -1,22 +1,23 @@
 -- One latch: how its list changes, and who gets it.
-use Rattle.std.proofs.Common.{◌≡◌, ℕ, Bool, true, false, List, [], ◌∷◌, ◌++◌, length}
-use Rattle.std.proofs.Common.{refl, ap, sym, ◌∙◌, arith, nat_eq}
-use Rattle.std.specs.Prelude.{Result, Ok, Err, IfOk}
+use Rattle.std.proofs.Common.{◌≡◌, ◌≤◌, ◌+◌, ℕ, zero, suc, Bool, true, false, List, [], ◌∷◌, ◌++◌, length, drop}
+use Rattle.std.proofs.Common.{refl, ap, sym, ◌∙◌, arith, nat_eq, append-nil}
+use Rattle.std.specs.Prelude.{slice_get, Result, Ok, Err, IfOk, OnOk}
 use Rattle.std.proofs.lemmas.Bool.{eqb-true, eq-eqb}
 use Rattle.std.proofs.lemmas.Bool.Decides.{nat_tests}
 use Rattle.grs_base.specs.Same.{same_task}
 use Rattle.grs_base.specs.Behind.{tasks_behind}
-use Rattle.grs_base.specs.Lists.{standing_of, place_of, owners, is_apart, list_without}
+use Rattle.grs_base.specs.Lists.{standing_of, place_of, owners, is_apart, has_task, list_without}
 use Rattle.grs_base.specs.State.{Held, list_at, without}
 use Rattle.grs_base.specs.declared.resource.TaskId.{TaskId}
 use Rattle.grs_base.specs.declared.resource.Elem.{Elem}
 use Rattle.grs_base.specs.declared.decision.Standing.{Standing}
 use Rattle.grs_base.specs.declared.decision.Standing.TheVariants.{Exclusive, OnlyShared, AmongShared, Waits, Absent}
 use Rattle.grs_base.proofs.SameLaws.{IsEquality}
-use Rattle.grs_base.proofs.ListLaws.{place-le, owners-le}
+use Rattle.grs_base.proofs.ListLaws.{place-le, owners-le, has_task-place}
 use Rattle.grs_base.proofs.StateLaws.{list_at-push, list_at-push_other, list_at-without, list_at-without_other}
 use Rattle.queue_table.proofs.BehindLemmas.{became_owners-behind}
 use Rattle.queue_table.proofs.OwnerLemmas.{became_owners-same}
+use Rattle.grs_wire.specs.Wants.{became_owners}
 use Rattle.grs_latch.specs.Latches.{is_queued, owners_without}
 
 pub nat_equality : IsEquality nat_eq
@@ -68,3 +69,25 @@ told_ok es t p (Ok told) place apart is =
 told_ok es t p (Err x) place apart is = tt
 
 pub ruleset latch = (became_owners-same, queued_absent, absent_place)
+
+-- a task without a request leaves nothing behind
+list_without-absent : (es : List Elem) (t : TaskId) → has_task es t ≡ false → list_without es t ≡ es
+list_without-absent [] t h = refl
+list_without-absent (e ∷ es) t h = grind (arith, h, list_without-absent es t)
+
+pub owners_without-absent : (es : List Elem) (t : TaskId) → has_task es t ≡ false → owners_without es t ≡ []
+owners_without-absent es t h =
+    ap (λ (l : List Elem). became_owners es l t) (list_without-absent es t h) ∙ became_owners-same es t
+
+-- which has one, by how it stands
+pub absent_none : (es : List Elem) (t : TaskId) → standing_of es t ≡ Absent → has_task es t ≡ false
+absent_none es t h = grind (arith, nat_tests, h, absent_place es t h, has_task-place es t)
+
+pub standing_there : (es : List Elem) (t : TaskId) → has_task es t ≡ false → standing_of es t ≡ Absent
+standing_there es t h = grind (arith, nat_tests, h, has_task-place es t, place-le es t, owners-le es)
+
+pub empty_none : (es : List Elem) (t : TaskId) → length es ≡ 0 → has_task es t ≡ false
+empty_none [] t h = refl
+empty_none (e ∷ es) t h = absurd (omega (arith, h))
+
+pub ruleset purges = (empty_none, absent_none, owners_without-absent, standing_there, append-nil)

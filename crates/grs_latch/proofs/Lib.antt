@@ -1,3 +1,5 @@
+mod PurgeLemmas
+pub mod SetLemmas
 pub mod LatchLemmas
 pub mod NumberLemmas
 pub mod WorkedRows

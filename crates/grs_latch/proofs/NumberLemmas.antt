@@ -1,17 +1,21 @@
 -- Latches as numbered queues: what changes in one queue changes in one latch.
 use Rattle.std.proofs.Common.{◌≡◌, ◌+◌, ℕ, zero, suc, Bool, true, false, List, [], ◌∷◌, ◌++◌, length, map}
-use Rattle.std.proofs.Common.{Some, None, refl, ap, sym, ◌∙◌, arith, nat_eq}
+use Rattle.std.proofs.Common.{Some, None, not, refl, ap, sym, ◌∙◌, arith, nat_eq}
 use Rattle.std.specs.Prelude.{slice_get, replicate, ◌||◌}
+use Rattle.grs_base.specs.Same.{same_task}
+use Rattle.grs_base.specs.Lists.{list_without}
 use Rattle.grs_base.specs.declared.resource.TaskId.{TaskId}
+use Rattle.grs_base.proofs.Picks.{pick-filter_by}
+use Rattle.qel_store.specs.Items.{without_task}
 use Rattle.grs_wire.specs.Wants.{became_owners}
 use Rattle.std.proofs.lemmas.Bool.{eqb-true, eq-eqb}
 use Rattle.std.proofs.lemmas.Bool.Decides.{nat_tests}
 use Rattle.grs_base.specs.State.{Held, list_at}
 use Rattle.grs_base.specs.declared.resource.Elem.{Elem}
-use Rattle.grs_latch.specs.Latches.{changed_at, code_at, release_grants, grants_at, released}
+use Rattle.grs_latch.specs.Latches.{changed_at, code_at, release_grants, grants_at, released, purged}
 use Rattle.grs_latch.specs.Numbered.{lists_at, is_among, are_apart, IsNumbered}
 
-by_cases : {P : Type 0} (b : Bool) → (b ≡ true → P) → (b ≡ false → P) → P
+pub by_cases : {P : Type 0} (b : Bool) → (b ≡ true → P) → (b ≡ false → P) → P
 by_cases true yes_it no_it = yes_it refl
 by_cases false yes_it no_it = no_it refl
 
@@ -50,7 +54,8 @@ module _ (s new : Held ℕ) (q : ℕ) (others : (p : ℕ) → nat_eq p q ≡ fal
         lists_at-same ns (ap (λ (m : ℕ). is_among m ns) (sym same) ∙ out) in
         let first : list_at nat_eq new n ≡ f (list_at nat_eq s n) =
         ap (λ (m : ℕ). list_at nat_eq new m) same ∙ here ∙ ap (λ (m : ℕ). f (list_at nat_eq s m)) (sym same) in
-        ap (λ (x : List Elem). x ∷ lists_at ns new) first ∙ ap (λ (x : List (List Elem)). f (list_at nat_eq s n) ∷ x) rest
+        ap (λ (x : List Elem). x ∷ lists_at ns new) first
+        ∙ ap (λ (x : List (List Elem)). f (list_at nat_eq s n) ∷ x) rest
     lists_at-changed f (n ∷ ns) (suc l) at apart here =
         let out : is_among n ns ≡ false = grind (arith, apart) in
         let first : list_at nat_eq new n ≡ list_at nat_eq s n = others n (differ ns n q out (among_at ns l q at)) in
@@ -98,6 +103,21 @@ release_grants-none set at [] l s t is = refl
 release_grants-none set at (n ∷ ns) zero s t is = cc
 release_grants-none set at (n ∷ ns) (suc l) s t is = release_grants-none set at ns l s t is
 
+-- a purge, by the queues: end_task of LinkedQueues leaves without_task
+pub lists_at-without_task : (ns : List ℕ) (s : Held ℕ) (t : TaskId)
+    → lists_at ns (without_task s t) ≡ purged (lists_at ns s) t
+lists_at-without_task [] s t = refl
+lists_at-without_task (n ∷ ns) s t =
+    let first : list_at nat_eq (without_task s t) n ≡ list_without (list_at nat_eq s n) t =
+    pick-filter_by (λ h. nat_eq n h.0) (λ h. h.1) (λ h. not (same_task t h.1.task)) (λ x. not (same_task t x.task))
+    (λ h p. grind (arith, p)) s in
+    grind (arith, first, lists_at-without_task ns s t)
+
+pub lists_at-purged : (ns : List ℕ) (s new : Held ℕ) (ls : List (List Elem)) (t : TaskId) → new ≡ without_task s t
+    → lists_at ns s ≡ ls → lists_at ns new ≡ purged ls t
+lists_at-purged ns s new ls t is same =
+    ap (lists_at ns) is ∙ lists_at-without_task ns s t ∙ ap (λ (x : List (List Elem)). purged x t) same
+
 -- a latch more
 among-append : (q p : ℕ) (ns : List ℕ) → is_among q (ns ++ p ∷ []) ≡ (is_among q ns || nat_eq q p)
 among-append q p [] = grind arith
@@ -143,3 +163,5 @@ pub ruleset numbered =
     (among_at, code_at-some, code_at-none, changed_at-none, release_grants-some, release_grants-none, lists_at-changed)
 
 pub ruleset makes = (numbered_none, latches_made)
+
+pub ruleset without_all = (lists_at-without_task, lists_at-empty)

@@ -5,7 +5,13 @@ use Rattle.grs_base.specs.declared.resource.TaskId.{TaskId}
 use Rattle.grs_base.specs.declared.resource.Elem.{Elem}
 use Rattle.grs_base.specs.declared.resource.Ctl.{Ctl}
 use Rattle.grs_base.specs.declared.resource.Ctl.TheVariants.{E, S}
+use Rattle.std.specs.Prelude.{codes}
+use Rattle.grs_latch.specs.declared.call.LatchCall.{LatchCall}
+use Rattle.grs_latch.specs.declared.call.LatchCall.TheVariants.{Crt, Obt, Rel, Prg}
 use Rattle.grs_latch.specs.declared.reply.Grant.{Grant}
+use Rattle.grs_latch.specs.declared.reply.LatchReply.{LatchReply}
+use Rattle.grs_latch.specs.declared.sets.NamedSet.{NamedSet}
+use Rattle.grs_latch.specs.Calls.{reply, replies, after_all, rows_of}
 use Rattle.grs_latch.specs.Latches.{Lists, task_of, obtain_code, code_at, changed_at, obtained, release_code, released}
 use Rattle.grs_latch.specs.Latches.{release_grants, purged, requests_of, purge_grants}
 
@@ -111,3 +117,51 @@ waiter_gets_none = refl
 
 waiter_leaves_and_lets_pass : purge_grants 0 0 ((by 1 S ∷ by 2 E ∷ by 3 S ∷ []) ∷ []) (task_of 2) ≡ grant 0 3 ∷ []
 waiter_leaves_and_lets_pass = refl
+
+-- a set by its name, from its making to a purge
+abbrev of_set : List ℕ → Lists → NamedSet
+of_set n ls = record { name = n; latches = ls }
+
+abbrev seta : List ℕ
+seta = codes "SETA"
+
+abbrev calls : List LatchCall
+calls =
+    Crt seta 2
+    ∷ Obt seta 0 1 E true
+    ∷ Obt seta 0 2 S true
+    ∷ Obt seta 0 3 S false
+    ∷ Obt seta 1 1 S true
+    ∷ Prg seta 1
+    ∷ []
+
+abbrev coded : ℕ → LatchReply
+coded code = record { code = code; taken = 0; grants = [] }
+
+calls_are_answered :
+    replies calls []
+    ≡ coded 0 ∷ coded 0 ∷ coded 4 ∷ coded 4 ∷ coded 0 ∷ record { code = 0; taken = 2; grants = grant 0 2 ∷ [] } ∷ []
+calls_are_answered = refl
+
+waiter_is_left : after_all calls [] ≡ of_set seta ((by 2 S ∷ []) ∷ [] ∷ []) ∷ []
+waiter_is_left = refl
+
+one_row_is_left : rows_of 0 (after_all calls []) ≡ record { set = 0; latch = 0; elems = (2, S) ∷ []; owners = 1 } ∷ []
+one_row_is_left = refl
+
+no_set : replies (Rel (codes "SETB") 0 1 ∷ []) [] ≡ coded 12 ∷ []
+no_set = refl
+
+set_is_there_already : replies (Crt seta 2 ∷ Crt seta 5 ∷ []) [] ≡ coded 0 ∷ coded 4 ∷ []
+set_is_there_already = refl
+
+it_stays : after_all (Crt seta 2 ∷ Crt seta 5 ∷ []) [] ≡ of_set seta ([] ∷ [] ∷ []) ∷ []
+it_stays = refl
+
+second_set_has_place_1 :
+    reply 0 (Prg (codes "B") 1) (of_set seta [] ∷ of_set (codes "B") ((by 1 E ∷ by 2 E ∷ []) ∷ []) ∷ [])
+    ≡ record { code = 0; taken = 1; grants = record { set = 1; latch = 0; requestor = 2 } ∷ [] }
+second_set_has_place_1 = refl
+
+nothing_purged : reply 0 (Prg seta 9) (of_set seta ((by 1 E ∷ []) ∷ []) ∷ []) ≡ coded 4
+nothing_purged = refl

@@ -1,2 +1,4 @@
+pub mod Calls
 pub mod Latches
 pub mod Numbered
+pub mod Places

@@ -5,7 +5,7 @@ ghost use Rattle.grs_latch.specs.Latches.{obtain_code, is_queued, release_code, 
 use grs_base::{Standing, SysId, TaskId};
 
 /// There is no such set or latch.
-pub const NO_LATCH: u8 = 0x0c;
+pub(crate) const NO_LATCH: u8 = 0x0c;
 
 /// The task by which a requestor's requests stand.
 pub(crate) fn task_of(requestor: u16) -> TaskId

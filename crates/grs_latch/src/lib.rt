@@ -1,15 +1,20 @@
 //! Latches: what programs of one address space use in place of ENQ and DEQ. A latch is a list of requests in order of
-//! arrival, decided by the tables of ENQ and DEQ; a set has up to 1,024 of them. Nothing here reads or prints a text.
+//! arrival, decided by the tables of ENQ and DEQ; a set has up to 1,024 of them, and there are up to 64 sets, each with its
+//! name. Nothing here reads or prints a text.
 //! (z/OS MVS Programming: Authorized Assembler Services Reference, "Latch services".)
 #![tactic(auto)]
 
+mod call;
 mod codes;
 mod laws;
 mod parts;
 mod queue;
 mod reply;
+mod rows;
 mod set;
+mod sets;
 
-pub use codes::NO_LATCH;
-pub use reply::Grant;
-pub use set::LatchSet;
+pub use call::LatchCall;
+pub use laws::latches_are_resources;
+pub use reply::{Grant, LatchReply, LatchRow};
+pub use sets::{Latches, name_of};

@@ -1,13 +1,14 @@
-//! The latches of a set as numbered queues: what calls do to one of them, or how they are made.
-ghost use Rattle.std.specs.Prelude.{◌≡◌, ◌+◌, [], length, replicate, slice_get, IfOk, OnOk, OnErr};
-ghost use Rattle.grs_base.specs.Lists.{can_have, standing_of};
-ghost use Rattle.grs_latch.specs.Latches.{obtain_code, obtained, release_code, released, code_at, changed_at, release_grants};
+//! The latches of a set as numbered queues: what calls do to one of them, or to all.
+ghost use Rattle.std.specs.Prelude.{◌≡◌, ◌<◌, ◌≤◌, ◌+◌, ◌++◌, cond, drop, [], true, nat_eq, length, replicate, slice_get, IfOk, OnOk, OnErr};
+ghost use Rattle.grs_base.specs.Lists.{can_have, has_task, standing_of};
+ghost use Rattle.grs_base.specs.State.{list_at};
+ghost use Rattle.grs_latch.specs.Latches.{obtain_code, obtained, release_code, released, code_at, changed_at, release_grants, requests_of, purge_grants, grants_at, owners_without};
 ghost use Rattle.grs_latch.specs.Numbered.{lists_at, IsNumbered};
 
 use super::codes::NO_LATCH;
-use super::queue::{obtain_in, release_in};
+use super::queue::{add_granted, obtain_in, release_in};
 use super::reply::Grant;
-use grs_base::{Elem, List, NoMemory, Queues, TaskId};
+use grs_base::{Elem, List, NoMemory, Queues, Standing, TaskId};
 use std::alloc::Global;
 
 /// Makes one latch more.
@@ -93,4 +94,96 @@ pub(crate) fn release_at<Q: Queues>(
         Some(queue) => release_in(alloc, set, latch, queues, queue, task),
         None => Ok((NO_LATCH, List::new(alloc))),
     }
+}
+
+/// What a purge comes to.
+#[derive(Drop)]
+pub struct Purged {
+    /// How many requests its requestor has.
+    pub taken: u32,
+    /// Who gets a latch by it, by latch and then in order of arrival.
+    pub grants: List<Grant>,
+}
+
+/// Counts a task's request at a latch, where it has one, and puts those behind others who get the latch when it is taken
+/// out.
+#[tactic(auto, using(crate::proofs::LatchLemmas::purges))]
+fn add_purged<Q: Queues>(
+    alloc: Global,
+    set: u32,
+    latch: u32,
+    queues: &Q,
+    queue: u32,
+    task: TaskId,
+    purged: &mut Purged,
+) -> Result<(), NoMemory>
+    requires live { Q.is_live queues.now queue ≡ true }
+    requires room { purged.old.taken < 0xffff_ffff }
+    ensures taken { OnOk result (purged.new.taken ≡ purged.old.taken + cond (has_task (list_at nat_eq (Q.elements queues.now) queue) task) 1 0) }
+    ensures grants { OnOk result (purged.new.grants ≡ purged.old.grants ++ grants_at set latch (owners_without (list_at nat_eq (Q.elements queues.now) queue) task)) }
+{
+    if queues.len(queue) == 0 {
+        return Ok(());
+    }
+    match queues.standing(queue, task) {
+        Standing::Absent => Ok(()),
+        _ => {
+            add_granted(alloc, set, latch, queues, queue, task, &mut purged.grants)?;
+            purged.taken += 1;
+            Ok(())
+        }
+    }
+}
+
+/// The same of the latch of this number. What is left to be looked at is what stands behind it.
+#[tactic(auto, using(crate::proofs::PurgeLemmas::purge))]
+fn add_purged_at<Q: Queues>(
+    alloc: Global,
+    set: u32,
+    numbers: &List<u32>,
+    latch: usize,
+    queues: &Q,
+    task: TaskId,
+    purged: &mut Purged,
+) -> Result<(), NoMemory>
+    requires numbered { IsNumbered numbers.now (Q.is_live queues.now) }
+    requires few { length numbers.now ≤ 0xffff_ffff }
+    requires within { latch < length numbers.now }
+    requires room { purged.old.taken < 0xffff_ffff }
+    ensures less { OnOk result (purged.new.taken ≤ purged.old.taken + 1) }
+    ensures taken { OnOk result (purged.new.taken + requests_of (drop (latch + 1) (lists_at numbers.now (Q.elements queues.now))) task ≡ purged.old.taken + requests_of (drop latch (lists_at numbers.now (Q.elements queues.now))) task) }
+    ensures grants { OnOk result (purged.new.grants ++ purge_grants set (latch + 1) (drop (latch + 1) (lists_at numbers.now (Q.elements queues.now))) task ≡ purged.old.grants ++ purge_grants set latch (drop latch (lists_at numbers.now (Q.elements queues.now))) task) }
+{
+    let queue = *numbers.get(latch);
+    add_purged(alloc, set, latch as u32, queues, queue, task, purged)?;
+    Ok(())
+}
+
+/// What a purge of a set, by its place, comes to, of which the caller then takes the task's requests out. It ends with the
+/// last latch that has one.
+#[tactic(auto, using(crate::proofs::PurgeLemmas::whole))]
+pub(crate) fn purged_in<Q: Queues>(
+    alloc: Global,
+    set: u32,
+    numbers: &List<u32>,
+    queues: &Q,
+    task: TaskId,
+) -> Result<Purged, NoMemory>
+    requires numbered { IsNumbered numbers.now (Q.is_live queues.now) }
+    requires few { length numbers.now ≤ 0xffff_ffff }
+    ensures taken { IfOk result (λ p. p.taken ≡ requests_of (lists_at numbers.now (Q.elements queues.now)) task) }
+    ensures grants { IfOk result (λ p. p.grants ≡ purge_grants set 0 (lists_at numbers.now (Q.elements queues.now)) task) }
+{
+    let count = queues.count(task);
+    let mut purged = Purged {
+        taken: 0,
+        grants: List::new(alloc),
+    };
+    for latch in 0..numbers.len() {
+        if purged.taken as usize == count {
+            return Ok(purged);
+        }
+        add_purged_at(alloc, set, numbers, latch, queues, task, &mut purged)?;
+    }
+    Ok(purged)
 }

@@ -1,21 +1,37 @@
 //! A set of latches.
-ghost use Rattle.std.specs.Prelude.{◌≡◌, ◌≤◌, [], replicate, IfOk, OnOk, OnErr};
+ghost use Rattle.std.specs.Prelude.{◌≡◌, ◌<◌, ◌≤◌, ◌++◌, ℕ, [], replicate, IfOk, OnOk, OnErr};
 ghost use Rattle.grs_base.specs.Lists.{can_have, standing_of};
-ghost use Rattle.grs_latch.specs.Latches.{task_of, obtain_code, obtained, release_code, released, code_at, changed_at, release_grants};
+ghost use Rattle.qel_store.specs.Items.{without_task};
+ghost use Rattle.grs_latch.specs.Calls.{rows_in};
+ghost use Rattle.grs_latch.specs.Latches.{task_of, obtain_code, obtained, release_code, released, code_at, changed_at, release_grants, requests_of, purge_grants, purged as lists_purged};
 
 use super::codes::task_of;
-use super::parts::{add_latches, obtain_at, release_at};
-use super::reply::Grant;
-use grs_base::{Ctl, Elem, List, NoMemory, Queues};
+use super::parts::{Purged, add_latches, obtain_at, purged_in, release_at};
+use super::reply::{Grant, LatchRow};
+use super::rows::add_rows;
+use grs_base::{Ctl, Elem, List, NoMemory, Queues, Steps, TaskId};
 use qel_store::LinkedQueues;
 use std::alloc::Global;
-use std::marker::Model;
+use std::marker::{Brand, Model};
+use std::sync::ledger::{Blank, Ledger};
 
 /// The latches of a set, seen as the list of each, by number from 0. A set has at most 1,024.
 #[derive(Drop)]
 pub struct LatchSet {
     numbers: List<u32>,
     queues: LinkedQueues,
+}
+
+/// Takes every request of a task out.
+fn take_all<L: Ledger>(queues: &mut LinkedQueues, task: TaskId, blank: Blank)
+    requires name { blank.name ≡ L.name }
+    requires parts { blank.parts ≡ L.parts }
+    requires some { 0 < blank.parts }
+    ensures elements { ⟦<LinkedQueues as Queues>⟧.elements queues.new ≡ without_task (⟦<LinkedQueues as Queues>⟧.elements queues.old) task }
+    ensures live { (q : ℕ) → ⟦<LinkedQueues as Queues>⟧.is_live queues.new q ≡ ⟦<LinkedQueues as Queues>⟧.is_live queues.old q }
+{
+    let mut steps = Steps::<L>::begin(blank);
+    let _ = queues.end_task(task, &mut steps);
 }
 
 impl Model for LatchSet {
@@ -80,5 +96,32 @@ impl LatchSet {
     {
         let task = task_of(requestor);
         release_at(alloc, set, &self.numbers, &mut self.queues, latch, task)
+    }
+
+    /// Takes every request of a requestor out: how many there were, and who gets a latch by it, where the set has this
+    /// place among all. Without memory nothing changes.
+    #[tactic(auto, using(crate::proofs::NumberLemmas::without_all))]
+    pub fn purge(&mut self, alloc: Global, set: u32, requestor: u16) -> Result<Purged, NoMemory>
+        ensures taken { IfOk result (λ p. p.taken ≡ requests_of self.old (task_of requestor)) }
+        ensures grants { IfOk result (λ p. p.grants ≡ purge_grants set 0 self.old (task_of requestor)) }
+        ensures after { OnOk result (self.new ≡ lists_purged self.old (task_of requestor)) }
+        ensures unchanged { OnErr result (self.new ≡ self.old) }
+    {
+        let task = task_of(requestor);
+        let purged = purged_in(alloc, set, &self.numbers, &self.queues, task)?;
+        take_all::<Brand>(&mut self.queues, task, Blank::new(1));
+        Ok(purged)
+    }
+
+    /// Puts the latches that have requests behind others, by number, where the set has this place among all.
+    pub(crate) fn add_rows(
+        &self,
+        alloc: Global,
+        set: u32,
+        rows: &mut List<LatchRow>,
+    ) -> Result<(), NoMemory>
+        ensures { OnOk result (rows.new ≡ rows.old ++ rows_in set 0 self.now) }
+    {
+        add_rows(alloc, set, &self.numbers, &self.queues, rows)
     }
 }
