@@ -43,7 +43,7 @@ use Rattle.deck_form.specs.Form.{line_key, key, plain_form, or_bad, keyed, first
 use Rattle.deck_form.specs.Spelled.{IsName, mode_word, Operand, Mode, Entries, Limit, enclosed, operand, IsFreeOperand}
 use Rattle.deck_form.specs.Spelled.{set_operand, IsComplex, IsOrder, IsCommand, IsFirst, IsAct, IsEvent, Spells}
 
-short_taken : (ts : List Token) (x : List ℕ × List Token) → short_at ts ≡ Some x → (ts ≡ Word x.0 ∷ x.1) × IsName x.0
+pub short_taken : (ts : List Token) (x : List ℕ × List Token) → short_at ts ≡ Some x → (ts ≡ Word x.0 ∷ x.1) × IsName x.0
 unfolding short_at
 short_taken ts x e =
     let b = bind_some (any_word_at ts) (λ w. cond (is_name w.0) (Some (w.0, w.1)) None) x e in

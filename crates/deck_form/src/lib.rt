@@ -18,3 +18,4 @@ pub use form::{Stmt, statement};
 pub use grouping::Statements;
 pub use laws::{names_are_spelled, one_statement};
 pub use system_names::SystemNames;
+pub use words::{short_at, written_number};

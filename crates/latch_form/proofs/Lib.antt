@@ -1,0 +1,6 @@
+pub mod Again
+pub mod First
+pub mod Least
+pub mod Loop
+pub mod Taken
+pub mod Whole

@@ -1,0 +1,12 @@
+use Rattle.std.proofs.Common.{◌≡◌, ◌≤◌, length}
+use Rattle.latch_form.specs.Reading.{no_draft, judge_all}
+use Rattle.latch_form.proofs.read.take_all.Given as goal
+
+abbrev pub invariant-loop-draft : goal.invariant-loop-draft
+invariant-loop-draft l = record {
+  reads : judge_all l.draft l.rest ≡ judge_all no_draft l.initial.rest;
+  few : l.draft.made ≤ 64;
+}
+
+abbrev pub decreases-loop-draft : goal.decreases-loop-draft
+decreases-loop-draft l = length l.rest
