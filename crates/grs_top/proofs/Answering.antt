@@ -1,9 +1,8 @@
 -- What stands after a text was read and its answer written.
-use Rattle.std.proofs.Common.{◌≡◌, ◌≤◌, ◌<◌, ◌⊎◌, ℕ, Bool, true, false, List, length, take, sym, subst, inl, inr, arith}
+use Rattle.std.proofs.Common.{◌≡◌, ◌≤◌, ◌<◌, ℕ, Bool, true, false, List, length, take, refl, sym, subst, inl, inr, arith}
 use Rattle.std.proofs.Common.{if◌then◌else◌, Option, None, Some, ◌∙◌, ◌+◌}
 use Rattle.std.proofs.lemmas.List.{length-take, take_all, drop_all}
 use Rattle.std.specs.Io.KnownBytes.{Appends}
-use Rattle.deck_scan.specs.Reading.{most_text_bytes}
 use Rattle.grs_io.specs.Moved.{TakesFirst}
 use Rattle.grs_wire.specs.declared.deck.Event.{Event}
 use Rattle.grs_wire.specs.declared.deck.Deck.{Deck as DeckValue}
@@ -13,7 +12,8 @@ use Rattle.grs_top.specs.declared.status.Status.TheVariants as statuses
 use Rattle.grs_top.specs.declared.words.Command.{Command}
 use Rattle.grs_top.specs.declared.words.Command.TheVariants.{Replay, Run, Lists}
 use Rattle.grs_top.specs.Seen.{seen_of_run, ending}
-use Rattle.grs_top.specs.Due.{IsTextOf, IsAnswered, IsDue}
+use Rattle.grs_top.specs.Commands.{limit_of, InputOf, SpellsInput, IsTextOf, EndsRun, EndsDone, EndsBy, NamesStatus}
+use Rattle.grs_top.specs.Due.{IsAnswered, IsDue}
 use Rattle.grs_top.specs.Answers.{Streams, TakesAll, ReadsDue, Writes, Answers, Completes}
 
 -- a front that is shorter than was asked for is all
@@ -29,37 +29,62 @@ takes_all n (Some xs) (Some ys) text read short =
     (read.0 ∙ take_all n xs few, read.1 ∙ drop_all n xs few)
 
 -- a run ends in one of two ways
-ends_either : (b : Bool) (s : Status) → s ≡ (if b then statuses.Done else statuses.Waits)
-    → (s ≡ statuses.Done) ⊎ (s ≡ statuses.Waits)
-ends_either true s e = inl e
-ends_either false s e = inr e
+ends_run : (b : Bool) (s : Status) → s ≡ (if b then statuses.Done else statuses.Waits) → EndsRun s
+ends_run true s e = subst EndsRun (sym e) tt
+ends_run false s e = subst EndsRun (sym e) tt
 
-ending_either : (d : DeckValue) (es : List Event) (s : Status) → s ≡ ending d es
-    → (s ≡ statuses.Done) ⊎ (s ≡ statuses.Waits)
+ending_ends : (d : DeckValue) (es : List Event) (s : Status) → s ≡ ending d es → EndsRun s
 unfolding ending
-ending_either d es s e = ends_either (all_ended (seen_of_run d es).ended) s e
+ending_ends d es s e = ends_run (all_ended (seen_of_run d es).ended) s e
 
-status_either : (c : Command) (d : DeckValue) (out : List ℕ) (s : Status) → IsTextOf c d out s
-    → (s ≡ statuses.Done) ⊎ (s ≡ statuses.Waits)
-status_either Replay d out s is = ending_either d d.events s is.ends
-status_either Run d out s is = ending_either d is.events s is.reported.ends
-status_either Lists d out s is = inl is.1
+-- what a command writes tells how it ends
+ends_by : (c : Command) (x : InputOf c) (out : List ℕ) (s : Status) → IsTextOf c x out s → EndsBy c s
+ends_by Replay d out s is = ending_ends d d.events s is.ends
+ends_by Run d out s is = ending_ends d is.events s is.reported.ends
+ends_by Lists d out s is = subst (EndsBy Lists) (sym is.1) tt
 
-answers_either : (c : Command) (old new : Streams) (s : Status) → (s ≡ statuses.Done) ⊎ (s ≡ statuses.Waits)
-    → Completes c old new s → Answers c old new s
-answers_either c old new s (inl e) done = subst (Answers c old new) (sym e) (subst (Completes c old new) e done)
-answers_either c old new s (inr e) done = subst (Answers c old new) (sym e) (subst (Completes c old new) e done)
+-- what is spelled is short
+short_input : (c : Command) (text : List ℕ) (x : InputOf c) → SpellsInput c text x → length text ≤ limit_of c
+short_input Replay text d spelled = spelled.short
+short_input Run text d spelled = spelled.short
+short_input Lists text d spelled = spelled.short
+
+done_ends : (s : Status) → EndsDone s → EndsRun s
+done_ends statuses.Done end = tt
+done_ends statuses.Waits end = tt
+done_ends statuses.Deck end = end
+done_ends statuses.Words end = end
+done_ends statuses.ReadFault end = end
+done_ends statuses.WriteFault end = end
+done_ends statuses.NoMemory end = end
+
+-- no other status says of any command that it has written all
+ends_either : (c : Command) (s : Status) → EndsBy c s → EndsRun s
+ends_either Replay s end = end
+ends_either Run s end = end
+ends_either Lists s end = done_ends s end
+
+completes_answers : (c : Command) (old new : Streams) (s : Status) → EndsBy c s → Completes c old new s
+    → Answers c old new s
+completes_answers c old new statuses.Done end done = done
+completes_answers c old new statuses.Waits end done = done
+completes_answers c old new statuses.Deck end done = absurd (ends_either c statuses.Deck end)
+completes_answers c old new statuses.Words end done = absurd (ends_either c statuses.Words end)
+completes_answers c old new statuses.ReadFault end done = absurd (ends_either c statuses.ReadFault end)
+completes_answers c old new statuses.WriteFault end done = absurd (ends_either c statuses.WriteFault end)
+completes_answers c old new statuses.NoMemory end done = absurd (ends_either c statuses.NoMemory end)
 
 completes_whole : (c : Command) (old new : Streams) (text out : List ℕ) (s : Status)
-    → TakesFirst (most_text_bytes + 1) old.left new.left text → IsAnswered c text out s
+    → TakesFirst (limit_of c + 1) old.left new.left text → IsAnswered c text out s
     → Appends old.written new.written out → new.failed_reads ≡ old.failed_reads → new.failed_writes ≡ old.failed_writes
     → Completes c old new s
 completes_whole c old new text out s read answered written failed_reads failed_writes =
-    let short : length text < most_text_bytes + 1 = omega (arith, answered.spelled.short) in
+    let short : length text < limit_of c + 1 =
+    omega (arith, short_input c text answered.input answered.spelled) in
     record {
       text = text;
       out = out;
-      read = takes_all (most_text_bytes + 1) old.left new.left text read short;
+      read = takes_all (limit_of c + 1) old.left new.left text read short;
       answered = answered;
       written = written;
       failed_reads = failed_reads;
@@ -67,7 +92,7 @@ completes_whole c old new text out s read answered written failed_reads failed_w
     }
 
 writes_whole : (c : Command) (old new : Streams) (text out : List ℕ) (s : Status)
-    → TakesFirst (most_text_bytes + 1) old.left new.left text → IsDue c text out s
+    → TakesFirst (limit_of c + 1) old.left new.left text → IsDue c text out s
     → Appends old.written new.written out → new.failed_reads ≡ old.failed_reads → new.failed_writes ≡ old.failed_writes
     → Answers c old new s
 writes_whole c old new text out s read (inl refused) written failed_reads failed_writes =
@@ -82,7 +107,7 @@ writes_whole c old new text out s read (inl refused) written failed_reads failed
       failed_writes = failed_writes;
     })
 writes_whole c old new text out s read (inr answered) written failed_reads failed_writes =
-    answers_either c old new s (status_either c answered.deck out s answered.is_text)
+    completes_answers c old new s (ends_by c answered.input out s answered.is_text)
     (completes_whole c old new text out s read answered written failed_reads failed_writes)
 
 -- what is due is written, or a write fails
@@ -104,3 +129,15 @@ answers c old new out s result due failed_reads (inr part) =
       failed_reads = failed_reads;
       failed_writes = part.1;
     })
+
+-- no other status comes than those that are named
+pub names : (c : Command) (old new : Streams) (s : Status) → Answers c old new s → NamesStatus c s
+names c old new statuses.Done done =
+    ends_by c done.answered.input done.out statuses.Done done.answered.is_text
+names c old new statuses.Waits done =
+    ends_by c done.answered.input done.out statuses.Waits done.answered.is_text
+names c old new statuses.Deck done = tt
+names c old new statuses.Words done = done
+names c old new statuses.ReadFault done = tt
+names c old new statuses.WriteFault done = tt
+names c old new statuses.NoMemory done = tt

@@ -1,6 +1,6 @@
--- A deck that is told and no fault give the whole text.
+-- A text that is told and no fault give the whole answer of a command.
 use Rattle.std.proofs.Common.{◌≡◌, ◌≤◌, ◌<◌, ℕ, List, length, take, refl, ap, sym, subst, inl, inr, arith, Option, None, Some}
-use Rattle.std.proofs.Common.{◌∙◌, ◌+◌}
+use Rattle.std.proofs.Common.{◌∙◌, ◌+◌, ◌⊎◌}
 use Rattle.std.specs.Io.KnownBytes.{Appends}
 use Rattle.std.proofs.lemmas.Bool.{lt-ltb}
 use Rattle.std.proofs.lemmas.List.{take_all, length-take-le}
@@ -10,128 +10,177 @@ use Rattle.grs_base.specs.declared.fault.DeckFault.{DeckFault}
 use Rattle.grs_base.specs.declared.fault.Kind.TheVariants.{TooLong}
 use Rattle.grs_wire.specs.declared.deck.Deck.{Deck as DeckValue}
 use Rattle.deck_scan.specs.Reading.{most_text_bytes, byte_fault}
-use Rattle.grs_deck.specs.Faults.{IsFault, IsFaultless}
+use Rattle.grs_deck.specs.Faults.{IsFault, IsFaultless, FaultOfLines}
 use Rattle.grs_deck.specs.Spells.{SpellsDeck}
 use Rattle.grs_io.specs.Faults.{last_count, HasRisen}
 use Rattle.grs_io.specs.Moved.{TakesFirst}
 use Rattle.grs_top.specs.declared.status.Status.{Status}
 use Rattle.grs_top.specs.declared.status.Status.TheVariants as statuses
 use Rattle.grs_top.specs.declared.words.Command.{Command}
-use Rattle.grs_top.specs.Due.{IsTextOf, fault_line}
+use Rattle.grs_top.specs.declared.words.Command.TheVariants.{Replay, Run, Lists}
+use Rattle.grs_top.specs.Commands.{limit_of, InputOf, SpellsInput, IsFaultOf, IsTextOf}
+use Rattle.grs_top.specs.Due.{fault_line}
 use Rattle.grs_top.specs.Answers.{Streams, TakesAll, Completes, Answers}
 use Rattle.grs_top.specs.Whole.{Tells, IsWhole, WholeUnlessMemory, TellsFault, RefusedUnlessMemory, HasNoFault, FaultsAreFailedCalls}
 
-all_spells : (old new : Option (List ℕ)) (text : List ℕ) (d : DeckValue) → Tells old d → TakesAll old new text
-    → SpellsDeck text d
-all_spells None new text d tells read = absurd tells
-all_spells (Some xs) None text d tells read = absurd read
-all_spells (Some xs) (Some ys) text d tells read = subst (λ (t : List ℕ). SpellsDeck t d) (sym read.0) tells
+-- How texts are read: each spells one input or has one first fault, never both; what spells one is within the limit,
+-- and a longer text has the fault of its front.
+record IsReader (Input : Type 0) (Spells : List ℕ → Input → Type 0) (Fails : List ℕ → DeckFault → Type 0) (limit : ℕ) :
+    Type 0 where
+  one : (text : List ℕ) (x y : Input) → Spells text x → Spells text y → x ≡ y
+  one_fault : (text : List ℕ) (f g : DeckFault) → Fails text f → Fails text g → f ≡ g
+  faultless : (text : List ℕ) (x : Input) → Spells text x → (f : DeckFault) → Fails text f → ⊥
+  short : (text : List ℕ) (x : Input) → Spells text x → length text ≤ limit
+  front : (text : List ℕ) (f : DeckFault) → Fails text f → Fails (take (limit + 1) text) f
 
-first_spells : (n : ℕ) (old new : Option (List ℕ)) (text : List ℕ) (d : DeckValue) → most_text_bytes < n → Tells old d
-    → TakesFirst n old new text → SpellsDeck text d
-first_spells n None new text d room tells read = absurd tells
-first_spells n (Some xs) None text d room tells read = absurd read
-first_spells n (Some xs) (Some ys) text d room tells read =
-    let short : length xs ≤ n = omega (arith, tells.short) in
-    subst (λ (t : List ℕ). SpellsDeck t d) (sym (read.0 ∙ take_all n xs short)) tells
+-- so the text of a command is
+abbrev IsRead : Command → Type 0
+IsRead c = IsReader (InputOf c) (SpellsInput c) (IsFaultOf c) (limit_of c)
 
-not_risen : (old new : ℕ) → new ≡ old → old < last_count → HasRisen old new → ⊥
-not_risen old new same below (inl more) = omega arith
-not_risen old new same below (inr last) = omega (arith, last.0)
-
-module _
-    (one : (text : List ℕ) (d e : DeckValue) → SpellsDeck text d → SpellsDeck text e → d ≡ e)
-    (spelled : (text : List ℕ) (d : DeckValue) → SpellsDeck text d → IsFaultless text) where
-  completed : (c : Command) (d : DeckValue) (old new : Streams) (s : Status) → Tells old.left d → Completes c old new s
-      → IsWhole c d old new s
-  completed c d old new s tells r =
-      let same : r.answered.deck ≡ d =
-      one r.text r.answered.deck d r.answered.spelled (all_spells old.left new.left r.text d tells r.read) in
-      record {
-        out = r.out;
-        written = r.written;
-        is_text = subst (λ (e : DeckValue). IsTextOf c e r.out s) same r.answered.is_text;
-      }
-
-  pub whole : WholeUnlessMemory
-  whole c d old new statuses.Done done tells none = inl (completed c d old new statuses.Done tells done)
-  whole c d old new statuses.Waits done tells none = inl (completed c d old new statuses.Waits tells done)
-  whole c d old new statuses.Deck done tells none =
-      let room : most_text_bytes < most_text_bytes + 1 = omega arith in
-      absurd (spelled done.text d
-      (first_spells (most_text_bytes + 1) old.left new.left done.text d room tells done.read) done.refused.first
-      done.refused.is_first)
-  whole c d old new statuses.Words done tells none = absurd done
-  whole c d old new statuses.ReadFault done tells none =
-      absurd (not_risen old.failed_reads new.failed_reads none.failed_reads none.failed_reads_below done.failed_reads)
-  whole c d old new statuses.WriteFault done tells none =
-      absurd (not_risen old.failed_writes new.failed_writes none.failed_writes none.failed_writes_below
-      done.failed_writes)
-  whole c d old new statuses.NoMemory done tells none = inr refl
-
--- ---- texts with a fault, and streams of which no call fails
+-- ---- texts whose bytes are looked at first
 too_long : (text : List ℕ) → most_text_bytes < length text
     → byte_fault text ≡ Some (record { line = 0; kind = TooLong })
 too_long text long = rw (lt-ltb most_text_bytes (length text) long) refl
 
--- the bytes that are read have the same first fault as the text
-long_fault : (text : List ℕ) (f : DeckFault) → most_text_bytes < length text
-    → most_text_bytes < length (take (most_text_bytes + 1) text) → IsFault text f
-    → IsFault (take (most_text_bytes + 1) text) f
-long_fault text f long room (inl here) =
-    inl (too_long (take (most_text_bytes + 1) text) room ∙ sym (too_long text long) ∙ here)
-long_fault text f long room (inr lines) =
-    absurd (none-some (record { line = 0; kind = TooLong }) (sym lines.allowed ∙ too_long text long))
-
-fault_read : (text : List ℕ) (f : DeckFault) → IsFault text f → IsFault (take (most_text_bytes + 1) text) f
-fault_read text f fault = by_length (dec_lt most_text_bytes (length text))
-  where
-    by_length : Dec (most_text_bytes < length text) → IsFault (take (most_text_bytes + 1) text) f
-    by_length (no within) =
-        subst (λ t. IsFault t f) (sym (take_all (most_text_bytes + 1) text (omega arith))) fault
-    by_length (yes long) =
-        let whole : length (take (most_text_bytes + 1) text) ≡ most_text_bytes + 1 =
-        length-take-le (most_text_bytes + 1) text (omega arith) in
-        long_fault text f long (omega (arith, whole)) fault
-
-refused_first : (old new : Option (List ℕ)) (text : List ℕ) (f : DeckFault) → TellsFault old f
-    → TakesFirst (most_text_bytes + 1) old new text → IsFault text f
-refused_first None new text f tells read = absurd tells
-refused_first (Some xs) None text f tells read = absurd read
-refused_first (Some xs) (Some ys) text f tells read = subst (λ t. IsFault t f) (sym read.0) (fault_read xs f tells)
-
-all_faulty : (old new : Option (List ℕ)) (text : List ℕ) (f : DeckFault) → TellsFault old f → TakesAll old new text
-    → IsFault text f
-all_faulty None new text f tells read = absurd tells
-all_faulty (Some xs) None text f tells read = absurd read
-all_faulty (Some xs) (Some ys) text f tells read = subst (λ t. IsFault t f) (sym read.0) tells
-
+-- a fault of the bytes, or where there is none, one of the lines
 module _
-    (one_fault : (text : List ℕ) (f g : DeckFault) → IsFault text f → IsFault text g → f ≡ g)
-    (spelled : (text : List ℕ) (d : DeckValue) → SpellsDeck text d → IsFaultless text) where
-  not_complete : (c : Command) (f : DeckFault) (old new : Streams) (s : Status) → TellsFault old.left f
-      → Completes c old new s → ⊥
-  not_complete c f old new s tells r =
-      spelled r.text r.answered.deck r.answered.spelled f (all_faulty old.left new.left r.text f tells r.read)
+    (OfLines : List ℕ → DeckFault → Type 0)
+    (allowed : (text : List ℕ) (f : DeckFault) → OfLines text f → byte_fault text ≡ None) where
+  abbrev OfText : List ℕ → DeckFault → Type 0
+  OfText text f = (byte_fault text ≡ Some f) ⊎ OfLines text f
 
-  pub refused : RefusedUnlessMemory
-  refused c f old new statuses.Done done tells none = absurd (not_complete c f old new statuses.Done tells done)
-  refused c f old new statuses.Waits done tells none = absurd (not_complete c f old new statuses.Waits tells done)
-  refused c f old new statuses.Deck done tells none =
+  -- the bytes that are read have the same first fault as the text
+  long_front : (text : List ℕ) (f : DeckFault) → most_text_bytes < length text
+      → most_text_bytes < length (take (most_text_bytes + 1) text) → OfText text f
+      → OfText (take (most_text_bytes + 1) text) f
+  long_front text f long room (inl here) =
+      inl (too_long (take (most_text_bytes + 1) text) room ∙ sym (too_long text long) ∙ here)
+  long_front text f long room (inr lines) =
+      absurd (none-some (record { line = 0; kind = TooLong }) (sym (allowed text f lines) ∙ too_long text long))
+
+  front_of : (text : List ℕ) (f : DeckFault) → OfText text f → OfText (take (most_text_bytes + 1) text) f
+  front_of text f fault = by_length (dec_lt most_text_bytes (length text))
+    where
+      by_length : Dec (most_text_bytes < length text) → OfText (take (most_text_bytes + 1) text) f
+      by_length (no within) =
+          subst (λ t. OfText t f) (sym (take_all (most_text_bytes + 1) text (omega arith))) fault
+      by_length (yes long) =
+          let whole : length (take (most_text_bytes + 1) text) ≡ most_text_bytes + 1 =
+          length-take-le (most_text_bytes + 1) text (omega arith) in
+          long_front text f long (omega (arith, whole)) fault
+
+deck_front : (text : List ℕ) (f : DeckFault) → IsFault text f → IsFault (take (most_text_bytes + 1) text) f
+deck_front = front_of FaultOfLines (λ text f lines. lines.allowed)
+
+-- ---- what is read of a source that tells its bytes
+not_risen : (old new : ℕ) → new ≡ old → old < last_count → HasRisen old new → ⊥
+not_risen old new same below (inl more) = omega arith
+not_risen old new same below (inr last) = omega (arith, last.0)
+
+module _ (c : Command) (reads : IsRead c) where
+  all_spells : (old new : Option (List ℕ)) (text : List ℕ) (x : InputOf c) → Tells c old x → TakesAll old new text
+      → SpellsInput c text x
+  all_spells None new text x tells read = absurd tells
+  all_spells (Some xs) None text x tells read = absurd read
+  all_spells (Some xs) (Some ys) text x tells read = subst (λ (t : List ℕ). SpellsInput c t x) (sym read.0) tells
+
+  first_spells : (old new : Option (List ℕ)) (text : List ℕ) (x : InputOf c) → Tells c old x
+      → TakesFirst (limit_of c + 1) old new text → SpellsInput c text x
+  first_spells None new text x tells read = absurd tells
+  first_spells (Some xs) None text x tells read = absurd read
+  first_spells (Some xs) (Some ys) text x tells read =
+      let short : length xs ≤ limit_of c + 1 = omega (arith, reads.short xs x tells) in
+      subst (λ (t : List ℕ). SpellsInput c t x) (sym (read.0 ∙ take_all (limit_of c + 1) xs short)) tells
+
+  all_faulty : (old new : Option (List ℕ)) (text : List ℕ) (f : DeckFault) → TellsFault c old f
+      → TakesAll old new text → IsFaultOf c text f
+  all_faulty None new text f tells read = absurd tells
+  all_faulty (Some xs) None text f tells read = absurd read
+  all_faulty (Some xs) (Some ys) text f tells read = subst (λ (t : List ℕ). IsFaultOf c t f) (sym read.0) tells
+
+  first_faulty : (old new : Option (List ℕ)) (text : List ℕ) (f : DeckFault) → TellsFault c old f
+      → TakesFirst (limit_of c + 1) old new text → IsFaultOf c text f
+  first_faulty None new text f tells read = absurd tells
+  first_faulty (Some xs) None text f tells read = absurd read
+  first_faulty (Some xs) (Some ys) text f tells read =
+      subst (λ (t : List ℕ). IsFaultOf c t f) (sym read.0) (reads.front xs f tells)
+
+  completed : (x : InputOf c) (old new : Streams) (s : Status) → Tells c old.left x → Completes c old new s
+      → IsWhole c x old new s
+  completed x old new s tells r =
+      let same : r.answered.input ≡ x =
+      reads.one r.text r.answered.input x r.answered.spelled (all_spells old.left new.left r.text x tells r.read) in
+      record {
+        out = r.out;
+        written = r.written;
+        is_text = subst (λ (y : InputOf c). IsTextOf c y r.out s) same r.answered.is_text;
+      }
+
+  not_complete : (f : DeckFault) (old new : Streams) (s : Status) → TellsFault c old.left f
+      → Completes c old new s → ⊥
+  not_complete f old new s tells r =
+      reads.faultless r.text r.answered.input r.answered.spelled f (all_faulty old.left new.left r.text f tells r.read)
+
+  whole_of : (x : InputOf c) (old new : Streams) (s : Status) → Answers c old new s → Tells c old.left x
+      → HasNoFault old new → IsWhole c x old new s ⊎ (s ≡ statuses.NoMemory)
+  whole_of x old new statuses.Done done tells none = inl (completed x old new statuses.Done tells done)
+  whole_of x old new statuses.Waits done tells none = inl (completed x old new statuses.Waits tells done)
+  whole_of x old new statuses.Deck done tells none =
+      absurd (reads.faultless done.text x (first_spells old.left new.left done.text x tells done.read)
+      done.refused.first done.refused.is_first)
+  whole_of x old new statuses.Words done tells none = absurd done
+  whole_of x old new statuses.ReadFault done tells none =
+      absurd (not_risen old.failed_reads new.failed_reads none.failed_reads none.failed_reads_below done.failed_reads)
+  whole_of x old new statuses.WriteFault done tells none =
+      absurd (not_risen old.failed_writes new.failed_writes none.failed_writes none.failed_writes_below
+      done.failed_writes)
+  whole_of x old new statuses.NoMemory done tells none = inr refl
+
+  refused_of : (f : DeckFault) (old new : Streams) (s : Status) → Answers c old new s → TellsFault c old.left f
+      → HasNoFault old new
+      → (Appends old.written new.written (fault_line f) × (s ≡ statuses.Deck)) ⊎ (s ≡ statuses.NoMemory)
+  refused_of f old new statuses.Done done tells none = absurd (not_complete f old new statuses.Done tells done)
+  refused_of f old new statuses.Waits done tells none = absurd (not_complete f old new statuses.Waits tells done)
+  refused_of f old new statuses.Deck done tells none =
       let same : done.refused.first ≡ f =
-      one_fault done.text done.refused.first f done.refused.is_first
-      (refused_first old.left new.left done.text f tells done.read) in
+      reads.one_fault done.text done.refused.first f done.refused.is_first
+      (first_faulty old.left new.left done.text f tells done.read) in
       inl (
         subst (Appends old.written new.written) (done.refused.line ∙ ap fault_line same) done.written,
         refl,
       )
-  refused c f old new statuses.Words done tells none = absurd done
-  refused c f old new statuses.ReadFault done tells none =
+  refused_of f old new statuses.Words done tells none = absurd done
+  refused_of f old new statuses.ReadFault done tells none =
       absurd (not_risen old.failed_reads new.failed_reads none.failed_reads none.failed_reads_below done.failed_reads)
-  refused c f old new statuses.WriteFault done tells none =
+  refused_of f old new statuses.WriteFault done tells none =
       absurd (not_risen old.failed_writes new.failed_writes none.failed_writes none.failed_writes_below
       done.failed_writes)
-  refused c f old new statuses.NoMemory done tells none = inr refl
+  refused_of f old new statuses.NoMemory done tells none = inr refl
+
+-- ---- the commands
+module _
+    (one : (text : List ℕ) (d e : DeckValue) → SpellsDeck text d → SpellsDeck text e → d ≡ e)
+    (one_fault : (text : List ℕ) (f g : DeckFault) → IsFault text f → IsFault text g → f ≡ g)
+    (spelled : (text : List ℕ) (d : DeckValue) → SpellsDeck text d → IsFaultless text) where
+  decks : IsReader DeckValue SpellsDeck IsFault most_text_bytes
+  decks = record {
+    one = one;
+    one_fault = one_fault;
+    faultless = spelled;
+    short = λ text d s. s.short;
+    front = deck_front;
+  }
+
+  reads : (c : Command) → IsRead c
+  reads Replay = decks
+  reads Run = decks
+  reads Lists = decks
+
+  pub whole : WholeUnlessMemory
+  whole c = whole_of c (reads c)
+
+  pub refused : RefusedUnlessMemory
+  refused c = refused_of c (reads c)
 
 pub no_faults : FaultsAreFailedCalls
 no_faults c old new status done none = (

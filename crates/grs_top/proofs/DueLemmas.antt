@@ -2,8 +2,9 @@
 use Rattle.std.proofs.Common.{◌≡◌, ℕ, true, List, length, ap, sym, subst, ◌∙◌, inl, inr, Result, Ok, Err, IfOk}
 use Rattle.std.proofs.Common.{if◌then◌else◌}
 use Rattle.grs_base.specs.declared.fault.DeckFault.{DeckFault}
-use Rattle.grs_deck.specs.Faults.{IsFault}
-use Rattle.grs_deck.specs.Spells.{SpellsDeck}
+use Rattle.grs_base.specs.declared.fault.ReadError.{ReadError}
+use Rattle.grs_base.specs.declared.fault.ReadError.TheVariants as read_errors
+use Rattle.grs_deck.specs.Faults.{IsFault, Answers as AnswersDeck}
 use Rattle.grs_history.specs.Merge.{merged_steps}
 use Rattle.grs_medium.specs.Medium.{MediumState}
 use Rattle.grs_node.specs.Log.{NodeView}
@@ -23,23 +24,35 @@ use Rattle.grs_world.specs.Removing.{RemovedTellNothing}
 use Rattle.grs_world.specs.Running.{at_rest}
 use Rattle.grs_world.specs.World.{first_world, run}
 use Rattle.grs_top.specs.Beside.{AllDo, logs_of, MergedRuns, MergedRests}
-use Rattle.grs_top.specs.Due.{fault_line, IsTextOf, IsDue}
+use Rattle.grs_top.specs.Commands.{InputOf, SpellsInput, IsFaultOf, IsTextOf}
+use Rattle.grs_top.specs.Due.{fault_line, IsDue}
+use Rattle.grs_top.specs.Texts.{IsReported, IsRunToRest}
 use Rattle.grs_top.specs.Seen.{seen_of_run, report_of, ending}
 use Rattle.grs_top.specs.declared.due.Due.{Due}
 use Rattle.grs_top.specs.declared.status.Status.TheVariants.{Deck, Done, Waits}
 use Rattle.grs_top.specs.declared.words.Command.{Command}
-use Rattle.grs_top.specs.declared.words.Command.TheVariants.{Replay, Run}
 
-pub answered_due : {E : Type 0} (c : Command) (text : List ℕ) (d : DeckValue) (r : Result Due E) → SpellsDeck text d
-    → IfOk r (λ due. IsTextOf c d due.out due.status) → IfOk r (λ due. IsDue c text due.out due.status)
-answered_due c text d (Ok due) spelled is_text = inr (record { deck = d; spelled = spelled; is_text = is_text })
-answered_due c text d (Err e) spelled is_text = tt
+pub answered_due : {E : Type 0} (c : Command) (text : List ℕ) (x : InputOf c) (r : Result Due E) → SpellsInput c text x
+    → IfOk r (λ due. IsTextOf c x due.out due.status) → IfOk r (λ due. IsDue c text due.out due.status)
+answered_due c text x (Ok due) spelled is_text = inr (record { input = x; spelled = spelled; is_text = is_text })
+answered_due c text x (Err e) spelled is_text = tt
 
-pub refused_due : {E : Type 0} (c : Command) (text : List ℕ) (f : DeckFault) (r : Result Due E) → IsFault text f
-    → IfOk r (λ due. due.out ≡ fault_line f) → IfOk r (λ due. due.status ≡ Deck)
+pub refused_due :
+    {E : Type 0} (c : Command) (text : List ℕ) (error : ReadError) (r : Result Due E)
+    → ((f : DeckFault) → error ≡ read_errors.Fault f → IsFaultOf c text f)
+    → IfOk r (λ due. (f : DeckFault) × (error ≡ read_errors.Fault f) × (due.out ≡ fault_line f) × (due.status ≡ Deck))
     → IfOk r (λ due. IsDue c text due.out due.status)
-refused_due c text f (Ok due) first out status = inl (record { first = f; is_first = first; line = out }, status)
-refused_due c text f (Err e) first out status = tt
+refused_due c text error (Ok due) first refused =
+    inl (
+      record { first = refused.0; is_first = first refused.0 refused.1; line = refused.2 },
+      refused.3,
+    )
+refused_due c text error (Err e) first refused = tt
+
+-- what the reading of a deck answers tells its first fault
+pub first_fault : (text : List ℕ) (error : ReadError) → AnswersDeck (Err error) text
+    → (f : DeckFault) → error ≡ read_errors.Fault f → IsFault text f
+first_fault text error exact f is = subst (λ (e : ReadError). AnswersDeck (Err e) text) is exact
 
 -- ---- the report of a run, by what is seen of it
 
@@ -58,7 +71,7 @@ pub replay_due : {E : Type 0} (d : DeckValue) (seen : Seen) (r : Result Due E) �
     → seen ≡ seen_of_run d d.events
     → IfOk r (λ due. due.out ≡ report d seen)
     → IfOk r (λ due. due.status ≡ (if all_ended seen.ended then Done else Waits))
-    → IfOk r (λ due. IsTextOf Replay d due.out due.status)
+    → IfOk r (λ due. IsReported d d.events due.out due.status)
 unfolding report_of ending
 replay_due d seen (Ok due) whole sound passed silent is out status = record {
   whole = out ∙ ap (report d) is;
@@ -80,7 +93,7 @@ pub run_due :
     → seen ≡ seen_of_run d seen.events
     → IfOk r (λ due. due.out ≡ report d seen)
     → IfOk r (λ due. due.status ≡ (if all_ended seen.ended then Done else Waits))
-    → IfOk r (λ due. IsTextOf Run d due.out due.status)
+    → IfOk r (λ due. IsRunToRest d due.out due.status)
 unfolding report_of ending
 run_due d m journal slice vs seen (Ok due) whole sound passed silent runs rests kept ran last lent made is out status =
     let events : seen.events ≡ (merged_steps journal (logs_of vs)).events =

@@ -1,12 +1,12 @@
 -- What a command does to its source and its sink, by the status that it answers.
 use Rattle.std.specs.Prelude.{◌≡◌, ◌+◌, ◌⊎◌, ℕ, List, [], Option, None, Some}
 use Rattle.std.specs.Io.KnownBytes.{Appends}
-use Rattle.deck_scan.specs.Reading.{most_text_bytes}
 use Rattle.grs_io.specs.Faults.{HasRisen}
 use Rattle.grs_io.specs.Moved.{TakesFirst, AppendsPart}
 use Rattle.grs_top.specs.declared.status.Status.{Status}
 use Rattle.grs_top.specs.declared.status.Status.TheVariants as statuses
 use Rattle.grs_top.specs.declared.words.Command.{Command}
+use Rattle.grs_top.specs.Commands.{limit_of}
 use Rattle.grs_top.specs.Due.{IsRefused, IsAnswered, IsDue}
 
 -- What is seen of a source and a sink: the bytes left and the bytes written, where these are told, and how
@@ -34,7 +34,7 @@ TakesAll (Some xs) (Some ys) text = (text ≡ xs) × (ys ≡ [])
 -- What is due for the text that was read.
 pub record ReadsDue (c : Command) (old new : Option (List ℕ)) (out : List ℕ) (status : Status) : Type 0 where
   pub text : List ℕ
-  pub read : TakesFirst (most_text_bytes + 1) old new text
+  pub read : TakesFirst (limit_of c + 1) old new text
   pub due : IsDue c text out status
 
 -- What is due is written whole, and answered by its status, or a write failed and only a part is written.
@@ -44,7 +44,7 @@ Writes old new failed_writes failed_writes' out status result =
     ⊎ (AppendsPart old new out × HasRisen failed_writes failed_writes' × (result ≡ statuses.WriteFault))
 
 -- Done and Waits: the source was read to its end, no read or write failed, and what the command writes for
--- the deck that was read is written whole.
+-- what the text spells is written whole.
 pub record Completes (c : Command) (old new : Streams) (status : Status) : Type 0 where
   pub text : List ℕ
   pub out : List ℕ
@@ -54,13 +54,13 @@ pub record Completes (c : Command) (old new : Streams) (status : Status) : Type 
   pub failed_reads : new.failed_reads ≡ old.failed_reads
   pub failed_writes : new.failed_writes ≡ old.failed_writes
 
--- Deck: the source was read to its end, or as far as a deck may reach and one byte more; no read or write
+-- Deck: the source was read to its end, or as far as a text may reach and one byte more; no read or write
 -- failed, and the line of the text's first fault is written whole.
-pub record Refuses (old new : Streams) : Type 0 where
+pub record Refuses (c : Command) (old new : Streams) : Type 0 where
   pub text : List ℕ
   pub out : List ℕ
-  pub read : TakesFirst (most_text_bytes + 1) old.left new.left text
-  pub refused : IsRefused text out
+  pub read : TakesFirst (limit_of c + 1) old.left new.left text
+  pub refused : IsRefused c text out
   pub written : Appends old.written new.written out
   pub failed_reads : new.failed_reads ≡ old.failed_reads
   pub failed_writes : new.failed_writes ≡ old.failed_writes
@@ -77,7 +77,7 @@ pub record FailsToWrite (c : Command) (old new : Streams) : Type 0 where
   pub text : List ℕ
   pub out : List ℕ
   pub status : Status
-  pub read : TakesFirst (most_text_bytes + 1) old.left new.left text
+  pub read : TakesFirst (limit_of c + 1) old.left new.left text
   pub due : IsDue c text out status
   pub written : AppendsPart old.written new.written out
   pub failed_reads : new.failed_reads ≡ old.failed_reads
@@ -93,7 +93,7 @@ pub record WantsMemory (old new : Streams) : Type 0 where
 abbrev pub Answers : Command → Streams → Streams → Status → Type 0
 Answers c old new statuses.Done = Completes c old new statuses.Done
 Answers c old new statuses.Waits = Completes c old new statuses.Waits
-Answers c old new statuses.Deck = Refuses old new
+Answers c old new statuses.Deck = Refuses c old new
 Answers c old new statuses.Words = ⊥
 Answers c old new statuses.ReadFault = FailsToRead old new
 Answers c old new statuses.WriteFault = FailsToWrite c old new

@@ -2,8 +2,9 @@
 use Rattle.std.specs.Prelude.{◌≡◌, ℕ}
 use Rattle.grs_top.specs.declared.status.Status.{Status}
 use Rattle.grs_top.specs.declared.words.Form.{Form}
-use Rattle.grs_top.specs.declared.words.Form.TheVariants.{OfDeck, Generate}
+use Rattle.grs_top.specs.declared.words.Form.TheVariants.{OfText, Generate}
 use Rattle.grs_top.specs.Answers.{Streams, Answers}
+use Rattle.grs_top.specs.Commands.{NamesStatus}
 use Rattle.grs_top.specs.Generated.{AnswersGen}
 
 -- The source is as it was, and the line of the number is written.
@@ -12,7 +13,8 @@ pub record Generates (n : ℕ) (old new : Streams) (status : Status) : Type 0 wh
   pub failed_reads : new.failed_reads ≡ old.failed_reads
   pub line : AnswersGen n old.written new.written old.failed_writes new.failed_writes status
 
--- A deck is read, and answered by the command; or nothing is read, and a number is answered.
+-- A text is read, and answered by the command with a status that is named for it; or nothing is read, and a number is
+-- answered.
 abbrev pub AnswersForm : Form → Streams → Streams → Status → Type 0
-AnswersForm (OfDeck command) old new status = Answers command old new status
+AnswersForm (OfText command) old new status = Answers command old new status × NamesStatus command status
 AnswersForm (Generate n) old new status = Generates n old new status

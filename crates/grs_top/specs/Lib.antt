@@ -5,6 +5,8 @@ pub mod Tasks
 pub mod Seen
 pub mod Beside
 pub mod Schedules
+pub mod Texts
+pub mod Commands
 pub mod Due
 pub mod OneHistory
 pub mod Answers

@@ -6,7 +6,7 @@ use Rattle.std.specs.Str.{bytes_eq}
 use Rattle.grs_base.specs.Limits.{most_tasks}
 use Rattle.grs_base.specs.ShortNames.{is_digit}
 use Rattle.grs_top.specs.declared.words.Form.{Form}
-use Rattle.grs_top.specs.declared.words.Form.TheVariants.{OfDeck, Generate}
+use Rattle.grs_top.specs.declared.words.Form.TheVariants.{OfText, Generate}
 use Rattle.grs_top.specs.declared.words.Command.{Command}
 use Rattle.grs_top.specs.declared.words.Command.TheVariants.{Replay, Run, Lists}
 
@@ -36,6 +36,6 @@ form_of_two word number = if bytes_eq word (codes "gen") then option_map Generat
 -- The form of the words after the program's name: one word alone that names a command, or gen and a number.
 abbrev pub form_of : List (List ℕ) → Option Form
 form_of [] = None
-form_of (word ∷ []) = option_map OfDeck (command_named word)
+form_of (word ∷ []) = option_map OfText (command_named word)
 form_of (word ∷ number ∷ []) = form_of_two word number
 form_of (word ∷ number ∷ other ∷ more) = None

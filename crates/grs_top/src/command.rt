@@ -1,50 +1,53 @@
 //! The commands: what each does to its source and its sink. All read and write in the same way.
-ghost use Rattle.std.specs.Prelude.{◌≡◌, ◌≢◌, IfOk, OnOk, IfSome, IfNone, Err, map, string_bytes};
+ghost use Rattle.std.specs.Prelude.{◌≡◌, ◌<◌, ℕ, List, IfOk, OnOk, IfSome, IfNone, Err, map, string_bytes};
+ghost use Rattle.std.specs.Fn.{FnReturnsAt};
 ghost use Rattle.grs_io.specs.Faults.{HasRisen};
 ghost use Rattle.grs_top.specs.Answers.{streams, Answers, ReadsDue, Writes};
+ghost use Rattle.grs_top.specs.Commands.{limit_of, NamesStatus};
+ghost use Rattle.grs_top.specs.Due.{IsDue};
 ghost use Rattle.grs_top.specs.Forms.{AnswersForm};
 ghost use Rattle.grs_top.specs.Words.{form_of};
 
 use super::Status;
-use super::due::{Due, due_by_run, due_for};
+use super::due::{Due, due_by_lists, due_by_replay, due_by_run};
 use super::generate::gen_command;
 use super::words::{Command, Form, form_of};
 use deck_scan::MOST_TEXT_BYTES;
+use grs_base::NoMemory;
 use grs_io::{ReadFailure, Sink, Source, read_all, write_all};
 use grs_workers::Gate;
 use std::alloc::Global;
 use std::sync::Wait;
 use std::thread::Threads;
 
-/// Reads a text, up to one byte more than a deck may have, and builds what it is answered by.
-fn read_due<S: Source>(alloc: Global, command: Command, source: &mut S) -> Result<Due, ReadFailure>
-    requires { command ≢ Command.Run }
+/// How many bytes the text of a command may have.
+fn limit_of(command: Command) -> usize
+    ensures limit { result ≡ limit_of command }
+    ensures room { result < usize.MAX }
+{
+    match command {
+        Command::Replay | Command::Run | Command::Lists => MOST_TEXT_BYTES,
+    }
+}
+
+/// Reads the text of a command, up to one byte more than it may have, and builds what it is answered by.
+fn read_due<S: Source, F: Fn(&[u8]) -> Result<Due, NoMemory>>(
+    alloc: Global,
+    command: Command,
+    source: &mut S,
+    due_of: &F,
+) -> Result<Due, ReadFailure>
+    requires callable { F.IsAlwaysCallable due_of.now }
+    requires due { (text : List ℕ) (result : _) → FnReturnsAt F.Fn due_of.now text result
+        → IfOk result (λ due. IsDue command text due.out due.status) }
     ensures due { IfOk result (λ due. ReadsDue command (S.left source.old) (S.left source.new) due.out due.status) }
     ensures kept { OnOk result (S.faults source.new ≡ S.faults source.old) }
     ensures failed { result ≡ Err ReadFailure.Failed
         → HasRisen (S.faults source.old) (S.faults source.new) }
     ensures memory { result ≡ Err ReadFailure.NoMemory → S.faults source.new ≡ S.faults source.old }
 {
-    let text = read_all(alloc, source, MOST_TEXT_BYTES)?;
-    let due = due_for(alloc, command, text.as_slice())?;
-    Ok(due)
-}
-
-/// The same for a run of systems beside each other.
-fn read_run<R: Threads + Wait + Sync, S: Source, G: Gate + Sync>(
-    rt: &R,
-    alloc: Global,
-    source: &mut S,
-    gate: &G,
-) -> Result<Due, ReadFailure>
-    ensures due { IfOk result (λ due. ReadsDue Command.Run (S.left source.old) (S.left source.new) due.out due.status) }
-    ensures kept { OnOk result (S.faults source.new ≡ S.faults source.old) }
-    ensures failed { result ≡ Err ReadFailure.Failed
-        → HasRisen (S.faults source.old) (S.faults source.new) }
-    ensures memory { result ≡ Err ReadFailure.NoMemory → S.faults source.new ≡ S.faults source.old }
-{
-    let text = read_all(alloc, source, MOST_TEXT_BYTES)?;
-    let due = due_by_run(rt, alloc, text.as_slice(), gate)?;
+    let text = read_all(alloc, source, limit_of(command))?;
+    let due = due_of(text.as_slice())?;
     Ok(due)
 }
 
@@ -60,22 +63,26 @@ pub(crate) fn write_due<K: Sink>(sink: &mut K, due: &Due) -> Status
     }
 }
 
-/// Does what a command asks for that waits for nobody. The text is built whole before the first write, and the first read or
-/// write that fails ends the command.
+/// Does what a command asks for, by what a text is answered by under it. The answer is built whole before the first write, and
+/// the first read or write that fails ends the command.
 #[tactic(none)]
-fn answer<S: Source, K: Sink>(
+fn answer<S: Source, K: Sink, F: Fn(&[u8]) -> Result<Due, NoMemory>>(
     alloc: Global,
     command: Command,
     source: &mut S,
     sink: &mut K,
+    due_of: &F,
 ) -> Status
-    requires { command ≢ Command.Run }
-    ensures { Answers command
+    requires callable { F.IsAlwaysCallable due_of.now }
+    requires due { (text : List ℕ) (result : _) → FnReturnsAt F.Fn due_of.now text result
+        → IfOk result (λ due. IsDue command text due.out due.status) }
+    ensures answer { Answers command
         (streams (S.left source.old) (K.written sink.old) (S.faults source.old) (K.faults sink.old))
         (streams (S.left source.new) (K.written sink.new) (S.faults source.new) (K.faults sink.new))
         result }
+    ensures named { NamesStatus command result }
 {
-    match read_due(alloc, command, source) {
+    match read_due(alloc, command, source, due_of) {
         Ok(due) => write_due(sink, &due),
         Err(ReadFailure::Failed) => Status::ReadFault,
         Err(ReadFailure::NoMemory) => Status::NoMemory,
@@ -90,12 +97,19 @@ fn answer<S: Source, K: Sink>(
 /// place of a report, `ReadFault` and `WriteFault` that a read or write failed, and `NoMemory` that nothing
 /// was written for want of memory.
 pub fn replay_command<S: Source, K: Sink>(alloc: Global, source: &mut S, sink: &mut K) -> Status
-    ensures { Answers Command.Replay
+    ensures answer { Answers Command.Replay
         (streams (S.left source.old) (K.written sink.old) (S.faults source.old) (K.faults sink.old))
         (streams (S.left source.new) (K.written sink.new) (S.faults source.new) (K.faults sink.new))
         result }
+    ensures named { NamesStatus Command.Replay result }
 {
-    answer(alloc, Command::Replay, source, sink)
+    answer(
+        alloc,
+        Command::Replay,
+        source,
+        sink,
+        &|text| due_by_replay(alloc, text),
+    )
 }
 
 /// Reads a deck from a source, runs its systems beside each other, each in a thread where there is one for it, and writes the report
@@ -109,16 +123,19 @@ pub fn run_command<R: Threads + Wait + Sync, S: Source, K: Sink, G: Gate + Sync>
     sink: &mut K,
     gate: &G,
 ) -> Status
-    ensures { Answers Command.Run
+    ensures answer { Answers Command.Run
         (streams (S.left source.old) (K.written sink.old) (S.faults source.old) (K.faults sink.old))
         (streams (S.left source.new) (K.written sink.new) (S.faults source.new) (K.faults sink.new))
         result }
+    ensures named { NamesStatus Command.Run result }
 {
-    match read_run(rt, alloc, source, gate) {
-        Ok(report) => write_due(sink, &report),
-        Err(ReadFailure::Failed) => Status::ReadFault,
-        Err(ReadFailure::NoMemory) => Status::NoMemory,
-    }
+    answer(
+        alloc,
+        Command::Run,
+        source,
+        sink,
+        &|text| due_by_run(rt, alloc, text, gate),
+    )
 }
 
 /// Reads a deck from a source and writes the entries of its name lists to a sink, one printed RNLDEF a line:
@@ -131,9 +148,15 @@ pub fn lists_command<S: Source, K: Sink>(alloc: Global, source: &mut S, sink: &m
         (streams (S.left source.old) (K.written sink.old) (S.faults source.old) (K.faults sink.old))
         (streams (S.left source.new) (K.written sink.new) (S.faults source.new) (K.faults sink.new))
         result }
-    ensures never_waits { result ≢ Status.Waits }
+    ensures named { NamesStatus Command.Lists result }
 {
-    answer(alloc, Command::Lists, source, sink)
+    answer(
+        alloc,
+        Command::Lists,
+        source,
+        sink,
+        &|text| due_by_lists(alloc, text),
+    )
 }
 
 /// Does what the words after the program's name ask for. The words are `replay`, `run` or `lists`, or `gen` and a number from 1
@@ -159,9 +182,9 @@ pub fn grs<R: Threads + Wait + Sync, S: Source, K: Sink, G: Gate + Sync>(
         ((K.written sink.new ≡ K.written sink.old) × (K.faults sink.new ≡ K.faults sink.old)) }
 {
     match form_of(words) {
-        Some(Form::OfDeck(Command::Replay)) => replay_command(alloc, source, sink),
-        Some(Form::OfDeck(Command::Run)) => run_command(rt, alloc, source, sink, gate),
-        Some(Form::OfDeck(Command::Lists)) => lists_command(alloc, source, sink),
+        Some(Form::OfText(Command::Replay)) => replay_command(alloc, source, sink),
+        Some(Form::OfText(Command::Run)) => run_command(rt, alloc, source, sink, gate),
+        Some(Form::OfText(Command::Lists)) => lists_command(alloc, source, sink),
         Some(Form::Generate(n)) => gen_command(alloc, n, sink),
         None => Status::Words,
     }

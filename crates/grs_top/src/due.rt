@@ -1,10 +1,11 @@
 //! What a text is answered by: what the command writes for the deck that it spells, or the line of its first
 //! fault. The answer is built whole before any of it is written.
-ghost use Rattle.std.specs.Prelude.{◌≡◌, ◌≢◌, IfOk, if◌then◌else◌};
+ghost use Rattle.std.specs.Prelude.{◌≡◌, IfOk, if◌then◌else◌};
 ghost use Rattle.grs_report.specs.Ends.{all_ended};
 ghost use Rattle.grs_report.specs.Report.{report};
 ghost use Rattle.grs_wire.specs.Decks.{IsDeck};
-ghost use Rattle.grs_top.specs.Due.{fault_line, IsTextOf, IsDue};
+ghost use Rattle.grs_top.specs.Due.{fault_line, IsDue};
+ghost use Rattle.grs_top.specs.Texts.{IsReported, IsRunToRest, IsListed};
 
 use super::Status;
 use super::beside::seen_of;
@@ -13,7 +14,7 @@ use super::laws::{merged_rests, merged_runs};
 use super::lists::lists_text;
 use super::seen::seen_by_replay;
 use super::words::Command;
-use grs_base::{DeckFault, List, NoMemory, ReadError};
+use grs_base::{List, NoMemory, ReadError};
 use grs_deck::read_deck;
 use grs_report::{all_ended, report};
 use grs_wire::{Deck, Seen};
@@ -52,7 +53,7 @@ fn report_due(alloc: Global, deck: &Deck, seen: &Seen) -> Result<Due, NoMemory>
 /// The report of the run of a deck's events.
 fn replayed(alloc: Global, deck: &Deck) -> Result<Due, NoMemory>
     requires { IsDeck deck.now }
-    ensures { IfOk result (λ due. IsTextOf Command.Replay deck.now due.out due.status) }
+    ensures { IfOk result (λ due. IsReported deck.now deck.now.events due.out due.status) }
 {
     runs_are_sound();
     passed_is_told();
@@ -69,7 +70,7 @@ pub(crate) fn ran<R: Threads + Wait + Sync, G: Gate + Sync>(
     gate: &G,
 ) -> Result<Due, NoMemory>
     requires { IsDeck deck.now }
-    ensures { IfOk result (λ due. IsTextOf Command.Run deck.now due.out due.status) }
+    ensures { IfOk result (λ due. IsRunToRest deck.now due.out due.status) }
 {
     runs_are_sound();
     passed_is_told();
@@ -82,20 +83,22 @@ pub(crate) fn ran<R: Threads + Wait + Sync, G: Gate + Sync>(
     report_due(alloc, deck, &seen)
 }
 
-fn refused(alloc: Global, fault: DeckFault) -> Result<Due, NoMemory>
-    ensures out { IfOk result (λ due. due.out ≡ fault_line fault) }
-    ensures status { IfOk result (λ due. due.status ≡ Status.Deck) }
+/// What a text is answered by of which nothing could be read.
+fn refused(alloc: Global, error: ReadError) -> Result<Due, NoMemory>
+    ensures { IfOk result (λ due. (fault : _) × (error ≡ ReadError.Fault fault) × (due.out ≡ fault_line fault) × (due.status ≡ Status.Deck)) }
 {
-    let out = fault_line(alloc, fault)?;
-    Ok(Due {
-        out,
-        status: Status::Deck,
-    })
+    match error {
+        ReadError::Fault(fault) => Ok(Due {
+            out: fault_line(alloc, fault)?,
+            status: Status::Deck,
+        }),
+        ReadError::NoMemory => Err(NoMemory),
+    }
 }
 
 /// The name lists of a deck.
 fn listed(alloc: Global, deck: &Deck) -> Result<Due, NoMemory>
-    ensures { IfOk result (λ due. IsTextOf Command.Lists deck.now due.out due.status) }
+    ensures { IfOk result (λ due. IsListed deck.now due.out due.status) }
 {
     let out = lists_text(alloc, deck)?;
     Ok(Due {
@@ -104,33 +107,17 @@ fn listed(alloc: Global, deck: &Deck) -> Result<Due, NoMemory>
     })
 }
 
-/// What a command writes for a deck that waits for nobody.
-fn answered(alloc: Global, command: Command, deck: &Deck) -> Result<Due, NoMemory>
-    requires deck { IsDeck deck.now }
-    requires alone { command ≢ Command.Run }
-    ensures { IfOk result (λ due. IsTextOf command deck.now due.out due.status) }
-{
-    match command {
-        Command::Replay => replayed(alloc, deck),
-        Command::Lists => listed(alloc, deck),
-        Command::Run => unreachable!(),
-    }
-}
-
-/// What a text is answered by, by a command that waits for nobody.
-#[tactic(none)]
-pub(crate) fn due_for(alloc: Global, command: Command, text: &[u8]) -> Result<Due, NoMemory>
-    requires { command ≢ Command.Run }
-    ensures { IfOk result (λ due. IsDue command text.now due.out due.status) }
+/// What a text is answered by under `replay`.
+pub(crate) fn due_by_replay(alloc: Global, text: &[u8]) -> Result<Due, NoMemory>
+    ensures { IfOk result (λ due. IsDue Command.Replay text.now due.out due.status) }
 {
     match read_deck(alloc, text) {
-        Ok(deck) => answered(alloc, command, &deck),
-        Err(ReadError::Fault(fault)) => refused(alloc, fault),
-        Err(ReadError::NoMemory) => Err(NoMemory),
+        Ok(deck) => replayed(alloc, &deck),
+        Err(error) => refused(alloc, error),
     }
 }
 
-/// What a text is answered by where its systems run beside each other.
+/// What a text is answered by under `run`, which waits for the systems of its deck.
 pub(crate) fn due_by_run<R: Threads + Wait + Sync, G: Gate + Sync>(
     rt: &R,
     alloc: Global,
@@ -141,7 +128,16 @@ pub(crate) fn due_by_run<R: Threads + Wait + Sync, G: Gate + Sync>(
 {
     match read_deck(alloc, text) {
         Ok(deck) => ran(rt, alloc, &deck, gate),
-        Err(ReadError::Fault(fault)) => refused(alloc, fault),
-        Err(ReadError::NoMemory) => Err(NoMemory),
+        Err(error) => refused(alloc, error),
+    }
+}
+
+/// What a text is answered by under `lists`.
+pub(crate) fn due_by_lists(alloc: Global, text: &[u8]) -> Result<Due, NoMemory>
+    ensures { IfOk result (λ due. IsDue Command.Lists text.now due.out due.status) }
+{
+    match read_deck(alloc, text) {
+        Ok(deck) => listed(alloc, &deck),
+        Err(error) => refused(alloc, error),
     }
 }

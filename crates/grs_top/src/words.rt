@@ -19,8 +19,8 @@ pub enum Command {
 /// What the words after the program's name ask for.
 #[derive(Clone, Copy, Debug, PartialEq, Eq)]
 pub enum Form {
-    /// A command on a deck that is read.
-    OfDeck(Command),
+    /// A command on a text that is read.
+    OfText(Command),
     /// The run of the deck that is made from this number, which is one from 1 to 64.
     Generate(u32),
 }
@@ -80,7 +80,7 @@ pub(crate) fn form_of(words: &[String]) -> Option<Form>
     ensures { result ≡ form_of (map string_bytes words.now) }
 {
     match words {
-        [word] => command_named(word.as_bytes()).map(Form::OfDeck),
+        [word] => command_named(word.as_bytes()).map(Form::OfText),
         [word, number] => form_of_two(word.as_bytes(), number.as_bytes()),
         _ => None,
     }

@@ -1,0 +1,37 @@
+-- What is written of a deck, and the status where all of it is.
+use Rattle.std.specs.Prelude.{◌≡◌, ℕ, true, List}
+use Rattle.grs_wire.specs.declared.deck.Deck.{Deck as DeckValue}
+use Rattle.grs_wire.specs.declared.deck.Event.{Event}
+use Rattle.grs_world.specs.Agree.{Sound}
+use Rattle.grs_world.specs.AtRest.{NothingIsLost}
+use Rattle.grs_world.specs.Passed.{PassedIsTold}
+use Rattle.grs_world.specs.Removing.{RemovedTellNothing}
+use Rattle.grs_world.specs.Running.{at_rest}
+use Rattle.grs_world.specs.World.{first_world, run}
+use Rattle.grs_top.specs.declared.status.Status.{Status}
+use Rattle.grs_top.specs.declared.status.Status.TheVariants.{Done}
+use Rattle.grs_top.specs.Beside.{AllDo}
+use Rattle.grs_top.specs.Lists.{lists_text}
+use Rattle.grs_top.specs.Seen.{report_of, ending}
+
+-- The run of these events is sound, what is passed in it is told, and removed systems tell nothing; its report is
+-- written, and the status says how the run ends.
+pub record IsReported (deck : DeckValue) (es : List Event) (out : List ℕ) (status : Status) : Type 0 where
+  pub whole : out ≡ report_of deck es
+  pub ends : status ≡ ending deck es
+  pub sound : Sound deck es
+  pub passed : PassedIsTold deck es
+  pub silent : RemovedTellNothing deck es
+
+-- The same of events that systems made beside each other: each has something to do where it stands, and in the end the
+-- world is at rest, and nothing is lost.
+pub record IsRunToRest (deck : DeckValue) (out : List ℕ) (status : Status) : Type 0 where
+  pub events : List Event
+  pub all_do : AllDo deck (first_world deck) events
+  pub reported : IsReported deck events out status
+  pub rest : at_rest deck (run deck events) ≡ true
+  pub nothing_lost : NothingIsLost deck events
+
+-- The deck's name lists are written, and there is nothing to wait for.
+abbrev pub IsListed : DeckValue → List ℕ → Status → Type 0
+IsListed deck out status = (out ≡ lists_text deck) × (status ≡ Done)
