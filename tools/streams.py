@@ -1,0 +1,45 @@
+"""What the scripts read and write, where a stream may be closed, full or cut off."""
+import contextlib
+import os
+import sys
+
+
+class Failed(Exception):
+    """A script ends with a status, and says why in a sentence."""
+
+    def __init__(self, status, why):
+        super().__init__(why)
+        self.status = status
+
+
+def take(name=None, most=-1):
+    """The bytes of a file, or of standard input without a name or with the name -; at most so many."""
+    name = None if name == "-" else name
+    try:
+        with open(0 if name is None else name, "rb", closefd=name is not None) as file:
+            return file.read(most)
+    except OSError as why:
+        raise Failed(16, "%s: %s" % ("standard input" if name is None else name or "''", why.strerror)) from None
+
+
+def give(text, encoding="utf-8"):
+    """Writes a text to standard output."""
+    rest = memoryview(text.encode(encoding, "replace"))
+    try:
+        while rest:
+            rest = rest[os.write(1, rest):]
+    except OSError as why:
+        raise Failed(20, "the text could not be written whole: %s" % why.strerror) from None
+
+
+def run(name, main):
+    """Runs a script by its words, and ends with its status."""
+    try:
+        status = main(sys.argv[1:])
+    except Failed as why:
+        status = why.status
+        with contextlib.suppress(OSError):
+            os.write(2, ("%s: %s\n" % (name, why)).encode("utf-8", "replace"))
+    except KeyboardInterrupt:
+        status = 130
+    sys.exit(status)
