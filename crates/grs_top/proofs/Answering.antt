@@ -14,6 +14,7 @@ use Rattle.grs_top.specs.declared.words.Command.TheVariants.{Replay, Run, Lists}
 use Rattle.grs_top.specs.Seen.{seen_of_run, ending}
 use Rattle.grs_top.specs.Commands.{limit_of, InputOf, SpellsInput, IsTextOf, EndsRun, EndsDone, EndsBy, NamesStatus}
 use Rattle.grs_top.specs.Due.{IsAnswered, IsDue}
+use Rattle.grs_top.specs.Schedules.{unscheduled}
 use Rattle.grs_top.specs.Answers.{Streams, TakesAll, ReadsDue, Writes, Answers, Completes}
 
 -- a front that is shorter than was asked for is all
@@ -39,8 +40,8 @@ ending_ends d es s e = ends_run (all_ended (seen_of_run d es).ended) s e
 
 -- what a command writes tells how it ends
 ends_by : (c : Command) (x : InputOf c) (out : List ℕ) (s : Status) → IsTextOf c x out s → EndsBy c s
-ends_by Replay d out s is = ending_ends d d.events s is.ends
-ends_by Run d out s is = ending_ends d is.events s is.reported.ends
+ends_by Replay d out s is = ending_ends (unscheduled d) d.events s is.ends
+ends_by Run d out s is = ending_ends (unscheduled d) is.events s is.reported.ends
 ends_by Lists d out s is = subst (EndsBy Lists) (sym is.1) tt
 
 -- what is spelled is short

@@ -1,5 +1,5 @@
 -- What is due for a text, by what its reading answers.
-use Rattle.std.proofs.Common.{◌≡◌, ℕ, true, List, length, ap, sym, subst, ◌∙◌, inl, inr, Result, Ok, Err, IfOk}
+use Rattle.std.proofs.Common.{◌≡◌, ℕ, true, List, [], length, ap, sym, subst, ◌∙◌, inl, inr, Result, Ok, Err, IfOk}
 use Rattle.std.proofs.Common.{if◌then◌else◌}
 use Rattle.grs_base.specs.declared.fault.DeckFault.{DeckFault}
 use Rattle.grs_base.specs.declared.fault.ReadError.{ReadError}
@@ -10,7 +10,8 @@ use Rattle.grs_medium.specs.Medium.{MediumState}
 use Rattle.grs_node.specs.Log.{NodeView}
 use Rattle.grs_report.specs.Ends.{all_ended}
 use Rattle.grs_report.specs.Report.{report}
-use Rattle.grs_wire.specs.Decks.{AreOrders, IsDeck}
+use Rattle.std.proofs.lemmas.List.Elements.{All-nil}
+use Rattle.grs_wire.specs.Decks.{AreOrders, IsDeck, IsEventOf}
 use Rattle.grs_wire.specs.declared.deck.Deck.{Deck as DeckValue}
 use Rattle.grs_wire.specs.declared.deck.Event.{Event}
 use Rattle.grs_wire.specs.declared.medium.JEntry.{JEntry}
@@ -26,11 +27,13 @@ use Rattle.grs_world.specs.World.{first_world, run}
 use Rattle.grs_top.specs.Beside.{AllDo, logs_of, MergedRuns, MergedRests}
 use Rattle.grs_top.specs.Commands.{InputOf, SpellsInput, IsFaultOf, IsTextOf}
 use Rattle.grs_top.specs.Due.{fault_line, IsDue}
+use Rattle.grs_top.specs.Schedules.{unscheduled}
 use Rattle.grs_top.specs.Texts.{IsReported, IsRunToRest}
 use Rattle.grs_top.specs.Seen.{seen_of_run, report_of, ending}
 use Rattle.grs_top.specs.declared.due.Due.{Due}
 use Rattle.grs_top.specs.declared.status.Status.TheVariants.{Deck, Done, Waits}
 use Rattle.grs_top.specs.declared.words.Command.{Command}
+use Rattle.grs_top.specs.declared.words.Command.TheVariants.{Replay, Run}
 
 pub answered_due : {E : Type 0} (c : Command) (text : List ℕ) (x : InputOf c) (r : Result Due E) → SpellsInput c text x
     → IfOk r (λ due. IsTextOf c x due.out due.status) → IfOk r (λ due. IsDue c text due.out due.status)
@@ -54,6 +57,38 @@ pub first_fault : (text : List ℕ) (error : ReadError) → AnswersDeck (Err err
     → (f : DeckFault) → error ≡ read_errors.Fault f → IsFault text f
 first_fault text error exact f is = subst (λ (e : ReadError). AnswersDeck (Err e) text) is exact
 
+-- a deck without its schedule is a deck
+pub bare_deck : (d : DeckValue) → IsDeck d → IsDeck (unscheduled d)
+bare_deck d h = record {
+  some = h.some;
+  fits = h.fits;
+  names = h.names;
+  once = h.once;
+  orders = h.orders;
+  lines = h.lines;
+  entries = h.entries;
+  limit = h.limit;
+  lists = h.lists;
+  named = h.named;
+  events = All-nil (IsEventOf d.systems d.entries);
+}
+
+-- what is written of a deck apart from its schedule is what the command writes for it
+pub replayed_apart :
+    {E : Type 0} (deck bare : DeckValue) (es : List Event) (r : Result Due E) → bare ≡ unscheduled deck
+    → es ≡ deck.events → IfOk r (λ due. IsReported bare es due.out due.status)
+    → IfOk r (λ due. IsTextOf Replay deck due.out due.status)
+replayed_apart deck bare es (Ok due) is events done =
+    subst (λ (d : DeckValue). IsReported d deck.events due.out due.status) is
+    (subst (λ (xs : List Event). IsReported bare xs due.out due.status) events done)
+replayed_apart deck bare es (Err e) is events done = tt
+
+pub ran_apart :
+    {E : Type 0} (deck bare : DeckValue) (r : Result Due E) → bare ≡ unscheduled deck
+    → IfOk r (λ due. IsRunToRest bare due.out due.status) → IfOk r (λ due. IsTextOf Run deck due.out due.status)
+ran_apart deck bare (Ok due) is done = subst (λ (d : DeckValue). IsRunToRest d due.out due.status) is done
+ran_apart deck bare (Err e) is done = tt
+
 -- ---- the report of a run, by what is seen of it
 
 -- what holds of every run of a deck that keeps its bounds and whose desks order what they may
@@ -66,21 +101,21 @@ of_deck : (P : DeckValue → List Event → Type 0) → OfRuns P → (d : DeckVa
 of_deck P holds d whole es =
     holds d (λ star. record { few = whole.fits.few; entries = whole.entries }) whole.orders es
 
-pub replay_due : {E : Type 0} (d : DeckValue) (seen : Seen) (r : Result Due E) → IsDeck d
+pub replay_due : {E : Type 0} (d : DeckValue) (es : List Event) (seen : Seen) (r : Result Due E) → IsDeck d
     → OfRuns Sound → OfRuns PassedIsTold → ((deck : DeckValue) (es : List Event) → RemovedTellNothing deck es)
-    → seen ≡ seen_of_run d d.events
+    → seen ≡ seen_of_run d es
     → IfOk r (λ due. due.out ≡ report d seen)
     → IfOk r (λ due. due.status ≡ (if all_ended seen.ended then Done else Waits))
-    → IfOk r (λ due. IsReported d d.events due.out due.status)
+    → IfOk r (λ due. IsReported d es due.out due.status)
 unfolding report_of ending
-replay_due d seen (Ok due) whole sound passed silent is out status = record {
+replay_due d es seen (Ok due) whole sound passed silent is out status = record {
   whole = out ∙ ap (report d) is;
   ends = status ∙ ap (λ (x : Seen). if all_ended x.ended then Done else Waits) is;
-  sound = of_deck Sound sound d whole d.events;
-  passed = of_deck PassedIsTold passed d whole d.events;
-  silent = silent d d.events;
+  sound = of_deck Sound sound d whole es;
+  passed = of_deck PassedIsTold passed d whole es;
+  silent = silent d es;
 }
-replay_due d seen (Err e) whole sound passed silent is out status = tt
+replay_due d es seen (Err e) whole sound passed silent is out status = tt
 
 pub run_due :
     {E : Type 0} (d : DeckValue) (m : MediumState) (journal slice : List JEntry) (vs : List NodeView) (seen : Seen)

@@ -7,6 +7,7 @@ pub mod OfDeck
 pub mod Doers
 pub mod ScheduleTexts
 pub mod ReadBack
+pub mod Replayed
 pub mod OneHistory
 pub mod OneItem
 mod Samples

@@ -10,6 +10,7 @@ use Rattle.grs_top.specs.declared.status.Status.{Status}
 use Rattle.grs_top.specs.declared.status.Status.TheVariants.{Done, Waits, Deck, Words, ReadFault, WriteFault, NoMemory}
 use Rattle.grs_top.specs.declared.words.Command.{Command}
 use Rattle.grs_top.specs.declared.words.Command.TheVariants.{Replay, Run, Lists}
+use Rattle.grs_top.specs.Schedules.{unscheduled}
 use Rattle.grs_top.specs.Texts.{IsReported, IsRunToRest, IsListed}
 
 -- how many bytes the text of a command may have
@@ -37,11 +38,11 @@ IsFaultOf Run = IsFault
 IsFaultOf Lists = IsFault
 
 -- What a command writes for what its text spells, and how it ends that has written all of it. `replay` reports the run
--- of the deck's events, and `run` that of events that it makes, until all systems have come to rest. `lists` writes the
--- deck's name lists.
+-- of the deck's events, and `run` that of events that it makes, whatever the deck's own are, until all systems have come
+-- to rest. `lists` writes the deck's name lists.
 abbrev pub IsTextOf : (c : Command) → InputOf c → List ℕ → Status → Type 0
-IsTextOf Replay deck out status = IsReported deck deck.events out status
-IsTextOf Run deck out status = IsRunToRest deck out status
+IsTextOf Replay deck out status = IsReported (unscheduled deck) deck.events out status
+IsTextOf Run deck out status = IsRunToRest (unscheduled deck) out status
 IsTextOf Lists deck out status = IsListed deck out status
 
 -- A run ends with each task ended or removed with its system, or with somebody who waits.

@@ -8,6 +8,7 @@ pub mod Schedules
 pub mod Texts
 pub mod Commands
 pub mod Due
+pub mod Replayed
 pub mod OneHistory
 pub mod Answers
 pub mod Generated

@@ -5,6 +5,7 @@ ghost use Rattle.grs_report.specs.Ends.{all_ended};
 ghost use Rattle.grs_report.specs.Report.{report};
 ghost use Rattle.grs_wire.specs.Decks.{IsDeck};
 ghost use Rattle.grs_top.specs.Due.{fault_line, IsDue};
+ghost use Rattle.grs_top.specs.Schedules.{unscheduled};
 ghost use Rattle.grs_top.specs.Texts.{IsReported, IsRunToRest, IsListed};
 
 use super::Status;
@@ -17,7 +18,7 @@ use super::words::Command;
 use grs_base::{List, NoMemory, ReadError};
 use grs_deck::read_deck;
 use grs_report::{all_ended, report};
-use grs_wire::{Deck, Seen};
+use grs_wire::{Deck, Event, Seen};
 use grs_workers::{Gate, run_workers};
 use grs_world::laws::{passed_is_told, removed_tell_nothing, rests_in_the_end, runs_are_sound};
 use std::alloc::Global;
@@ -50,15 +51,41 @@ fn report_due(alloc: Global, deck: &Deck, seen: &Seen) -> Result<Due, NoMemory>
     })
 }
 
-/// The report of the run of a deck's events.
-fn replayed(alloc: Global, deck: &Deck) -> Result<Due, NoMemory>
+/// A deck without its schedule, and the events that stood there.
+fn set_apart(alloc: Global, deck: Deck) -> (Deck, List<Event>)
+    requires { IsDeck deck }
+    ensures deck { result.0 ≡ unscheduled deck }
+    ensures events { result.1 ≡ deck.events }
+    ensures fits { IsDeck result.0 }
+{
+    let Deck {
+        star,
+        entries,
+        limit,
+        lists,
+        systems,
+        events,
+    } = deck;
+    let bare = Deck {
+        star,
+        entries,
+        limit,
+        lists,
+        systems,
+        events: List::new(alloc),
+    };
+    (bare, events)
+}
+
+/// The report of the run of these events.
+fn replayed(alloc: Global, deck: &Deck, events: List<Event>) -> Result<Due, NoMemory>
     requires { IsDeck deck.now }
-    ensures { IfOk result (λ due. IsReported deck.now deck.now.events due.out due.status) }
+    ensures { IfOk result (λ due. IsReported deck.now events due.out due.status) }
 {
     runs_are_sound();
     passed_is_told();
     removed_tell_nothing();
-    let seen = seen_by_replay(alloc, deck)?;
+    let seen = seen_by_replay(alloc, deck, events)?;
     report_due(alloc, deck, &seen)
 }
 
@@ -112,7 +139,10 @@ pub(crate) fn due_by_replay(alloc: Global, text: &[u8]) -> Result<Due, NoMemory>
     ensures { IfOk result (λ due. IsDue Command.Replay text.now due.out due.status) }
 {
     match read_deck(alloc, text) {
-        Ok(deck) => replayed(alloc, &deck),
+        Ok(deck) => {
+            let (bare, events) = set_apart(alloc, deck);
+            replayed(alloc, &bare, events)
+        }
         Err(error) => refused(alloc, error),
     }
 }
@@ -127,7 +157,10 @@ pub(crate) fn due_by_run<R: Threads + Wait + Sync, G: Gate + Sync>(
     ensures { IfOk result (λ due. IsDue Command.Run text.now due.out due.status) }
 {
     match read_deck(alloc, text) {
-        Ok(deck) => ran(rt, alloc, &deck, gate),
+        Ok(deck) => {
+            let (bare, _events) = set_apart(alloc, deck);
+            ran(rt, alloc, &bare, gate)
+        }
         Err(error) => refused(alloc, error),
     }
 }

@@ -3,6 +3,7 @@
 ghost use Rattle.grs_top.specs.Beside.{MergedRuns, MergedRests};
 ghost use Rattle.grs_top.specs.Generated.{LineUnlessMemory, GeneratedRuns};
 ghost use Rattle.grs_top.specs.OneHistory.{AnswersShowHistories};
+ghost use Rattle.grs_top.specs.Replayed.{RunsAreReplayed};
 ghost use Rattle.grs_top.specs.Schedules.{DoersAreOfDeck, SchedulesReadBack};
 ghost use Rattle.grs_top.specs.Whole.{WholeUnlessMemory, RefusedUnlessMemory, FaultsAreFailedCalls};
 
@@ -65,6 +66,16 @@ pub fn schedules_read_back()
 {
     one_deck();
     printed_events();
+}
+
+/// What `run` wrote for a deck has the schedule of its run, and `replay` of the deck with these lines in place of its own schedule
+/// writes the same bytes and ends by the same status, where that text isn't too long.
+pub fn runs_are_replayed()
+    ensures { RunsAreReplayed }
+{
+    one_deck();
+    doers_are_of_deck();
+    schedules_read_back();
 }
 
 /// A sink is given the whole line of a number, unless a write fails or memory is wanted.

@@ -1,4 +1,4 @@
-//! What the report of a deck shows: the run of the deck's events, its history, and where that leaves the
+//! What the report of a deck shows: the run of events, its history, and where that leaves the
 //! lists and the tasks.
 ghost use Rattle.std.specs.Prelude.{◌≡◌, IfOk};
 ghost use Rattle.grs_wire.specs.Decks.{IsDeck};
@@ -11,7 +11,7 @@ ghost use Rattle.grs_top.specs.Seen.{seen_of_run};
 use super::ends::ends_of;
 use grs_base::{List, NoMemory, SysId, TaskId};
 use grs_history::{answers, queues_after};
-use grs_wire::{Deck, HistEntry, Seen, TaskEnd, Told};
+use grs_wire::{Deck, Event, HistEntry, Seen, TaskEnd, Told};
 use grs_world::replay;
 use std::alloc::Global;
 
@@ -27,17 +27,17 @@ struct Run {
     ended: List<(TaskId, TaskEnd)>,
 }
 
-/// The run of a deck's events.
-fn run_of(alloc: Global, deck: &Deck) -> Result<Run, NoMemory>
+/// The run of these events.
+fn run_of(alloc: Global, deck: &Deck, events: &[Event]) -> Result<Run, NoMemory>
     requires { IsDeck deck.now }
-    ensures hist { IfOk result (λ seen. seen.hist ≡ hist deck.now deck.now.events) }
-    ensures told { IfOk result (λ seen. seen.told ≡ told deck.now deck.now.events) }
-    ensures units { IfOk result (λ seen. seen.units ≡ units_of (run deck.now deck.now.events).nodes) }
-    ensures words { IfOk result (λ seen. seen.words ≡ (run deck.now deck.now.events).medium.words) }
-    ensures star { IfOk result (λ seen. seen.star ≡ (run deck.now deck.now.events).medium.star) }
-    ensures ended { IfOk result (λ seen. seen.ended ≡ ends_at (run deck.now deck.now.events).medium.removed (run deck.now deck.now.events).nodes (tasks_of deck.now)) }
+    ensures hist { IfOk result (λ seen. seen.hist ≡ hist deck.now events.now) }
+    ensures told { IfOk result (λ seen. seen.told ≡ told deck.now events.now) }
+    ensures units { IfOk result (λ seen. seen.units ≡ units_of (run deck.now events.now).nodes) }
+    ensures words { IfOk result (λ seen. seen.words ≡ (run deck.now events.now).medium.words) }
+    ensures star { IfOk result (λ seen. seen.star ≡ (run deck.now events.now).medium.star) }
+    ensures ended { IfOk result (λ seen. seen.ended ≡ ends_at (run deck.now events.now).medium.removed (run deck.now events.now).nodes (tasks_of deck.now)) }
 {
-    let world = replay(alloc, deck, deck.events.as_slice())?;
+    let world = replay(alloc, deck, events)?;
     let units = world.units()?;
     let words = world.medium().words().copy(alloc)?;
     let star = world.medium().star();
@@ -54,19 +54,18 @@ fn run_of(alloc: Global, deck: &Deck) -> Result<Run, NoMemory>
     })
 }
 
-/// What the run of a deck's events shows.
+/// What the run of these events shows.
 ///
 /// # Errors
 ///
 /// `NoMemory` where there was no memory for the run or for what it shows.
 #[tactic(auto, unfolding(crate::specs::Seen::seen_of_run))]
-pub fn seen_by_replay(alloc: Global, deck: &Deck) -> Result<Seen, NoMemory>
+pub fn seen_by_replay(alloc: Global, deck: &Deck, events: List<Event>) -> Result<Seen, NoMemory>
     requires { IsDeck deck.now }
-    ensures { IfOk result (λ seen. seen ≡ seen_of_run deck.now deck.now.events) }
+    ensures { IfOk result (λ seen. seen ≡ seen_of_run deck.now events) }
 {
-    let run = run_of(alloc, deck)?;
+    let run = run_of(alloc, deck, events.as_slice())?;
     let queues = queues_after(alloc, run.hist.as_slice(), deck.limit)?;
-    let events = deck.events.copy(alloc)?;
     Ok(Seen {
         events,
         hist: run.hist,

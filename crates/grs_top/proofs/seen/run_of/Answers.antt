@@ -5,15 +5,14 @@ pub returns-clause-hist : goal.returns-clause-hist
 returns-clause-hist c =
     rw (
       c.in_ok-hist.ensures,
-      c.as_slice-2.ensures,
+      c.as_slice.ensures,
       c.into_log-log.ensures.fixed,
       c.in_ok-world.ensures,
-      c.as_slice.ensures,
     )
     refl
 
 pub returns-clause-told : goal.returns-clause-told
-returns-clause-told c = rw (c.into_log-log.ensures.told, c.in_ok-world.ensures, c.as_slice.ensures) refl
+returns-clause-told c = rw (c.into_log-log.ensures.told, c.in_ok-world.ensures) refl
 
 pub returns-clause-ended : goal.returns-clause-ended
 returns-clause-ended c =
@@ -23,16 +22,15 @@ returns-clause-ended c =
       c.medium-3.ensures,
       c.nodes.ensures.nodes,
       c.in_ok-world.ensures,
-      c.as_slice.ensures,
     )
     refl
 
 pub returns-clause-units : goal.returns-clause-units
-returns-clause-units c = rw (c.in_ok-units.ensures, c.in_ok-world.ensures, c.as_slice.ensures) refl
+returns-clause-units c = rw (c.in_ok-units.ensures, c.in_ok-world.ensures) refl
 
 pub returns-clause-words : goal.returns-clause-words
 returns-clause-words c =
-    rw (c.in_ok-words.ensures, c.words.ensures, c.medium.ensures, c.in_ok-world.ensures, c.as_slice.ensures) refl
+    rw (c.in_ok-words.ensures, c.words.ensures, c.medium.ensures, c.in_ok-world.ensures) refl
 
 pub returns-clause-star : goal.returns-clause-star
-returns-clause-star c = rw (c.star-star.ensures, c.medium-2.ensures, c.in_ok-world.ensures, c.as_slice.ensures) refl
+returns-clause-star c = rw (c.star-star.ensures, c.medium-2.ensures, c.in_ok-world.ensures) refl

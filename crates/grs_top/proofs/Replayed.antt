@@ -1,0 +1,81 @@
+-- What `run` did, `replay` does again by the schedule that was printed.
+use Rattle.std.proofs.Common.{◌≡◌, ℕ, List, [], ◌∷◌, ◌++◌, length, ap, sym, ◌∙◌, append_assoc, append-nil}
+use Rattle.std.specs.Prelude.{All, codes}
+use Rattle.std.specs.Fmt.{decimal}
+use Rattle.grs_wire.specs.Decks.{IsDeck, IsEventOf}
+use Rattle.grs_wire.specs.declared.deck.Deck.{Deck}
+use Rattle.grs_wire.specs.declared.deck.Event.{Event}
+use Rattle.grs_wire.specs.declared.seen.Names.{Names}
+use Rattle.grs_wire.specs.declared.seen.Seen.{Seen}
+use Rattle.grs_deck.specs.Spells.{SpellsDeck}
+use Rattle.grs_display.specs.Lines.{line}
+use Rattle.grs_display.specs.Names.{names_of}
+use Rattle.grs_report.specs.Ends.{all_ended}
+use Rattle.grs_report.specs.History.{history_text}
+use Rattle.grs_report.specs.Report.{head_line, end_line, report}
+use Rattle.grs_report.specs.Schedule.{schedule_text}
+use Rattle.grs_report.specs.State.{queues_text, units_text, words_text, mode_line}
+use Rattle.grs_report.specs.Told.{told_text}
+use Rattle.grs_top.specs.Replayed.{RunsAreReplayed, StandsIn}
+use Rattle.grs_top.specs.Schedules.{DoersAreOfDeck, SchedulesReadBack, printed, unscheduled}
+use Rattle.grs_top.specs.Seen.{report_of, seen_of_run}
+
+-- parts put behind a text, one behind the other
+abbrev joined : List ℕ → List (List ℕ) → List ℕ
+joined text [] = text
+joined text (part ∷ parts) = joined (text ++ part) parts
+
+in_longer : (text before part behind more : List ℕ) → text ≡ before ++ (part ++ behind)
+    → text ++ more ≡ before ++ (part ++ (behind ++ more))
+in_longer text before part behind more h =
+    ap (λ xs. xs ++ more) h
+    ∙ append_assoc before (part ++ behind) more
+    ∙ ap (λ xs. before ++ xs) (append_assoc part behind more)
+
+-- what stands in a text stands there whatever is put behind it
+in_joined : (parts : List (List ℕ)) (text before part behind : List ℕ) → text ≡ before ++ (part ++ behind)
+    → StandsIn part (joined text parts)
+in_joined [] text before part behind h = (before, behind, h)
+in_joined (more ∷ parts) text before part behind h =
+    in_joined parts (text ++ more) before part (behind ++ more) (in_longer text before part behind more h)
+
+at_end : (head first part : List ℕ) → head ++ (first ++ part) ≡ (head ++ first) ++ (part ++ [])
+at_end head first part =
+    sym (append_assoc head first part) ∙ ap (λ xs. (head ++ first) ++ xs) (sym (append-nil part))
+
+-- a report has the printed lines of its events
+stands : (deck : Deck) (es : List Event) → StandsIn (printed deck es) (report_of (unscheduled deck) es)
+unfolding report_of seen_of_run report schedule_text names_of
+stands deck es =
+    let bare : Deck = unscheduled deck in
+    let names : Names = names_of bare in
+    let seen : Seen = seen_of_run bare es in
+    let first : List ℕ = line (codes "SCHEDULE" ∷ decimal (length es) ∷ []) in
+    in_joined
+    (
+    history_text names seen.hist
+    ∷ told_text names seen.told seen.ended bare.systems
+    ∷ queues_text names seen.queues
+    ∷ units_text names seen.units
+    ∷ words_text names seen.words
+    ∷ mode_line seen.star
+    ∷ end_line (all_ended seen.ended)
+    ∷ [])
+    (head_line ++ (first ++ printed deck es)) (head_line ++ first) (printed deck es) []
+    (at_end head_line first (printed deck es))
+
+pub runs_are_replayed :
+    ((text : List ℕ) (d : Deck) → SpellsDeck text d → IsDeck d) → DoersAreOfDeck → SchedulesReadBack → RunsAreReplayed
+runs_are_replayed whole doers back text out front status a at short =
+    let deck : Deck = a.input in
+    let bare : IsDeck (unscheduled deck) = whole front (unscheduled deck) at.spelled in
+    let own : All (IsEventOf deck.systems deck.entries) a.is_text.events =
+    doers (unscheduled deck) a.is_text.events bare a.is_text.all_do in
+    let shown = stands deck a.is_text.events in (
+      (shown.0, shown.1, a.is_text.reported.whole ∙ shown.2),
+      record {
+        input = record deck { events = a.is_text.events };
+        spelled = back front deck a.is_text.events at own short;
+        is_text = a.is_text.reported;
+      },
+    )
