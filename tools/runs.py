@@ -719,6 +719,8 @@ class Says:
         held = sorted((at, resource) for at, (lists, _) in node.managed.items() for resource in lists.of)
         if entry not in node.managed and held:
             return "%s; %s is in entry %d" % (said, resource_text(self.run, held[0][1]), held[0][0])
+        if entry not in node.managed and node.managed:
+            return "%s; it manages %s" % (said, ", ".join(map(str, sorted(node.managed))))
         return said
 
     def no_interest(self, node, entry):
