@@ -32,7 +32,7 @@ BeginsOtherwise (Word w ∷ ts) = (a : Ask) → w ≡ ask_word a → ⊥
 BeginsOtherwise (Unclosed ∷ ts) = ⊥
 BeginsOtherwise _ = Unit {0}
 
--- Its first word is no word of a call.
+-- Its first word is no word of a call, or a token other than an opening parenthesis stands directly behind it.
 abbrev pub NoWord : TokenLine → Type 0
 NoWord l = (l.joined ≡ true) ⊎ BeginsOtherwise l.tokens
 

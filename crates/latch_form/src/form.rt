@@ -213,8 +213,9 @@ fn formed<'a, 't>(verb: Option<Verb>, ts: &'a [Token<'t>]) -> Result<GivenCall<'
     }
 }
 
-/// The call that a line spells. A line whose first word is no word of a call is `UnknownStatement`, also where something
-/// else stands directly behind that word; any other line that spells none is `BadOperand`.
+/// The call that a line spells. A line that doesn't begin with a word of a call is `UnknownStatement`, and so is one on
+/// which a token other than an opening parenthesis stands directly behind that word; any other line that spells none is
+/// `BadOperand`, a comment that isn't closed among them.
 #[tactic(auto, unfolding(crate::specs::Form::form))]
 pub fn call_of<'a, 't>(line: &'a TokenLine<'t>) -> Result<GivenCall<'a>, Kind>
     ensures { result ≡ form line.now }

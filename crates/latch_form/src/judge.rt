@@ -9,14 +9,14 @@ use grs_latch::LatchCall;
 /// The most calls of a text.
 const MOST_CALLS: usize = 16_384;
 
-/// The most calls of a text that make a set.
+/// The most calls of a text that are to make a set.
 const MOST_SETS: u32 = 64;
 
 /// The calls that were read so far.
 #[derive(Drop)]
 pub struct Draft {
     pub calls: List<LatchCall>,
-    /// How many of them make a set.
+    /// How many of them are to make a set.
     pub made: u32,
 }
 

@@ -1,4 +1,5 @@
-//! Reads calls of latches from a text, one a line. It knows the forms of calls, and nothing of what they do.
+//! Reads calls of latches from a text, one a line. It knows the forms of calls and how many there may be, and carries
+//! none out.
 #![tactic(auto)]
 
 mod form;

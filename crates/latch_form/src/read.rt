@@ -125,9 +125,11 @@ fn read_all(alloc: Global, text: &[u8]) -> Result<List<LatchCall>, ReadError>
 /// must; all requests of requestor 7 are taken out. Blanks and comments are those of decks.
 ///
 /// `TooLong` is told with line 0, `BadByte` with the line of the first such byte, and any other kind with the first
-/// faulty line: `UnknownStatement` where it begins with no word of a call, else `BadOperand` where its form is another
-/// or a number beyond its range, else `NameLength` where the name of its set has more than 8 bytes, else `TooMany` where
-/// it is the 16,385th call, or the 65th that makes a set. Want of memory is `NoMemory`.
+/// faulty line: `UnknownStatement` where it begins with no word of a call, or a token other than an opening parenthesis
+/// stands directly behind that word; else `BadOperand` where its form is another or a number beyond its range; else
+/// `NameLength` where the name of its set has more than 8 bytes; else `TooMany` where it is the 16,385th call, or the
+/// 65th CRT, be there sets of those names or not. A comment that isn't closed is a line of its own, a `BadOperand`,
+/// behind what stands before it. Want of memory is `NoMemory`.
 pub fn read_calls(alloc: Global, text: &[u8]) -> Result<List<LatchCall>, ReadError>
     // What is read is spelled so, and has no fault; the fault is the text's first one, of the least kind.
     ensures exact { Answers result text.now }
