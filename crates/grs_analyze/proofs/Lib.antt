@@ -1,0 +1,10 @@
+pub mod Samples
+pub mod NumberLemmas
+pub mod FlagLemmas
+pub mod DependLemmas
+pub mod PassLemmas
+pub mod GreatestLaws
+pub mod CycleLaws
+pub mod WaitLemmas
+pub mod RowLaws
+pub mod MarkLemmas

@@ -1,0 +1,19 @@
+//! Laws of analyses: each function's contract is one, and there is nothing to run.
+ghost use Rattle.grs_analyze.specs.Depends.{ListsAreApart};
+ghost use Rattle.grs_analyze.specs.Greatest.{GreatestIsGreatest};
+ghost use Rattle.grs_analyze.specs.Waits.{EachWaiterIsTold};
+
+/// The tasks that are left in the end each depend on one of them, and hold every set of tasks of which that is true.
+pub fn greatest_is_greatest()
+    ensures { GreatestIsGreatest }
+{}
+
+/// Each element that waits is told, in order and once.
+pub fn each_waiter_is_told()
+    ensures { EachWaiterIsTold }
+{}
+
+/// No task stands twice in a list that a history leaves, so these lists may be analyzed.
+pub fn lists_are_apart()
+    ensures { ListsAreApart }
+{}
