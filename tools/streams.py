@@ -1,5 +1,6 @@
 """What the scripts read and write, where a stream may be closed, full or cut off."""
 import contextlib
+import errno
 import os
 import sys
 
@@ -19,7 +20,9 @@ def take(name=None, most=-1):
         with open(0 if name is None else name, "rb", closefd=name is not None) as file:
             return file.read(most)
     except OSError as why:
-        raise Failed(16, "%s: %s" % ("standard input" if name is None else name or "''", why.strerror)) from None
+        closed = name is None and why.errno == errno.EBADF
+        said = "it can't be read, since it is closed, or a folder" if closed else why.strerror
+        raise Failed(16, "%s: %s" % ("standard input" if name is None else name or "''", said)) from None
 
 
 def give(text, encoding="utf-8"):
@@ -32,14 +35,19 @@ def give(text, encoding="utf-8"):
         raise Failed(20, "the text could not be written whole: %s" % why.strerror) from None
 
 
+def say(name, sentence):
+    """Says something on standard error, where that can be."""
+    with contextlib.suppress(OSError):
+        os.write(2, ("%s: %s\n" % (name, sentence)).encode("utf-8", "replace"))
+
+
 def run(name, main):
     """Runs a script by its words, and ends with its status."""
     try:
         status = main(sys.argv[1:])
     except Failed as why:
         status = why.status
-        with contextlib.suppress(OSError):
-            os.write(2, ("%s: %s\n" % (name, why)).encode("utf-8", "replace"))
+        say(name, why)
     except KeyboardInterrupt:
         status = 130
     sys.exit(status)

@@ -1,0 +1,587 @@
+"""Draws a run:
+
+    ./grs-picture [REPORT] > run.html
+    ./grs-picture --help
+
+The report is read from the file, else from standard input.
+
+The page stands alone: what it shows is in it, and it asks no network. Its first view has a lane for each task, with the events
+from left to right; its second the list of each resource, with the places in the history from left to right. A panel says who owns
+and who waits at an event, and a table behind the picture has all that it shows as text.
+
+A report tells in which event a task was told something, and in which order requests took their places. The rest follows:
+
+* a task asks its next line in its first TASK event behind the one in which it was told of the line before;
+* it holds a resource from the event in which it is told control up to the one in which it asks to give it back, or
+  in which its end begins; from there on others may be told control;
+* the message begins at the first system; a TURN there takes along what was asked, and hands the message to the next
+  system that has an entry to process or doesn't rest; from the change to star mode on it takes nothing along, goes to the
+  next system that has yet to change, and ends with the last;
+* a system that is removed does nothing from that event on, and its tasks hold nothing; the message goes on from there, and each
+  other system's first event that isn't its own tells it of the removal and does nothing else;
+* a request takes its place in the history in its TASK event, in a ring of a name that all share at the TURN that takes it along,
+  in a star at the SEND at which its own system decides it or at the SETTLE of another; up to there it is on its way, and so is control
+  from the event that gives it to the one in which it is told;
+* a system is shown to manage lock entries from the first request on that it decides at once, and up to the end, or the last
+  LEAVE, where no lock word names it in the end.
+
+A command that is never carried out is in no report. So if one keeps a system from resting, the message's place isn't exact. Nor does
+a report say which system manages the names of a request that wasn't answered at once. So in a star with several managers the event in
+which a request has its place is in part a guess, and with it up to where the request is on its way, and from where on it waits.
+"""
+import collections
+import html
+import itertools
+import json
+import pathlib
+import re
+import sys
+
+sys.dont_write_bytecode = True
+HERE = pathlib.Path(__file__).resolve().parent
+sys.path.insert(0, str(HERE))
+import decks
+import streams
+
+# how many requests a TURN takes along at most
+TURN_TAKES = 32
+SLICES = 64
+TEMPLATE = HERE / "picture.html"
+HISTORY = re.compile(r"H (?P<n>\d+) (?P<by>\S+) (?:ENQ (?P<enq>.*) (?P<control>[ES]) (?P<ret>\w+) (?P<answer>\w+)"
+                     r"|DEQ (?P<deq>.*) (?:NONE|HAVE) (?P<answered>\w+)|RELEASE (?P<release>.*)|LOOK (?P<look>.*)|REMOVE (?P<remove>\S+))")
+QUEUE = re.compile(r"Q (?P<name>.*?\)) (?P<elements>[^ ()']+:[ES]\*?(?: [^ ()']+:[ES]\*?)*)")
+TOLD = re.compile(r"T (?P<k>\d+|END) (?P<what>.*?) ?@(?P<event>\d+)")
+
+
+class NoReport(Exception):
+    """What is drawn isn't a whole report; why."""
+
+
+def read(report):
+    """The parts of a report: its events, its history's entries, and of each system and task the told lines."""
+    lines = report.splitlines()
+    if lines[:1] != ["GRS REPORT 1"]:
+        raise NoReport("this is no report; make one by ./grs replay or ./grs run")
+    if lines[-1] not in ("END DONE", "END WAITS"):
+        raise NoReport("this report isn't whole")
+    count = int(lines[1].split()[1])
+    run = {"events": lines[2:2 + count], "history": [], "systems": [], "tasks": [], "desk": [], "words": [], "units": [], "queues": []}
+    for line in lines[2 + count:]:
+        word = line.split(" ", 1)[0]
+        if word == "H":
+            run["history"].append(HISTORY.fullmatch(line).groupdict())
+        elif word == "SYSTEM":
+            run["systems"].append(line[7:])
+        elif word == "TASK":
+            name = run["systems"][-1] + "." + line[5:]
+            run["tasks"].append({"name": name, "system": len(run["systems"]) - 1, "told": [], "rows": [], "end": ""})
+        elif word == "T":
+            found = TOLD.fullmatch(line)
+            run["tasks"][-1]["told"].append((found["k"], found["what"], int(found["event"])))
+            run["tasks"][-1]["rows"].append([])
+        elif word == "R" and run["tasks"]:
+            run["tasks"][-1]["rows"][-1].append(line[2:])
+        elif word == "S":
+            run["tasks"][-1]["end"] = line[2:]
+        elif word == "D":
+            _, _, what, said, event = line.split()
+            run["desk"].append((len(run["systems"]) - 1, what + " " + said, int(event[1:])))
+        elif word in ("W", "U", "Q"):
+            run[{"W": "words", "U": "units", "Q": "queues"}[word]].append(line)
+        elif word in ("MODE", "END"):
+            run[word.lower()] = line
+    return run
+
+
+def resource(entry):
+    return entry["enq"] or entry["deq"] or entry["release"] or ""
+
+
+# What a task asks, and when
+
+class Step:
+    """What a task asked in one event: the entries of the history that belong to it, what it was told and when."""
+
+    def __init__(self, entries, what="", told=None, post=None, rows=(), line=""):
+        self.entries, self.what, self.told, self.post, self.rows, self.line, self.asked = entries, what, told, post, rows, line, None
+
+    def is_release(self):
+        return bool(self.entries and self.entries[0]["release"])
+
+    def is_shared(self):
+        return any(resource(it).startswith("SYSTEMS(") or it["look"] and not it["look"].startswith("LOCAL") for it in self.entries)
+
+    def is_display(self):
+        return bool(self.entries and self.entries[0]["look"])
+
+
+def looks_of(entries, is_scan):
+    """The looks in front that belong to one display: a GQSCAN looks at the own lists or at all slices, a DISPLAY at the own
+    ones and then at one slice or at all."""
+    own = entries[0]["look"].startswith("LOCAL")
+    most = (1 if own else SLICES) if is_scan else 1 + (SLICES if entries[0]["look"].split(" ")[1] == "C" else 1)
+    return list(itertools.islice(itertools.takewhile(lambda it: it["look"], entries), most))
+
+
+class Task:
+    """A task's steps, in its order: those of which it was told, then those in the history of which it wasn't, as releases."""
+
+    def __init__(self, found, entries):
+        self.name, self.system, self.end = found["name"], found["system"], found["end"]
+        self.code, self.ended = next(((code, event) for k, code, event in found["told"] if k == "END"), ("", None))
+        self.ending = None
+        # the event from which on it may go on, or none where the answer is still to come
+        self.free = 0
+        # the event in which its system was removed
+        self.removed = None
+        posts = {k: event for k, what, event in found["told"] if what == "POST"}
+        entries, steps = list(entries), []
+        for (k, what, event), rows in zip(found["told"], found["rows"]):
+            verb = what.split()[0]
+            if k == "END" or verb == "POST":
+                continue
+            own = entries[:1] if verb in ("ENQ", "DEQ") else []
+            if verb in ("GQSCAN", "DISPLAY") and entries and entries[0]["look"]:
+                own = looks_of(entries, verb == "GQSCAN")
+            del entries[:len(own)]
+            steps.append(Step(own, what, event, posts.get(k), rows, k))
+        while entries:
+            own = looks_of(entries, not entries[0]["look"].startswith("LOCAL")) if entries[0]["look"] else entries[:1]
+            del entries[:len(own)]
+            steps.append(Step(own))
+        self.steps = collections.deque(steps)
+        self.asked_steps = []
+
+    def is_free(self, event):
+        """Whether it has something to do in an event."""
+        return self.free is not None and self.free < event <= (self.ended or event)
+
+    def released(self, taken):
+        """In a star a task goes on behind a RELEASE once that has its place at its own system, or a mail was taken behind it."""
+        step = self.asked_steps[-1] if self.asked_steps else None
+        at = step.entries[0]["at"] if step and self.free is None and step.is_release() else None
+        if at and step.entries[0]["sent"] and (at == step.entries[0]["sent"] or taken > at):
+            self.free = at
+
+    def is_guessed(self):
+        """Whether it went on behind a RELEASE that another system decided, of whose answer a report doesn't tell."""
+        return any(it.is_release() and it.entries[0]["sent"] not in (0, it.entries[0]["at"]) for it in self.asked_steps)
+
+    def ask(self, event):
+        """The next step, asked in an event; without one, what has no place in the history yet, or the task's end."""
+        step = self.steps.popleft() if self.steps else Step([], told=self.ended)
+        step.asked = event
+        if step.is_release() or not step.what and self.ended:
+            self.ending = self.ending or event
+        if step.is_release() and not step.is_shared():
+            step.told = event
+        self.free = step.told
+        self.asked_steps.append(step)
+        return step
+
+
+def is_shared_entry(entry):
+    return resource(entry).startswith("SYSTEMS(") or bool(entry["look"]) and not entry["look"].startswith("LOCAL")
+
+
+class Places:
+    """In which event each entry of the history was fixed, as far as the report shows it."""
+
+    def __init__(self, history):
+        self.history, self.next = history, 0
+        for entry in history:
+            entry["at"], entry["sent"] = None, 0
+
+    def fix(self, step, event, is_shared=True):
+        for entry in step.entries:
+            if is_shared_entry(entry) == is_shared and entry["at"] is None:
+                entry["at"] = event
+
+    def first_open(self):
+        while self.next < len(self.history) and self.history[self.next]["at"] is not None:
+            self.next += 1
+        return self.history[self.next] if self.next < len(self.history) else None
+
+    def removal(self, name, event):
+        for entry in self.history:
+            if entry["remove"] == name and entry["at"] is None:
+                entry["at"] = event
+
+    def send(self, step, event, is_manager):
+        """A task's request is sent; the one that is next in the history is decided here if its system manages its names."""
+        entry = self.first_open()
+        # of a display one entry is on its way at a time
+        for it in [it for it in step.entries if it["at"] is None and is_shared_entry(it)][:1]:
+            it["sent"] = event
+        if entry and any(entry is it for it in step.entries) and (step.told == event or is_manager):
+            entry["at"] = event
+
+    def settle(self, system, event, taken, may_decide):
+        """A system settles a request that was sent to it, and that it took."""
+        entry = self.first_open()
+        if entry and 0 < entry["sent"] < taken and not entry["by"].startswith(system + ".") and may_decide(entry):
+            entry["at"] = event
+
+    def told(self, step, event):
+        """A task was told of a step, so all up to it have their places: those of which it wasn't seen where they were sent, or here."""
+        last = max((int(it["n"]) for it in step.entries), default=0)
+        for at in range(self.next, last):
+            entry = self.history[at]
+            if entry["at"] is None:
+                entry["at"] = max(entry["sent"] or event, (self.history[at - 1]["at"] or 0) if at else 0)
+        self.next = max(self.next, last)
+
+    def close(self, last):
+        """Whatever wasn't seen lies between what was."""
+        after = last
+        for entry in reversed(self.history):
+            entry["at"] = after = min(entry["at"] or after, after)
+
+
+class Message:
+    """The message of a ring: at which system it stands, which entries it has, and which systems have still to process each;
+    once it is closed, also which have yet to change to star mode."""
+
+    def __init__(self, systems, at, places):
+        self.systems, self.at, self.since, self.stays, self.places = systems, at, 0, [], places
+        self.live, self.resting, self.still = set(range(systems)), set(), None
+        self.outboxes, self.entries = [[] for _ in range(systems)], []
+        # who is live, as each system knows it
+        self.known = [set(self.live) for _ in range(systems)]
+
+    def is_stale(self, system):
+        """Whether what a system asks of the medium only tells it who was removed."""
+        known, self.known[system] = self.known[system], set(self.live)
+        return known != self.live
+
+    def turn(self, system, event):
+        if self.at != system:
+            return
+        given = [entry for entry in self.entries if system in entry[2]]
+        for task, step, mask in given:
+            mask.discard(system)
+            if task and task.system == system and step.is_release():
+                task.free = event
+        self.entries = [entry for entry in self.entries if entry[2]]
+        put = self.outboxes[system][:TURN_TAKES] if self.still is None else []
+        del self.outboxes[system][:len(put)]
+        self.entries += [(task, step, set(self.live)) for task, step in put]
+        for _, step in put:
+            self.places.fix(step, event)
+        if given or put:
+            self.resting.discard(system)
+        if self.still is not None:
+            self.still.discard(system)
+        self.go_on(event)
+
+    def is_changed(self, system):
+        """Whether a system has changed to star mode."""
+        return self.still is not None and system not in self.still
+
+    def go_on(self, event):
+        here, unseen = self.at, set().union(*(mask for _, _, mask in self.entries))
+        after = [(here + step) % self.systems for step in range(1, self.systems)]
+        self.stop(event)
+        if self.still is not None:
+            self.at = next((it for it in after if it in self.still), None)
+        else:
+            self.at = next((it for it in after if it in self.live and (it in unseen or it not in self.resting)), here)
+        self.since = event
+
+    def close(self, system, event):
+        """A system changes to star mode, as the first."""
+        self.still = self.live - {system}
+        if self.at not in self.still:
+            self.go_on(event)
+
+    def remove(self, by, system, event):
+        """A system removes another one: the next live one has the message then, where that one had it."""
+        self.live.discard(system)
+        self.known[by].discard(system)
+        self.resting.discard(by)
+        for _, _, mask in self.entries:
+            mask.discard(system)
+        self.entries = [*(entry for entry in self.entries if entry[2]), (None, None, set(self.live))]
+        if self.at == system:
+            self.stop(event)
+            self.at, self.since = next(it for it in ((system + step) % self.systems for step in range(1, self.systems)) if it in self.live), event
+
+    def stop(self, event):
+        if self.at is not None:
+            self.stays.append((self.since, event, self.at))
+        self.at = None
+
+
+def slice_of(entry):
+    """Which group of names an entry of the history is for."""
+    if entry["look"]:
+        return int(entry["look"].split(" ")[0])
+    names = re.findall(r"X?'(?:[^']|'')*'|[^,]+", resource(entry)[len("SYSTEMS("):-1])
+    texts = [decks.name_of(decks.Token(it, "hex" if it[:2] == "X'" else "quoted" if it[:1] == "'" else "word", 0, 0, 0)) for it in names]
+    return decks.slice_of(*texts)
+
+
+def follow(run):
+    """Goes through the events a first time, to see who decides what at once, and then by that."""
+    return gone_through(run, gone_through(run, {})[3])[:3]
+
+
+def gone_through(run, deciders):
+    """Goes through the events: in which one each step was asked, where the message stood, and who decides at once."""
+    entries = collections.defaultdict(list)
+    for entry in run["history"]:
+        entries[entry["by"]].append(entry)
+    tasks = {it["name"]: Task(it, entries[it["name"]]) for it in run["tasks"]}
+    ends = collections.defaultdict(list)
+    for task in tasks.values():
+        for step in task.steps:
+            ends[step.told].append(step)
+    of_system = [[task for task in tasks.values() if task.system == number] for number in range(len(run["systems"]))]
+    desk = {event: what for _, what, event in run["desk"]}
+    star = run["mode"] == "MODE STAR" and "SETGRS DONE" not in desk.values()
+    places = Places(run["history"])
+    message = Message(len(run["systems"]), None if star else 0, places)
+    decides, leaves, seen, taken = {}, {}, {}, {}
+    for number, event in enumerate(run["events"], 1):
+        name, verb, *rest = event.split()
+        system = run["systems"].index(name)
+        if system not in message.live:
+            continue
+        if verb == "TASK":
+            task = tasks[name + "." + rest[0]]
+            task.released(taken.get(system, 0))
+            if task.is_free(number):
+                step = task.ask(number)
+                places.fix(step, number, False)
+                if step.is_shared() or not (step.entries or step.what or task.ended or task.end == "WAITS"):
+                    message.outboxes[system].append((task, step))
+        elif verb == "TURN":
+            if not message.is_stale(system):
+                message.turn(system, number)
+        elif verb == "REST":
+            ordered = any(at == system and told >= number for at, _, told in run["desk"])
+            if not (ordered or message.outboxes[system] or any(task.is_free(number) for task in of_system[system]) or message.is_stale(system)):
+                message.resting.add(system)
+        elif verb == "SEND":
+            steps = tasks[name + "." + rest[0]].asked_steps if star or message.is_changed(system) else []
+            here = next((it for it in steps[-1].entries if it["at"] is None and is_shared_entry(it)), None) if steps else None
+            if here and steps[-1].told == number:
+                decides.setdefault(system, number)
+                seen.setdefault(slice_of(here), set()).add(system)
+            if here:
+                known = deciders.get(slice_of(here))
+                places.send(steps[-1], number, system in (known or decides))
+        elif verb == "SETTLE":
+            places.settle(name, number, taken.get(system, 0), lambda it, system=system: system in deciders.get(slice_of(it), [system]))
+        elif verb == "TAKE":
+            taken[system] = number
+        elif verb == "LEAVE":
+            leaves[system] = number
+        elif desk.get(number) == "SETGRS DONE":
+            message.close(system, number)
+        elif desk.get(number) == "VARY DONE":
+            gone = run["systems"].index(rest[0])
+            message.remove(system, gone, number)
+            places.removal(rest[0], number)
+            for task in of_system[gone]:
+                task.removed = number
+        elif number not in desk and next((run["events"][told - 1] for at, _, told in run["desk"] if at == system and told > number), "") == event:
+            # the command is due, and is carried out later
+            message.is_stale(system)
+        for step in ends.get(number, ()):
+            if step.asked:
+                places.told(step, number)
+    message.stop(len(run["events"]))
+    places.close(len(run["events"]))
+    manage = {word.split()[5] for word in run["words"]}
+    managers = [(first, len(run["events"]) if run["systems"][system] in manage else leaves.get(system, len(run["events"])), system)
+                for system, first in decides.items()]
+    return list(tasks.values()), message.stays, managers, seen
+
+
+# What is drawn
+
+def said(entry):
+    """An entry of the history, as its bar tells it."""
+    if entry["enq"]:
+        return "ENQ %s %s %s: %s" % (entry["enq"], entry["control"], entry["ret"], entry["answer"])
+    if entry["deq"]:
+        return "DEQ %s: %s" % (entry["deq"], entry["answered"])
+    return "RELEASE " + entry["release"] if entry["release"] else "LOOK " + entry["look"]
+
+
+def is_queued(entry):
+    """Whether an ENQ was put into the list."""
+    return entry["answer"] in {"NONE": ("00", "WAIT"), "HAVE": ("00", "WAIT"), "USE": ("00",), "ECB": ("00", "04")}.get(entry["ret"], ())
+
+
+def shown(step):
+    """A display, as its bar tells it."""
+    return "\n".join([step.what or "a display that isn't told yet", *step.rows])
+
+
+def bars(task, last):
+    """A bar for each request of a task in the history, one for a display, one for a WAIT line, and one for what is still on its way there:
+    its number, what it is (an element of a list, what gives one back, a display, a line that waits, what is on its way, or another), the
+    edges between events at which it begins, has its place, owns, has control, has it exclusively by a change and ends, who was in front
+    of it, its text, and its row in the lane.
+    The edge e lies behind event e."""
+    found, held = [], {}
+    last = task.removed - 1 if task.removed else last
+
+    def add(kind, number, begin, end, text, control=None):
+        bar = {"n": number, "kind": kind, "from": begin - 1, "fixed": begin - 1, "grants": None, "own": None, "alone": None, "to": max(end, begin),
+               "text": text, "ctl": control, "front": []}
+        found.append(bar)
+        return bar
+
+    for step in [*task.asked_steps, *task.steps]:
+        asked = step.asked or task.ending or last
+        if step.is_display():
+            add("look", int(step.entries[0]["n"]), asked, step.told or last, shown(step))
+        elif step.what.startswith("WAIT ") or not step.entries and not task.ended and task.end == "WAITS":
+            add("line", 0, asked, step.told or last, step.what and step.what + " (line %s)" % step.line or "WAIT, not told yet")
+        elif not step.entries and not step.what and step.asked and task.end == "OPEN" and not task.is_guessed():
+            add("way", 0, asked, last, "on its way: what it asked in event %d has no place in the history yet" % asked)
+        for entry in [] if step.is_display() else step.entries:
+            end = max(step.told or (task.ended if step.is_release() else None) or last, asked)
+            bar = add("other", int(entry["n"]), asked, end, said(entry), entry["control"])
+            if entry["enq"] and is_queued(entry):
+                own = step.post if entry["ret"] == "ECB" and entry["answer"] == "04" else step.told
+                own, fixed = own and own - 1, max(entry["at"], asked) - 1
+                grants = entry.get("grants") and max(entry["grants"] - 1, fixed)
+                fixed = fixed if own is None else min(fixed, own)
+                bar.update(kind="element", own=own, to=last, fixed=min(fixed, last), front=entry.get("front", []),
+                           grants=grants if own is None or grants is None else min(grants, own))
+                held[entry["enq"]] = bar
+            elif entry["release"] or entry["answered"] == "00":
+                bar["kind"] = "back"
+                gone = held.pop(resource(entry), None)
+                if gone:
+                    gone["to"] = max(gone["from"], gone["own"] or 0, (task.ending or asked if entry["release"] else asked) - 1)
+                    gone["fixed"] = min(gone["fixed"], gone["to"])
+                    gone["grants"] = gone["grants"] if gone["grants"] is None else min(gone["grants"], gone["to"])
+            elif entry["ret"] == "CHNG" and entry["answer"] == "00":
+                held[entry["enq"]]["text"] += ", then exclusive"
+                held[entry["enq"]]["alone"] = step.told and step.told - 1
+    rows = []
+    for bar in sorted(found, key=lambda bar: (bar["from"], bar["n"])):
+        end = max(bar["to"], bar["from"] + 1)
+        bar["row"] = next((row for row, free in enumerate(rows) if free <= bar["from"]), len(rows))
+        rows[bar["row"]:bar["row"] + 1] = [end]
+    return found
+
+
+def lists(run):
+    """By resource, how long each element stood at a place of its list: [first place in the history, first past it, place in
+    the list, element, owner or not]."""
+    queues, open_, spells = collections.defaultdict(list), collections.defaultdict(list), collections.defaultdict(list)
+    asked = {}
+
+    def change(name, number):
+        queue = queues[name]
+        shared = len(list(itertools.takewhile(lambda element: element[1] == "S", queue)))
+        now = [(task + ":" + control, place < max(shared, 1)) for place, (task, control) in enumerate(queue)]
+        for task, _ in queue[:max(shared, 1)]:
+            asked[name, task].setdefault("grants", run["history"][number - 1]["at"])
+        kept = open_[name]
+        for place in range(max(len(now), len(kept))):
+            was, want = (it[place] if place < len(it) else None for it in (kept, now))
+            if was and was[1:] != want:
+                spells[name].append([was[0], number, place, *was[1:]])
+            if want and (not was or was[1:] != want):
+                kept[place:place + 1] = [(number, *want)]
+        del kept[len(now):]
+
+    for entry in run["history"]:
+        number, name, task = int(entry["n"]), resource(entry), entry["by"]
+        if entry["enq"] and is_queued(entry):
+            entry["front"] = [it + ":" + control for it, control in queues[name]]
+            asked[name, task] = entry
+            queues[name].append((task, entry["control"]))
+        elif entry["ret"] == "CHNG" and entry["answer"] == "00":
+            queues[name] = [(it, "E" if it == task else control) for it, control in queues[name]]
+        elif entry["release"] or entry["answered"] == "00":
+            queues[name] = [element for element in queues[name] if element[0] != task]
+        for name in [name] if name else [it for it in queues if entry["remove"] and it.startswith("SYSTEMS(")]:
+            if entry["remove"]:
+                queues[name] = [element for element in queues[name] if element[0].split(".")[0] != entry["remove"]]
+            change(name, number)
+    for name in queues:
+        spells[name] += [[was[0], len(run["history"]) + 1, place, *was[1:]] for place, was in enumerate(open_[name])]
+    return [{"name": name, "spells": spells[name]} for name in sorted(spells) if spells[name]]
+
+
+def cycle(run):
+    """Tasks of which each waits behind the next one, and the last behind the first; or none."""
+    waits = {it["name"] for it in run["tasks"] if it["end"] == "WAITS"}
+    behind = {}
+    for line in run["queues"]:
+        elements = QUEUE.fullmatch(line)["elements"].split(" ")
+        names = [element.rstrip("*")[:-2] for element in elements]
+        for place, (name, element) in enumerate(zip(names, elements)):
+            if not element.endswith("*") and name in waits:
+                behind[name] = names[:place]
+    for first in behind:
+        path, seen = [first], {first}
+        rest = [iter(behind[first])]
+        while path:
+            task = next(rest[-1], None)
+            if task == first:
+                return path
+            if task is None:
+                path.pop(), rest.pop()
+            elif task in behind and task not in seen:
+                seen.add(task)
+                path.append(task)
+                rest.append(iter(behind[task]))
+    return []
+
+
+def commanded(run, what, event):
+    """A command of the desk and what was said to it, with the system that it was to remove."""
+    verb, said_to_it = what.split()
+    return " ".join([verb, *run["events"][event - 1].split()[2:], said_to_it])
+
+
+def picture(report):
+    """What the page shows of a report."""
+    run = read(report)
+    tasks, stays, managers = follow(run)
+    queues, last = lists(run), len(run["events"])
+    return {
+        "events": run["events"], "mode": run["mode"], "end": run["end"], "words": run["words"], "units": run["units"],
+        "history": len(run["history"]), "fixed": [entry["at"] for entry in run["history"]],
+        "systems": run["systems"], "message": stays, "managers": managers, "cycle": cycle(run),
+        "desk": [{"system": system, "what": commanded(run, what, event), "event": event} for system, what, event in run["desk"]],
+        "lanes": [{"task": task.name, "system": task.system, "ended": task.ended, "code": task.code, "end": task.end, "removed": task.removed,
+                   "bars": bars(task, last)} for task in tasks],
+        "lists": queues,
+    }
+
+
+def page(report, title):
+    """The page of a report; a text that is none is refused."""
+    try:
+        data = json.dumps(picture(report), separators=(",", ":"))
+    except NoReport as why:
+        raise streams.Failed(8, why) from None
+    except Exception as why:  # whatever else a text that isn't grs's own leads to
+        raise streams.Failed(8, "this is no report of grs, or it was changed (%s)" % type(why).__name__) from None
+    # no text of a report ends the element that holds the data
+    head, _, tail = TEMPLATE.read_text("utf-8").partition("{}")
+    return head.replace("{title}", html.escape(title), 1) + data.replace("<", "\\u003c") + tail
+
+
+def main(words):
+    if words and words[0] in ("--help", "-h"):
+        streams.give(__doc__.strip() + "\n")
+        return 0
+    if len(words) > 1 or words and words[0].startswith("--"):
+        raise streams.Failed(12, "these are no words of it: ./grs-picture [REPORT], or --help")
+    streams.give(page(streams.take(*words).decode("latin-1"), "a run" if words in ([], ["-"]) else pathlib.Path(words[0]).stem))
+    return 0
+
+
+if __name__ == "__main__":
+    streams.run("grs-picture", main)
