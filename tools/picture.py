@@ -164,8 +164,8 @@ class Task:
             self.free = at
 
     def is_guessed(self):
-        """Whether it went on behind a RELEASE that another system decided, of whose answer a report doesn't tell."""
-        return any(it.is_release() and it.entries[0]["sent"] not in (0, it.entries[0]["at"]) for it in self.asked_steps)
+        """Whether it went on behind a RELEASE that was sent, of whose answer a report doesn't tell, but where its system alone decides the name."""
+        return any(it.is_release() and it.entries[0]["sent"] and not it.entries[0]["sure"] for it in self.asked_steps)
 
     def ask(self, event):
         """The next step, asked in an event; without one, what has no place in the history yet, or the task's end."""
@@ -190,7 +190,7 @@ class Places:
     def __init__(self, history):
         self.history, self.next = history, 0
         for entry in history:
-            entry["at"], entry["sent"] = None, 0
+            entry["at"], entry["sent"], entry["sure"] = None, 0, False
 
     def fix(self, step, event, is_shared=True):
         for entry in step.entries:
@@ -207,14 +207,14 @@ class Places:
             if entry["remove"] == name and entry["at"] is None:
                 entry["at"] = event
 
-    def send(self, step, event, is_manager):
-        """A task's request is sent; the one that is next in the history is decided here if its system manages its names."""
+    def send(self, step, event, is_manager, is_sure):
+        """A task's request is sent; the one that is next in the history is decided here if its system manages its names, which may be sure."""
         entry = self.first_open()
-        # of a display one entry is on its way at a time
+        # of a display one entry is on its way at a time; what was sent isn't sent again
         for it in [it for it in step.entries if it["at"] is None and is_shared_entry(it)][:1]:
-            it["sent"] = event
-        if entry and any(entry is it for it in step.entries) and (step.told == event or is_manager):
-            entry["at"] = event
+            it["sent"] = it["sent"] or event
+        if entry and entry["sent"] == event and any(entry is it for it in step.entries) and (step.told == event or is_manager):
+            entry["at"], entry["sure"] = event, is_sure
 
     def settle(self, system, event, taken, may_decide):
         """A system settles a request that was sent to it, and that it took."""
@@ -338,7 +338,7 @@ def gone_through(run, deciders):
             ends[step.told].append(step)
     of_system = [[task for task in tasks.values() if task.system == number] for number in range(len(run["systems"]))]
     desk = {event: what for _, what, event in run["desk"]}
-    star = run["mode"] == "MODE STAR" and "SETGRS DONE" not in desk.values()
+    star, alone = is_star(run), len(run["systems"]) == 1
     places = Places(run["history"])
     message = Message(len(run["systems"]), None if star else 0, places)
     decides, leaves, seen, taken = {}, {}, {}, {}
@@ -370,7 +370,7 @@ def gone_through(run, deciders):
                 seen.setdefault(slice_of(here), set()).add(system)
             if here:
                 known = deciders.get(slice_of(here))
-                places.send(steps[-1], number, system in (known or decides))
+                places.send(steps[-1], number, alone or system in (known or decides), alone or known == {system})
         elif verb == "SETTLE":
             places.settle(name, number, taken.get(system, 0), lambda it, system=system: system in deciders.get(slice_of(it), [system]))
         elif verb == "TAKE":
@@ -536,6 +536,11 @@ def cycle(run):
                 path.append(task)
                 rest.append(iter(behind[task]))
     return []
+
+
+def is_star(run):
+    """Whether a run begins in star mode."""
+    return run["mode"] == "MODE STAR" and all(what != "SETGRS DONE" for _, what, _ in run["desk"])
 
 
 def commanded(run, what, event):
