@@ -1,9 +1,9 @@
 """Draws a run:
 
-    ./grs-picture [REPORT] > run.html
+    ./grs-picture [--deck DECK] [REPORT] > run.html
     ./grs-picture --help
 
-The report is read from the file, else from standard input.
+The report is read from the file, else from standard input. With the deck beside it nothing in the picture is a guess.
 
 The page stands alone: what it shows is in it, and it asks no network. Its first view has a lane for each task, with the events
 from left to right; its second the list of each resource, with the places in the history from left to right. A panel says who owns
@@ -28,6 +28,11 @@ A report tells in which event a task was told something, and in which order requ
 A command that is never carried out is in no report. So if one keeps a system from resting, the message's place isn't exact. Nor does
 a report say which system manages the names of a request that wasn't answered at once. So in a star with several managers the event in
 which a request has its place is in part a guess, and with it up to where the request is on its way, and from where on it waits.
+The page says so. With --deck all of this is taken from a model of the run (tools/runs.py), where that comes to the same report;
+it tells too which lock entries a system manages, and what was on its way in the end.
+
+Exit status: 0, the page was written; 8, there is no report, or it isn't one of this deck; 12, other words; 16, a read failed;
+20, a write failed.
 """
 import collections
 import html
@@ -41,6 +46,7 @@ sys.dont_write_bytecode = True
 HERE = pathlib.Path(__file__).resolve().parent
 sys.path.insert(0, str(HERE))
 import decks
+import runs
 import streams
 
 # how many requests a TURN takes along at most
@@ -103,7 +109,9 @@ class Step:
     """What a task asked in one event: the entries of the history that belong to it, what it was told and when."""
 
     def __init__(self, entries, what="", told=None, post=None, rows=(), line=""):
-        self.entries, self.what, self.told, self.post, self.rows, self.line, self.asked = entries, what, told, post, rows, line, None
+        self.entries, self.what, self.told, self.post, self.rows, self.line = entries, what, told, post, rows, line
+        # the event in which it was asked; by the deck also how it is spelled there, and whether it is a WAIT that holds its task
+        self.asked, self.spelled, self.is_held = None, "", False
 
     def is_release(self):
         return bool(self.entries and self.entries[0]["release"])
@@ -326,12 +334,17 @@ def follow(run):
     return gone_through(run, gone_through(run, {})[3])[:3]
 
 
-def gone_through(run, deciders):
-    """Goes through the events: in which one each step was asked, where the message stood, and who decides at once."""
+def tasks_of(run):
+    """The tasks by their names."""
     entries = collections.defaultdict(list)
     for entry in run["history"]:
         entries[entry["by"]].append(entry)
-    tasks = {it["name"]: Task(it, entries[it["name"]]) for it in run["tasks"]}
+    return {it["name"]: Task(it, entries[it["name"]]) for it in run["tasks"]}
+
+
+def gone_through(run, deciders):
+    """Goes through the events: in which one each step was asked, where the message stood, and who decides at once."""
+    tasks = tasks_of(run)
     ends = collections.defaultdict(list)
     for task in tasks.values():
         for step in task.steps:
@@ -394,9 +407,57 @@ def gone_through(run, deciders):
     message.stop(len(run["events"]))
     places.close(len(run["events"]))
     manage = {word.split()[5] for word in run["words"]}
-    managers = [(first, len(run["events"]) if run["systems"][system] in manage else leaves.get(system, len(run["events"])), system)
+    managers = [(first, len(run["events"]) if run["systems"][system] in manage else leaves.get(system, len(run["events"])), system, [])
                 for system, first in decides.items()]
     return list(tasks.values()), message.stays, managers, seen
+
+
+# The same, by the deck
+
+def scheduled(text, report):
+    """A deck with a report's events in place of its own."""
+    found = decks.read(text)
+    count = int(report.split("\n", 2)[1].split()[1])
+    return decks.read("\n".join([text[:found.front], "SCHEDULE", *report.split("\n", count + 2)[2:-1], ""]))
+
+
+def by_deck(run, text, report):
+    """What `follow` finds, by a model of the deck's run, which has to come to the report."""
+    try:
+        model, found = modelled(run, scheduled(text, report))
+    except Exception:  # whatever a text leads to that is no deck, or another one
+        model = None
+    if not model or runs.report(model) != report:
+        raise NoReport("this is no report of that deck, or the deck has a mistake, which ./grs replay tells")
+    return found
+
+
+def modelled(run, deck):
+    """A model of the deck's run, and what `follow` finds, by it."""
+    tasks, model, stays, managers = tasks_of(run), runs.Run(deck), [], []
+    # where the message is, and what each system manages, each with the event from which on
+    at, managed = (0, model.medium.at), [(0, [])] * len(deck.systems)
+    for number, event in enumerate(deck.events, 1):
+        node, state = model.nodes[event.system], None
+        if model.step(event.system, event.verb, event.of) is None and event.verb == "TASK":
+            task, state = (event.system, event.of), node.tasks[event.of]
+            step = tasks[model.task_name(task)].ask(number)
+            step.is_held = state.phase == runs.HELD_LINE
+            if state.asked or step.is_held:
+                step.spelled = model.says.request(state, task) if state.asked else model.says.line(task)
+        if model.medium.at != at[1]:
+            stays.append((at[0], number, at[1]))
+            at = number, model.medium.at
+        if sorted(node.managed) != managed[event.system][1]:
+            managers.append((managed[event.system][0], number - 1, event.system, managed[event.system][1]))
+            managed[event.system] = number, sorted(node.managed)
+    stays.append((at[0], len(deck.events), at[1]))
+    managers += [(begun, len(deck.events), system, entries) for system, (begun, entries) in enumerate(managed)]
+    for entry, (event, *_) in zip(run["history"], model.history):
+        entry["at"] = event
+    for task in tasks.values():
+        task.removed = model.medium.removed.get(task.system)
+    return model, (list(tasks.values()), [it for it in stays if it[2] is not None], [it for it in managers if it[3]])
 
 
 # What is drawn
@@ -420,6 +481,11 @@ def shown(step):
     return "\n".join([step.what or "a display that isn't told yet", *step.rows])
 
 
+def of_deck(step):
+    """How the deck has a step, where that is known."""
+    return ": " + step.spelled if step.spelled else ""
+
+
 def bars(task, last):
     """A bar for each request of a task in the history, one for a display, one for a WAIT line, and one for what is still on its way there:
     its number, what it is (an element of a list, what gives one back, a display, a line that waits, what is on its way, or another), the
@@ -439,10 +505,11 @@ def bars(task, last):
         asked = step.asked or task.ending or last
         if step.is_display():
             add("look", int(step.entries[0]["n"]), asked, step.told or last, shown(step))
-        elif step.what.startswith("WAIT ") or not step.entries and not task.ended and task.end == "WAITS":
-            add("line", 0, asked, step.told or last, step.what and step.what + " (line %s)" % step.line or "WAIT, not told yet")
-        elif not step.entries and not step.what and step.asked and task.end == "OPEN" and not task.is_guessed():
-            add("way", 0, asked, last, "on its way: what it asked in event %d has no place in the history yet" % asked)
+        elif step.what.startswith("WAIT ") or step.is_held or not step.entries and not task.ended and task.end == "WAITS":
+            add("line", 0, asked, step.told or last, step.what and step.what + " (line %s)" % step.line or "WAIT, not told" + of_deck(step))
+        elif not step.entries and not step.what and step.asked and task.end in ("OPEN", "REMOVED") and (step.spelled or not task.is_guessed()):
+            late = "" if task.removed else " yet"
+            add("way", 0, asked, last, "on its way: what it asked in event %d has no place in the history" % asked + late + of_deck(step))
         for entry in [] if step.is_display() else step.entries:
             end = max(step.told or (task.ended if step.is_release() else None) or last, asked)
             bar = add("other", int(entry["n"]), asked, end, said(entry), entry["control"])
@@ -543,32 +610,41 @@ def is_star(run):
     return run["mode"] == "MODE STAR" and all(what != "SETGRS DONE" for _, what, _ in run["desk"])
 
 
+def guesses(run):
+    """What a report of several systems doesn't tell: in which events requests of a star had their places; and where the message is, behind
+    events that a command which is never carried out, or is due, may have kept from what they were for."""
+    carried_out = {event for _, _, event in run["desk"]}
+    unsure = any(event.split()[1] in ("REST", "SWITCH", "PURGE") and number not in carried_out for number, event in enumerate(run["events"], 1))
+    found = ["places"] * (run["mode"] == "MODE STAR") + ["message"] * (unsure and not is_star(run))
+    return found if len(run["systems"]) > 1 else []
+
+
 def commanded(run, what, event):
     """A command of the desk and what was said to it, with the system that it was to remove."""
     verb, said_to_it = what.split()
     return " ".join([verb, *run["events"][event - 1].split()[2:], said_to_it])
 
 
-def picture(report):
-    """What the page shows of a report."""
+def picture(report, deck=None):
+    """What the page shows of a report; by its deck, where that is given too."""
     run = read(report)
-    tasks, stays, managers = follow(run)
+    tasks, stays, managers = follow(run) if deck is None else by_deck(run, deck, report)
     queues, last = lists(run), len(run["events"])
     return {
         "events": run["events"], "mode": run["mode"], "end": run["end"], "words": run["words"], "units": run["units"],
         "history": len(run["history"]), "fixed": [entry["at"] for entry in run["history"]],
-        "systems": run["systems"], "message": stays, "managers": managers, "cycle": cycle(run),
+        "systems": run["systems"], "message": stays, "managers": managers, "cycle": cycle(run), "guess": [] if deck is not None else guesses(run),
         "desk": [{"system": system, "what": commanded(run, what, event), "event": event} for system, what, event in run["desk"]],
         "lanes": [{"task": task.name, "system": task.system, "ended": task.ended, "code": task.code, "end": task.end, "removed": task.removed,
                    "bars": bars(task, last)} for task in tasks],
-        "lists": queues,
+        "lists": queues, "byDeck": deck is not None,
     }
 
 
-def page(report, title):
+def page(report, title, deck=None):
     """The page of a report; a text that is none is refused."""
     try:
-        data = json.dumps(picture(report), separators=(",", ":"))
+        data = json.dumps(picture(report, deck), separators=(",", ":"))
     except NoReport as why:
         raise streams.Failed(8, why) from None
     except Exception as why:  # whatever else a text that isn't grs's own leads to
@@ -582,9 +658,15 @@ def main(words):
     if words and words[0] in ("--help", "-h"):
         streams.give(__doc__.strip() + "\n")
         return 0
-    if len(words) > 1 or words and words[0].startswith("--"):
-        raise streams.Failed(12, "these are no words of it: ./grs-picture [REPORT], or --help")
-    streams.give(page(streams.take(*words).decode("latin-1"), "a run" if words in ([], ["-"]) else pathlib.Path(words[0]).stem))
+    deck, rest = None, list(words)
+    if "--deck" in rest[:-1]:
+        at = rest.index("--deck")
+        deck, rest = rest[at + 1], rest[:at] + rest[at + 2:]
+    if len(rest) > 1 or rest and rest[0].startswith("--") or deck in ("-", *rest):
+        raise streams.Failed(12, "these are no words of it: ./grs-picture [--deck DECK] [REPORT], or --help")
+    file = next((it for it in (*rest, deck) if it not in (None, "-")), None)
+    texts = [None if it is None else streams.take(it).decode("latin-1") for it in (deck, (rest or ["-"])[0])]
+    streams.give(page(texts[1], pathlib.Path(file).stem if file else "a run", texts[0]))
     return 0
 
 
