@@ -414,8 +414,8 @@ class Node:
 
     def untold(self, entry):
         """The first owner of another system that is still to be told of an entry: the task and the resource."""
-        lists, untold = self.managed.get(entry, (Lists(), set()))
-        for resource in sorted({resource for resource, _ in untold}, key=by_name):
+        lists, untold = self.managed.get(entry, (None, ()))
+        for resource in sorted({resource for resource, _ in untold}, key=by_name) if untold else ():
             for task in lists.owning(resource):
                 if (resource, task) in untold:
                     return task, resource

@@ -18,6 +18,7 @@ and others as ./grs has them.
 import pathlib
 import subprocess
 import sys
+import time
 
 sys.dont_write_bytecode = True
 HERE = pathlib.Path(__file__).resolve().parent
@@ -29,6 +30,8 @@ import streams
 MOST_BYTES = 1048576
 FIRST_COMMANDS = 3
 MOST_ROUNDS = 20000
+# how long nothing is said
+SECONDS = 10
 
 
 class Rounds:
@@ -39,33 +42,41 @@ class Rounds:
         self.made = [0] * len(deck.systems)
         self.did = []
 
-    def task_name(self, system, place):
-        return self.run.task_name((system, place)).partition(".")[2]
-
-    def make(self, system, verb, of=None, said=None):
+    def make(self, system, verb, of=None):
         """Makes an event where it has something to do."""
         if system in self.run.medium.removed or not self.has_to_do(system, verb, of):
             return
         self.run.step(system, verb, of)
         self.made[system] += 1
-        self.did.append(" ".join([self.deck.systems[system].name, verb, *([str(said)] if said is not None else [])]))
+        self.did.append(" ".join([self.deck.systems[system].name, verb, *self.said(system, verb, of)]))
+
+    def said(self, system, verb, of):
+        """What stands behind the word of an event."""
+        if verb in ("TASK", "SEND"):
+            return [self.run.task_name((system, of)).partition(".")[2]]
+        return [] if of is None else [self.names()[of] if verb == "PURGE" else str(of)]
 
     def has_to_do(self, system, verb, of):
         """Whether an event has something to do; one that only tells a system who was removed has."""
         node, medium = self.run.nodes[system], self.run.medium
-        state = node.tasks[of] if verb in ("TASK", "SEND") else None
-        return {
-            "TASK": lambda: state.is_free(),
+        if verb == "TASK":
+            return node.tasks[of].is_free()
+        if verb == "TURN":
             # with nothing on its way the message may stay where it is
-            "TURN": lambda: not node.is_star and medium.at == system and (medium.closed or medium.entries or any(
-                self.run.nodes[it].outbox for it in medium.live())),
-            "SEND": lambda: node.is_star and state.phase == runs.TO_SEND,
-            "TAKE": lambda: node.is_star and bool(medium.inbox[system]),
-            "SETTLE": lambda: node.is_star and bool(node.held),
-            "TELL": lambda: node.is_star and node.untold(of) is not None,
+            return not node.is_star and medium.at == system and (medium.closed or medium.entries or any(
+                self.run.nodes[it].outbox for it in medium.live()))
+        if verb == "SWITCH":
             # an entry of the message that it hasn't seen keeps it from changing the mode
-            "SWITCH": lambda: medium.is_star or not any(system in mask for _, mask in medium.entries),
-        }.get(verb, lambda: True)()
+            return medium.is_star or not any(system in mask for _, mask in medium.entries)
+        if verb == "PURGE":
+            return True
+        if not node.is_star:
+            return False
+        if verb == "SEND":
+            return node.tasks[of].phase == runs.TO_SEND
+        if verb == "TELL":
+            return node.untold(of) is not None
+        return bool(medium.inbox[system] if verb == "TAKE" else node.held)
 
     def command(self, system, is_idle):
         """Carries out the next command of a desk, where it is time for it."""
@@ -73,7 +84,7 @@ class Rounds:
         if node.done < len(node.desk) and (is_idle or self.made[system] >= node.desk[node.done][0]):
             _, verb, target = node.desk[node.done]
             of = self.names().index(target) if verb == "VARY" else None
-            self.make(system, "PURGE" if verb == "VARY" else "SWITCH", of, target)
+            self.make(system, "PURGE" if verb == "VARY" else "SWITCH", of)
 
     def names(self):
         return [system.name for system in self.deck.systems]
@@ -87,14 +98,14 @@ class Rounds:
         for system, it in enumerate(self.deck.systems):
             places = range(len(it.tasks))
             for place in places:
-                self.make(system, "TASK", place, self.task_name(system, place))
+                self.make(system, "TASK", place)
             self.make(system, "TURN")
             for place in places:
-                self.make(system, "SEND", place, self.task_name(system, place))
+                self.make(system, "SEND", place)
             self.make(system, "TAKE")
             self.make(system, "SETTLE")
             for entry in range(self.deck.entries):
-                self.make(system, "TELL", entry, entry)
+                self.make(system, "TELL", entry)
         return self.did
 
     def commands(self):
@@ -143,6 +154,17 @@ def scheduled(text, deck):
         yield "/* round %d */\n" % number + "".join(event + "\n" for event in events)
 
 
+def patiently(pieces, now=time.monotonic, say=streams.say):
+    """Hands on each piece, and says each ten seconds that there are more."""
+    begun = last = now()
+    for piece in pieces:
+        yield piece
+        time_now = now()
+        if time_now - last >= SECONDS:
+            last = time_now
+            say("grs-schedule", "still finding events, since %d seconds" % (last - begun))
+
+
 def checked(deck):
     """What ./grs says against a deck, as its status; 0 where that is nothing."""
     done = subprocess.run([HERE.parent / "grs", "--quiet", "lists"], input=deck, stdout=subprocess.DEVNULL)
@@ -167,7 +189,7 @@ def main(words):
         streams.give("".join("entry %d, slice %d: %s\n" % it for it in shared_names(found)))
         return 0
     room = MOST_BYTES
-    for piece in scheduled(text, found):
+    for piece in patiently(scheduled(text, found)):
         room -= len(piece)
         if room < 0:
             raise streams.Failed(4, "later events are wanting, since a deck has 1,048,576 bytes at most")
