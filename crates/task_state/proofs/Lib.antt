@@ -3,3 +3,4 @@ pub mod NumberLaws
 pub mod Stays
 pub mod UnitLaws
 pub mod Keeps
+pub mod Fronts

@@ -1,6 +1,6 @@
 -- What an answer, or control that another's request gave, does to a task, and what the task is told.
-use Rattle.std.specs.Prelude.{ℕ, zero, suc, ◌+◌, Bool, true, false, ◌&&◌, ◌==◌, List, [], ◌∷◌, length, cond, Option}
-use Rattle.std.specs.Prelude.{Some, None}
+use Rattle.std.specs.Prelude.{◌≡◌, ℕ, zero, suc, ◌+◌, Bool, true, false, ◌&&◌, ◌==◌, List, [], ◌∷◌, ◌++◌, length, cond}
+use Rattle.std.specs.Prelude.{Option, Some, None}
 use Rattle.grs_base.specs.Same.{same_res}
 use Rattle.grs_base.specs.declared.resource.Res.{Res}
 use Rattle.grs_base.specs.declared.resource.Ctl.{Ctl}
@@ -17,6 +17,7 @@ use Rattle.grs_wire.specs.declared.request.Answer.{Answer}
 use Rattle.grs_wire.specs.declared.request.Answer.TheVariants.{Coded, Rows}
 use Rattle.grs_wire.specs.declared.told.Verb.TheVariants as verbs
 use Rattle.grs_wire.specs.declared.told.Verb.{Verb}
+use Rattle.grs_wire.specs.declared.told.ToldLine.{ToldLine}
 use Rattle.grs_wire.specs.declared.told.ToldLine.TheVariants as told
 use Rattle.task_state.specs.declared.state.Asked.{Asked}
 use Rattle.task_state.specs.declared.state.Rec.{Rec}
@@ -25,6 +26,10 @@ use Rattle.task_state.specs.declared.state.Phase.{Phase}
 use Rattle.task_state.specs.declared.state.Phase.TheVariants as phases
 use Rattle.task_state.specs.View.{TasksView, is_task, state_of, record_of, with_phase, with_outstanding, with_record}
 use Rattle.task_state.specs.View.{without_record, with_told, with_exclusive, with_rows, without_rows, telling}
+
+-- the lines of one list stand first in another
+abbrev pub IsFront : List ToldLine → List ToldLine → Type 0
+IsFront front lines = (more : List ToldLine) × (lines ≡ front ++ more)
 
 -- whether a code is 00
 abbrev pub is_granted : Code → Bool

@@ -3,9 +3,9 @@
 //! been done, unless a clause says that all is as it was: the system is then to be given up.
 ghost use Rattle.std.specs.Prelude.{◌≡◌, true, cond, length, option_copied, IfOk, OnOk, OnErr};
 ghost use Rattle.gqscan.specs.Shown.{code_for};
-ghost use Rattle.task_state.specs.View.{is_task, state_of, without_record, with_told};
+ghost use Rattle.task_state.specs.View.{is_task, state_of, telling, without_record, without_rows, with_told};
 ghost use Rattle.task_state.specs.Replies as steps;
-ghost use Rattle.task_state.specs.Replies.{tell_line};
+ghost use Rattle.task_state.specs.Replies.{IsFront, tell_line};
 
 use super::codes::{
     is_changed, is_granted, is_held, is_held_for, is_leaving, is_queued, phase_after, phase_asking,
@@ -55,6 +55,7 @@ fn record_enq(
 ) -> Result<(), NoMemory>
     requires { is_task tasks.old task ≡ true }
     ensures step { OnOk result (tasks.new ≡ steps.record_enq tasks.old task res.now ctl unit ret code) }
+    ensures err { OnErr result (tasks.new ≡ tasks.old) }
     ensures system { tasks.new.system ≡ tasks.old.system }
     ensures count { length tasks.new.tasks ≡ length tasks.old.tasks }
 {
@@ -90,7 +91,7 @@ fn record_deq(tasks: &mut Tasks, task: TaskId, res: &Res, code: Code)
 }
 
 /// Answers a task's own request; a record that it makes has this unit.
-#[tactic(auto, using(crate::proofs::Keeps::keeps), unfolding(crate::specs::Replies::after_code))]
+#[tactic(auto, using(crate::proofs::Keeps::keeps, crate::proofs::Fronts::lines), unfolding(crate::specs::Replies::after_code))]
 fn after_code(
     alloc: Global,
     tasks: &mut Tasks,
@@ -101,6 +102,7 @@ fn after_code(
 ) -> Result<(), NoMemory>
     requires { is_task tasks.old task ≡ true }
     ensures step { OnOk result (tasks.new ≡ steps.after_code tasks.old task want.now unit code) }
+    ensures err { OnErr result (tasks.new.told ≡ tasks.old.told) }
     ensures system { tasks.new.system ≡ tasks.old.system }
     ensures count { length tasks.new.tasks ≡ length tasks.old.tasks }
 {
@@ -123,9 +125,9 @@ fn after_code(
     }
 }
 
-/// The same by the whole answer of a request that was decided at once. Looks aren't. Where memory is wanting the record may have
-/// changed, and nothing was told.
-#[tactic(auto, using(crate::proofs::Keeps::keeps), unfolding(crate::specs::Replies::replied))]
+/// The same by the whole answer of a request that was decided at once. Looks aren't. Where memory is wanting nothing was told;
+/// the task's record and its phase may have changed.
+#[tactic(auto, using(crate::proofs::Keeps::keeps, crate::proofs::Fronts::lines), unfolding(crate::specs::Replies::replied))]
 pub fn replied(
     alloc: Global,
     tasks: &mut Tasks,
@@ -136,6 +138,7 @@ pub fn replied(
 ) -> Result<(), NoMemory>
     requires { is_task tasks.old task ≡ true }
     ensures step { OnOk result (tasks.new ≡ steps.replied tasks.old task want.now unit answer.now) }
+    ensures err { OnErr result (tasks.new.told ≡ tasks.old.told) }
     ensures system { tasks.new.system ≡ tasks.old.system }
     ensures count { length tasks.new.tasks ≡ length tasks.old.tasks }
 {
@@ -146,10 +149,11 @@ pub fn replied(
 }
 
 /// A task that was held at a WAIT line for this resource goes on.
-#[tactic(auto, using(crate::proofs::Keeps::keeps), unfolding(crate::specs::Replies::passes_wait))]
+#[tactic(auto, using(crate::proofs::Keeps::keeps, crate::proofs::Fronts::lines), unfolding(crate::specs::Replies::passes_wait))]
 fn passes_wait(tasks: &mut Tasks, task: TaskId, res: &Res) -> Result<(), NoMemory>
     requires { is_task tasks.old task ≡ true }
     ensures step { OnOk result (tasks.new ≡ steps.passes_wait tasks.old task res.now) }
+    ensures err { OnErr result (tasks.new.told ≡ tasks.old.told) }
     ensures system { tasks.new.system ≡ tasks.old.system }
     ensures count { length tasks.new.tasks ≡ length tasks.old.tasks }
 {
@@ -168,12 +172,27 @@ fn passes_wait(tasks: &mut Tasks, task: TaskId, res: &Res) -> Result<(), NoMemor
     })
 }
 
+/// Posts the event control block of a task's line of this number. The task goes on if it was held at a WAIT line for the
+/// resource.
+#[tactic(auto, using(crate::proofs::Keeps::keeps, crate::proofs::Fronts::lines))]
+fn post_line(tasks: &mut Tasks, task: TaskId, res: &Res, line: u32) -> Result<(), NoMemory>
+    requires { is_task tasks.old task ≡ true }
+    ensures step { OnOk result (tasks.new ≡ steps.passes_wait (telling tasks.old (ToldLine.Post task line)) task res.now) }
+    ensures err { OnErr result (IsFront tasks.new.told (steps.passes_wait (telling tasks.old (ToldLine.Post task line)) task res.now).told) }
+    ensures system { tasks.new.system ≡ tasks.old.system }
+    ensures count { length tasks.new.tasks ≡ length tasks.old.tasks }
+{
+    tasks.tell(ToldLine::Post { task, k: line })?;
+    passes_wait(tasks, task, res)
+}
+
 /// Tells a task control for which its line of this number asked: by that line's code if it waited, else
 /// by posting its event control block.
-#[tactic(auto, using(crate::proofs::Keeps::keeps), unfolding(crate::specs::Replies::tell_line))]
+#[tactic(auto, using(crate::proofs::Keeps::keeps, crate::proofs::Fronts::lines), unfolding(crate::specs::Replies::tell_line))]
 fn tell_waiter(tasks: &mut Tasks, task: TaskId, res: &Res, line: u32) -> Result<(), NoMemory>
     requires { is_task tasks.old task ≡ true }
     ensures step { OnOk result (tasks.new ≡ tell_line tasks.old task res.now line) }
+    ensures err { OnErr result (IsFront tasks.new.told (tell_line tasks.old task res.now line).told) }
     ensures system { tasks.new.system ≡ tasks.old.system }
     ensures count { length tasks.new.tasks ≡ length tasks.old.tasks }
 {
@@ -190,13 +209,12 @@ fn tell_waiter(tasks: &mut Tasks, task: TaskId, res: &Res, line: u32) -> Result<
             code: Code::C00,
         })
     } else {
-        tasks.tell(ToldLine::Post { task, k: line })?;
-        passes_wait(tasks, task, res)
+        post_line(tasks, task, res, line)
     }
 }
 
 /// The same, unless the task is about to give the resource up: then it is told nothing.
-#[tactic(auto, using(crate::proofs::Keeps::keeps))]
+#[tactic(auto, using(crate::proofs::Keeps::keeps, crate::proofs::Fronts::lines))]
 fn tell_unless_leaving(
     tasks: &mut Tasks,
     task: TaskId,
@@ -205,6 +223,7 @@ fn tell_unless_leaving(
 ) -> Result<(), NoMemory>
     requires { is_task tasks.old task ≡ true }
     ensures step { OnOk result (tasks.new ≡ cond (steps.is_leaving res.now (state_of tasks.old task).outstanding) (with_told tasks.old task res.now) (tell_line tasks.old task res.now line)) }
+    ensures err { OnErr result (IsFront tasks.new.told (cond (steps.is_leaving res.now (state_of tasks.old task).outstanding) (with_told tasks.old task res.now) (tell_line tasks.old task res.now line)).told) }
     ensures system { tasks.new.system ≡ tasks.old.system }
     ensures count { length tasks.new.tasks ≡ length tasks.old.tasks }
 {
@@ -217,9 +236,10 @@ fn tell_unless_leaving(
 }
 
 /// Tells a task control that it got by another's request; one that isn't of this system is passed over.
-#[tactic(auto, using(crate::proofs::Keeps::keeps), unfolding(crate::specs::Replies::tell_control, crate::specs::Replies::tell_untold))]
+#[tactic(auto, using(crate::proofs::Keeps::keeps, crate::proofs::Fronts::lines), unfolding(crate::specs::Replies::tell_control, crate::specs::Replies::tell_untold))]
 fn tell_control(tasks: &mut Tasks, res: &Res, task: TaskId) -> Result<(), NoMemory>
     ensures step { OnOk result (tasks.new ≡ steps.tell_control tasks.old res.now task) }
+    ensures err { OnErr result (IsFront tasks.new.told (steps.tell_control tasks.old res.now task).told) }
     ensures system { tasks.new.system ≡ tasks.old.system }
     ensures count { length tasks.new.tasks ≡ length tasks.old.tasks }
 {
@@ -236,9 +256,10 @@ fn tell_control(tasks: &mut Tasks, res: &Res, task: TaskId) -> Result<(), NoMemo
 }
 
 /// Tells these tasks control in order.
-#[tactic(auto, using(crate::proofs::Keeps::keeps), unfolding(crate::specs::Replies::tell_all))]
+#[tactic(auto, using(crate::proofs::Keeps::keeps, crate::proofs::Fronts::lines), unfolding(crate::specs::Replies::tell_all))]
 fn tell_all(tasks: &mut Tasks, res: &Res, owners: &[TaskId]) -> Result<(), NoMemory>
     ensures step { OnOk result (tasks.new ≡ steps.tell_all tasks.old res.now owners.now) }
+    ensures err { OnErr result (IsFront tasks.new.told (steps.tell_all tasks.old res.now owners.now).told) }
     ensures system { tasks.new.system ≡ tasks.old.system }
     ensures count { length tasks.new.tasks ≡ length tasks.old.tasks }
 {
@@ -250,11 +271,12 @@ fn tell_all(tasks: &mut Tasks, res: &Res, owners: &[TaskId]) -> Result<(), NoMem
     Ok(())
 }
 
-/// Tells control to the tasks that became owners of this resource, if it is one. Where memory is wanting some were told it, and
-/// one more may be marked and go on.
-#[tactic(auto, using(crate::proofs::Keeps::keeps), unfolding(crate::specs::Replies::tell_new))]
+/// Tells control to the tasks that became owners of this resource, if it is one. Where memory is wanting some of them were told
+/// it, in this order; one more may be marked, and may have gone on to its next line, untold.
+#[tactic(auto, using(crate::proofs::Keeps::keeps, crate::proofs::Fronts::lines), unfolding(crate::specs::Replies::tell_new))]
 pub fn tell_new(tasks: &mut Tasks, res: Option<&Res>, owners: &[TaskId]) -> Result<(), NoMemory>
     ensures step { OnOk result (tasks.new ≡ steps.tell_new tasks.old (option_copied res.entry) owners.now) }
+    ensures err { OnErr result (IsFront tasks.new.told (steps.tell_new tasks.old (option_copied res.entry) owners.now).told) }
     ensures system { tasks.new.system ≡ tasks.old.system }
     ensures count { length tasks.new.tasks ≡ length tasks.old.tasks }
 {
@@ -274,12 +296,13 @@ fn code_of_rows(rows: &List<Row>) -> Result<Code, NoMemory>
     }
 }
 
-/// Tells a task the rows that its last line shows, all of them, and leaves none. Where memory is wanting it has none either, and
-/// was told none.
-#[tactic(auto, using(crate::proofs::Keeps::keeps), unfolding(crate::specs::Replies::tell_rows))]
+/// Tells a task the rows that its last line shows, all of them, and leaves none. Where memory is wanting it has none either, was
+/// told none, and all else is as it was.
+#[tactic(auto, using(crate::proofs::Keeps::keeps, crate::proofs::Fronts::lines), unfolding(crate::specs::Replies::tell_rows))]
 pub fn tell_rows(tasks: &mut Tasks, task: TaskId, verb: Verb) -> Result<(), NoMemory>
     requires { is_task tasks.old task ≡ true }
     ensures step { OnOk result (tasks.new ≡ steps.tell_rows tasks.old task verb) }
+    ensures err { OnErr result (tasks.new ≡ without_rows tasks.old task) }
     ensures system { tasks.new.system ≡ tasks.old.system }
     ensures count { length tasks.new.tasks ≡ length tasks.old.tasks }
 {
@@ -318,7 +341,7 @@ fn next_look(want: Want) -> Result<Want, NoMemory>
 
 /// A task that was shown what this request looked at is told all rows of its line where nothing of it is left; else it
 /// waits to send the look at the next slice.
-#[tactic(auto, using(crate::proofs::Keeps::keeps), unfolding(crate::specs::Replies::goes_on_looking))]
+#[tactic(auto, using(crate::proofs::Keeps::keeps, crate::proofs::Fronts::lines), unfolding(crate::specs::Replies::goes_on_looking))]
 fn go_on_looking(
     tasks: &mut Tasks,
     task: TaskId,
@@ -327,6 +350,7 @@ fn go_on_looking(
 ) -> Result<(), NoMemory>
     requires { is_task tasks.old task ≡ true }
     ensures step { OnOk result (tasks.new ≡ steps.goes_on_looking tasks.old task asked showing.verb showing.left) }
+    ensures err { OnErr result (tasks.new.told ≡ tasks.old.told) }
     ensures system { tasks.new.system ≡ tasks.old.system }
     ensures count { length tasks.new.tasks ≡ length tasks.old.tasks }
 {
@@ -349,7 +373,7 @@ fn go_on_looking(
 }
 
 /// A task whose looks show these rows.
-#[tactic(auto, using(crate::proofs::Keeps::keeps))]
+#[tactic(auto, using(crate::proofs::Keeps::keeps, crate::proofs::Fronts::lines))]
 fn looked(
     alloc: Global,
     tasks: &mut Tasks,
@@ -359,6 +383,7 @@ fn looked(
 ) -> Result<(), NoMemory>
     requires { is_task tasks.old task ≡ true }
     ensures step { OnOk result (tasks.new ≡ steps.looked tasks.old task asked rows.now asked.showing) }
+    ensures err { OnErr result (tasks.new.told ≡ tasks.old.told) }
     ensures system { tasks.new.system ≡ tasks.old.system }
     ensures count { length tasks.new.tasks ≡ length tasks.old.tasks }
 {
@@ -370,7 +395,7 @@ fn looked(
 }
 
 /// The request of a task, which isn't outstanding any more, is answered.
-#[tactic(auto, using(crate::proofs::Keeps::keeps))]
+#[tactic(auto, using(crate::proofs::Keeps::keeps, crate::proofs::Fronts::lines))]
 fn answer_asked(
     alloc: Global,
     tasks: &mut Tasks,
@@ -380,6 +405,7 @@ fn answer_asked(
 ) -> Result<(), NoMemory>
     requires { is_task tasks.old task ≡ true }
     ensures step { OnOk result (tasks.new ≡ steps.answered tasks.old task asked answer.now) }
+    ensures err { OnErr result (tasks.new.told ≡ tasks.old.told) }
     ensures system { tasks.new.system ≡ tasks.old.system }
     ensures count { length tasks.new.tasks ≡ length tasks.old.tasks }
 {
@@ -392,9 +418,9 @@ fn answer_asked(
     }
 }
 
-/// Answers the request of a task that isn't answered yet, if it has one. Where memory is wanting the request is no longer
-/// outstanding, its record and rows may have changed, and nothing was told.
-#[tactic(auto, using(crate::proofs::Keeps::keeps, crate::proofs::ViewLaws::still_asked), unfolding(crate::specs::Replies::tell_answer_any, crate::specs::Replies::tell_answer, crate::specs::Replies::recalled))]
+/// Answers the request of a task that isn't answered yet, if it has one. Where memory is wanting nothing was told, and the
+/// request is no longer outstanding; the task's phase, its record and its rows may have changed.
+#[tactic(auto, using(crate::proofs::Keeps::keeps, crate::proofs::Fronts::lines, crate::proofs::ViewLaws::still_asked), unfolding(crate::specs::Replies::tell_answer_any, crate::specs::Replies::tell_answer, crate::specs::Replies::recalled))]
 pub fn tell_answer(
     alloc: Global,
     tasks: &mut Tasks,
@@ -403,6 +429,7 @@ pub fn tell_answer(
 ) -> Result<(), NoMemory>
     requires { is_task tasks.old task ≡ true }
     ensures step { OnOk result (tasks.new ≡ steps.tell_answer_any tasks.old task answer.now (state_of tasks.old task).outstanding) }
+    ensures err { OnErr result (tasks.new.told ≡ tasks.old.told) }
     ensures system { tasks.new.system ≡ tasks.old.system }
     ensures count { length tasks.new.tasks ≡ length tasks.old.tasks }
 {
