@@ -4,7 +4,7 @@ use Rattle.std.proofs.Common.{refl, ap, sym, ◌∙◌, arith, get_or, set, appe
 use Rattle.std.specs.Prelude.{Result, Ok, Err, IfOk, OnOk, OnErr}
 use Rattle.std.specs.Str.{bytes_eq}
 use Rattle.grs_latch.specs.Latches.{Lists}
-use Rattle.grs_latch.specs.Calls.{Sets, MayCome, AllCome, after_all, set_name, name_of, reply_in, lists_after}
+use Rattle.grs_latch.specs.Calls.{Sets, MayCome, AllCome, after_all, set_name, name_of, is_there, reply_in, lists_after}
 use Rattle.grs_latch.specs.Calls.{reply_apart, made_by, reply, after}
 use Rattle.grs_latch.specs.Places.{set_place}
 use Rattle.grs_latch.specs.declared.call.LatchCall.{LatchCall}
@@ -88,6 +88,13 @@ after-apart c (s ∷ ss) is =
     (λ e. absurd (grind (arith, e, is)))
     (λ e. let on : after c ss ≡ ss ++ made_by c = after-apart c ss (grind (arith, e, is)) in grind (arith, e, on))
 
+pub there-none : (n : List ℕ) (ss : Sets) → length ss ≡ set_place n ss → is_there n ss ≡ false
+there-none n [] is = refl
+there-none n (s ∷ ss) is =
+    by_cases (bytes_eq s.name n)
+    (λ e. absurd (grind (arith, e, is)))
+    (λ e. let on : is_there n ss ≡ false = there-none n ss (grind (arith, e, is)) in grind (arith, e, on))
+
 -- how many there are
 pub after-length : (c : LatchCall) (ss : Sets) → length (after c ss) ≤ length ss + length (made_by c)
 after-length c [] = omega arith
@@ -120,4 +127,4 @@ all_come-more (d ∷ cs) c ss h m = (h.0, all_come-more cs c (after d ss) h.1 m)
 
 pub ruleset name_at = (set_name-at, set_name-end)
 
-pub ruleset calls = (reply-apart, after-apart)
+pub ruleset calls = (reply-apart, after-apart, there-none)

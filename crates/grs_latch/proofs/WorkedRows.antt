@@ -1,17 +1,17 @@
 -- Worked rows of latches: requestors 1 to 4, with lists in order of arrival.
-use Rattle.std.proofs.Common.{◌≡◌, ℕ, Bool, true, false, List, [], ◌∷◌, refl}
+use Rattle.std.proofs.Common.{◌≡◌, ℕ, Bool, true, false, List, [], ◌∷◌, refl, arith, ◌<◌}
 use Rattle.grs_base.specs.Lists.{can_have, standing_of}
 use Rattle.grs_base.specs.declared.resource.TaskId.{TaskId}
 use Rattle.grs_base.specs.declared.resource.Elem.{Elem}
 use Rattle.grs_base.specs.declared.resource.Ctl.{Ctl}
 use Rattle.grs_base.specs.declared.resource.Ctl.TheVariants.{E, S}
-use Rattle.std.specs.Prelude.{codes}
+use Rattle.std.specs.Prelude.{codes, replicate}
 use Rattle.grs_latch.specs.declared.call.LatchCall.{LatchCall}
 use Rattle.grs_latch.specs.declared.call.LatchCall.TheVariants.{Crt, Obt, Rel, Prg}
 use Rattle.grs_latch.specs.declared.reply.Grant.{Grant}
 use Rattle.grs_latch.specs.declared.reply.LatchReply.{LatchReply}
 use Rattle.grs_latch.specs.declared.sets.NamedSet.{NamedSet}
-use Rattle.grs_latch.specs.Calls.{reply, replies, after_all, rows_of}
+use Rattle.grs_latch.specs.Calls.{Sets, MayCome, reply, replies, after_all, rows_of}
 use Rattle.grs_latch.specs.Latches.{Lists, task_of, obtain_code, code_at, changed_at, obtained, release_code, released}
 use Rattle.grs_latch.specs.Latches.{release_grants, purged, requests_of, purge_grants}
 
@@ -165,3 +165,13 @@ second_set_has_place_1 = refl
 
 nothing_purged : reply 0 (Prg seta 9) (of_set seta ((by 1 E ∷ []) ∷ []) ∷ []) ≡ coded 4
 nothing_purged = refl
+
+-- room for a set is asked for where none has its name
+abbrev all_sets : Sets
+all_sets = replicate 64 (of_set seta [])
+
+name_that_is_there : MayCome (Crt seta 2) all_sets
+name_that_is_there = λ new. let e : true ≡ false = new in absurd (cc)
+
+name_that_is_new : MayCome (Crt (codes "B") 2) all_sets → ⊥
+name_that_is_new may = let few : 64 < 64 = (may refl).2 in absurd (omega (arith, few))

@@ -1,6 +1,7 @@
 -- Sets of latches by name: what a call is answered, what it makes of the sets, and what is shown of them.
 -- (z/OS MVS Programming: Authorized Assembler Services Reference, "ISGLCRT", "ISGLOBT", "ISGLREL" and "ISGLPRG".)
-use Rattle.std.specs.Prelude.{ℕ, zero, suc, ◌==◌, ◌≤◌, ◌<◌, List, [], ◌∷◌, ◌++◌, length, map, replicate, if◌then◌else◌}
+use Rattle.std.specs.Prelude.{◌≡◌, ℕ, zero, suc, Bool, false, ◌||◌, ◌==◌, ◌≤◌, ◌<◌, List, [], ◌∷◌, ◌++◌, length, map}
+use Rattle.std.specs.Prelude.{replicate, if◌then◌else◌}
 use Rattle.std.specs.Str.{bytes_eq}
 use Rattle.grs_base.specs.Lists.{can_have, standing_of, owners}
 use Rattle.grs_base.specs.declared.resource.TaskId.{TaskId}
@@ -86,9 +87,14 @@ after c (s ∷ ss) =
     then record { name = s.name; latches = lists_after c s.latches } ∷ ss
     else s ∷ after c ss
 
--- a call that may come: a set that is made has its latches, and there is room for it
+-- whether a set has this name
+abbrev pub is_there : List ℕ → Sets → Bool
+is_there n [] = false
+is_there n (s ∷ ss) = bytes_eq s.name n || is_there n ss
+
+-- a call that may come: where no set has its name, one that makes a set gives it latches, and there is room for it
 abbrev pub MayCome : LatchCall → Sets → Type 0
-MayCome (Crt n count) ss = (1 ≤ count) × (count ≤ most_latches) × (length ss < most_sets)
+MayCome (Crt n count) ss = is_there n ss ≡ false → (1 ≤ count) × (count ≤ most_latches) × (length ss < most_sets)
 MayCome _ ss = Unit {0}
 
 -- the replies of calls, one behind the other, and the sets behind the last

@@ -1,6 +1,6 @@
 //! Sets of latches by name, and calls of them.
-ghost use Rattle.std.specs.Prelude.{◌≡◌, ◌<◌, ◌≤◌, ◌++◌, ◌∷◌, [], length, replicate, IfOk, OnOk, OnErr};
-ghost use Rattle.grs_latch.specs.Calls.{name_of, plain, purge_code, reply_in, lists_after, reply_apart, made_by, reply, after, MayCome, set_name, rows_of};
+ghost use Rattle.std.specs.Prelude.{◌≡◌, ◌<◌, ◌≤◌, ◌++◌, ◌∷◌, [], false, length, replicate, IfOk, OnOk, OnErr};
+ghost use Rattle.grs_latch.specs.Calls.{name_of, plain, purge_code, reply_in, lists_after, reply_apart, made_by, reply, after, is_there, MayCome, set_name, rows_of};
 ghost use Rattle.grs_latch.specs.Places.{set_place};
 
 use super::call::LatchCall;
@@ -145,6 +145,7 @@ fn call_apart(
     call: &LatchCall,
 ) -> Result<LatchReply, NoMemory>
     requires come { MayCome call.now sets.old.items }
+    requires apart { is_there (name_of call.now) sets.old.items ≡ false }
     requires few { length sets.old.items ≤ 64 }
     ensures reply { IfOk result (λ r. r ≡ reply_apart call.now) }
     ensures after { OnOk result (sets.new.items ≡ sets.old.items ++ made_by call.now) }
@@ -220,9 +221,9 @@ impl Latches {
         }
     }
 
-    /// Carries out a call, of which a set that is to be made has 1 to 1,024 latches and finds fewer than 64 there. What it is
-    /// answered is the code of its table, 0C where there is no such set or latch, and who gets a latch by it. Want of
-    /// memory leaves all latches as they were.
+    /// Carries out a call. A set that it makes has 1 to 1,024 latches, and finds fewer than 64 there. What it is answered is
+    /// the code of its table, 0C where there is no such set or latch, and who gets a latch by it. Want of memory leaves
+    /// all latches as they were.
     pub fn call(&mut self, alloc: Global, call: &LatchCall) -> Result<LatchReply, NoMemory>
         requires { MayCome call.now self.old }
         ensures reply { IfOk result (λ r. r ≡ reply 0 call.now self.old) }

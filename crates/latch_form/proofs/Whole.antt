@@ -23,7 +23,7 @@ record IsWhole (d : Draft) : Type 0 where
 
 may_come : (n : List ℕ) (a : Ask) (ts : List Token) (ss : Sets) → IsAsk ts a → length ss + makes a ≤ most_sets
     → MayCome (call_for n a) ss
-may_come n (Make k) ts ss h room = (h.3, h.4, omega (arith, room))
+may_come n (Make k) ts ss h room = λ none. (h.3, h.4, omega (arith, room))
 may_come n (Obtain l r c s) ts ss h room = tt
 may_come n (Release l r) ts ss h room = tt
 may_come n (Purge r) ts ss h room = tt
