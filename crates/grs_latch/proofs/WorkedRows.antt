@@ -12,6 +12,7 @@ use Rattle.grs_latch.specs.declared.reply.Grant.{Grant}
 use Rattle.grs_latch.specs.declared.reply.LatchReply.{LatchReply}
 use Rattle.grs_latch.specs.declared.sets.NamedSet.{NamedSet}
 use Rattle.grs_latch.specs.Calls.{Sets, MayCome, reply, replies, after_all, rows_of}
+use Rattle.grs_latch.specs.Granted.{granted}
 use Rattle.grs_latch.specs.Latches.{Lists, task_of, obtain_code, code_at, changed_at, obtained, release_code, released}
 use Rattle.grs_latch.specs.Latches.{release_grants, purged, requests_of, purge_grants}
 
@@ -165,6 +166,16 @@ second_set_has_place_1 = refl
 
 nothing_purged : reply 0 (Prg seta 9) (of_set seta ((by 1 E ∷ []) ∷ []) ∷ []) ≡ coded 4
 nothing_purged = refl
+
+-- those who waited and own now
+who_waited_owns : granted (by 1 E ∷ by 2 S ∷ by 3 S ∷ by 4 E ∷ []) (by 2 S ∷ by 3 S ∷ by 4 E ∷ []) ≡ task_of 2 ∷ task_of 3 ∷ []
+who_waited_owns = refl
+
+free_latch_is_no_grant : granted [] (by 1 E ∷ []) ≡ []
+free_latch_is_no_grant = refl
+
+owner_before_is_no_grant : granted (by 1 S ∷ by 2 S ∷ by 3 E ∷ []) (by 2 S ∷ by 3 E ∷ []) ≡ []
+owner_before_is_no_grant = refl
 
 -- room for a set is asked for where none has its name
 abbrev all_sets : Sets

@@ -1,4 +1,5 @@
 pub mod Calls
+pub mod Granted
 pub mod Latches
 pub mod Numbered
 pub mod Places

@@ -15,6 +15,8 @@ mod set;
 mod sets;
 
 pub use call::LatchCall;
-pub use laws::latches_are_resources;
+pub use laws::{
+    calls_go_on, grants_are_new_owners, latches_are_resources, latches_have_lists_of_resources,
+};
 pub use reply::{Grant, LatchReply, LatchRow};
 pub use sets::{Latches, name_of};
