@@ -5,7 +5,7 @@ use Rattle.std.specs.Prelude.{slice_get, Result, Ok, Err, IfOk, OnOk}
 use Rattle.std.proofs.lemmas.Bool.{eqb-true, eq-eqb}
 use Rattle.std.proofs.lemmas.Bool.Decides.{nat_tests}
 use Rattle.grs_base.specs.Same.{same_task}
-use Rattle.grs_base.specs.Behind.{tasks_behind}
+use Rattle.grs_base.specs.Behind.{tasks_behind, owner_tasks, shared_tasks}
 use Rattle.grs_base.specs.Lists.{standing_of, place_of, owners, is_apart, has_task, list_without}
 use Rattle.grs_base.specs.State.{Held, list_at, without}
 use Rattle.grs_base.specs.declared.resource.TaskId.{TaskId}
@@ -67,6 +67,37 @@ pub told_ok : {B : Type 0} (es : List Elem) (t : TaskId) (p : ℕ) (o : Result (
 told_ok es t p (Ok told) place apart is =
     is ∙ ap (λ (n : ℕ). tasks_behind es n) place ∙ sym (became_owners-behind es t apart)
 told_ok es t p (Err x) place apart is = tt
+
+-- at most as many as have requests
+shared_tasks-le : (es : List Elem) → length (shared_tasks es) ≤ length es
+shared_tasks-le [] = omega arith
+shared_tasks-le (e ∷ es) = grind (arith, shared_tasks-le es)
+
+owner_tasks-le : (es : List Elem) → length (owner_tasks es) ≤ length es
+owner_tasks-le [] = omega arith
+owner_tasks-le (e ∷ es) = grind (arith, shared_tasks-le es)
+
+drop-le : (n : ℕ) (es : List Elem) → length (drop n es) ≤ length es
+drop-le zero es = omega arith
+drop-le (suc n) [] = omega arith
+drop-le (suc n) (e ∷ es) = omega (arith, drop-le n es)
+
+pub tasks_behind-le : (es : List Elem) (p : ℕ) → length (tasks_behind es p) ≤ length es
+tasks_behind-le es p =
+    grind (
+      arith,
+      nat_tests,
+      owner_tasks-le (drop 1 es),
+      drop-le 1 es,
+      shared_tasks-le (drop (p + 1) es),
+      drop-le (p + 1) es,
+    )
+
+pub owners_without-behind : (es : List Elem) (t : TaskId) → is_apart es ≡ true
+    → owners_without es t ≡ tasks_behind es (place_of es t)
+owners_without-behind es t apart = became_owners-behind es t apart
+
+pub ruleset leaves = (tasks_behind-le, owners_without-behind)
 
 pub ruleset latch = (became_owners-same, queued_absent, absent_place)
 

@@ -4,4 +4,5 @@ pub mod LatchLemmas
 pub mod NumberLemmas
 mod GrantLemmas
 mod LawLemmas
+mod OneLemmas
 pub mod WorkedRows

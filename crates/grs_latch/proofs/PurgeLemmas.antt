@@ -25,7 +25,7 @@ lists-from s (n ∷ ns) zero q at =
     ap (λ (m : ℕ). list_at nat_eq s m ∷ lists_at ns s) same
 lists-from s (n ∷ ns) (suc l) q at = lists-from s ns l q at
 
-requests-next : (es : List Elem) (ls : Lists) (t : TaskId)
+pub requests-next : (es : List Elem) (ls : Lists) (t : TaskId)
     → requests_of (es ∷ ls) t ≡ cond (has_task es t) 1 0 + requests_of ls t
 requests-next es ls t = by_cases (has_task es t) (λ h. grind (arith, h)) (λ h. grind (arith, h))
 

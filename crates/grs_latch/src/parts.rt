@@ -1,12 +1,12 @@
 //! The latches of a set as numbered queues: what calls do to one of them, or to all.
-ghost use Rattle.std.specs.Prelude.{◌≡◌, ◌<◌, ◌≤◌, ◌+◌, ◌++◌, cond, drop, [], true, nat_eq, length, replicate, slice_get, IfOk, OnOk, OnErr};
+ghost use Rattle.std.specs.Prelude.{◌≡◌, ◌<◌, ◌≤◌, ◌+◌, ◌++◌, ◌∷◌, cond, drop, [], true, nat_eq, length, replicate, slice_get, Some, IfSome, IfOk, OnOk, OnErr};
 ghost use Rattle.grs_base.specs.Lists.{can_have, has_task, standing_of};
-ghost use Rattle.grs_base.specs.State.{list_at};
-ghost use Rattle.grs_latch.specs.Latches.{obtain_code, obtained, release_code, released, code_at, changed_at, release_grants, requests_of, purge_grants, grants_at, owners_without};
+ghost use Rattle.grs_base.specs.State.{list_at, queued_by};
+ghost use Rattle.grs_latch.specs.Latches.{obtain_code, obtained, release_code, released, code_at, changed_at, release_grants, requests_of, purged, purge_grants, grants_at, owners_without};
 ghost use Rattle.grs_latch.specs.Numbered.{lists_at, IsNumbered};
 
 use super::codes::NO_LATCH;
-use super::queue::{add_granted, obtain_in, release_in};
+use super::queue::{add_granted, obtain_in, release_in, take_out};
 use super::reply::Grant;
 use grs_base::{Elem, List, NoMemory, Queues, Standing, TaskId};
 use std::alloc::Global;
@@ -103,6 +103,46 @@ pub struct Purged {
     pub taken: u32,
     /// Who gets a latch by it, by latch and then in order of arrival.
     pub grants: List<Grant>,
+}
+
+/// The latch at which a task has its only request. None where it has more or none, or where the latch has another number
+/// than its queue: the queues of a set are made in order, so that they are numbered as the latches are.
+#[tactic(auto, using(crate::proofs::OneLemmas::only))]
+pub(crate) fn only_latch<Q: Queues>(numbers: &List<u32>, queues: &Q, task: TaskId) -> Option<u32>
+    ensures latch { IfSome result (λ latch. slice_get numbers.now latch ≡ Some latch) }
+    ensures only { IfSome result (λ latch. queued_by (Q.elements queues.now) task ≡ latch ∷ []) }
+{
+    if queues.count(task) != 1 {
+        return None;
+    }
+    let queue = queues.first_of(task)?;
+    if queue_of(numbers, queue) == Some(queue) {
+        Some(queue)
+    } else {
+        None
+    }
+}
+
+/// Purges a set, by its place, of a task that has one request, at the latch of this number. Without memory nothing changes.
+pub(crate) fn purge_one<Q: Queues>(
+    alloc: Global,
+    set: u32,
+    numbers: &List<u32>,
+    queues: &mut Q,
+    latch: u32,
+    task: TaskId,
+) -> Result<Purged, NoMemory>
+    requires numbered { IsNumbered numbers.now (Q.is_live queues.old) }
+    requires latch { slice_get numbers.now latch ≡ Some latch }
+    requires only { queued_by (Q.elements queues.old) task ≡ latch ∷ [] }
+    ensures taken { IfOk result (λ p. p.taken ≡ requests_of (lists_at numbers.now (Q.elements queues.old)) task) }
+    ensures grants { IfOk result (λ p. p.grants ≡ purge_grants set 0 (lists_at numbers.now (Q.elements queues.old)) task) }
+    ensures lists { OnOk result (lists_at numbers.now (Q.elements queues.new) ≡ purged (lists_at numbers.now (Q.elements queues.old)) task) }
+    ensures unchanged { OnErr result (Q.elements queues.new ≡ Q.elements queues.old) }
+    ensures numbered { IsNumbered numbers.now (Q.is_live queues.new) }
+{
+    let grants = take_out(alloc, set, latch, queues, latch, task)?;
+    Ok(Purged { taken: 1, grants })
 }
 
 /// Counts a task's request at a latch, where it has one, and puts those behind others who get the latch when it is taken

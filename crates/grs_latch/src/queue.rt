@@ -1,7 +1,7 @@
 //! One latch: a queue, and what calls do to it.
-ghost use Rattle.std.specs.Prelude.{◌≡◌, ◌≤◌, ℕ, true, false, nat_eq, length, IfOk, OnOk, OnErr, ◌++◌, ◌∷◌, []};
+ghost use Rattle.std.specs.Prelude.{◌≡◌, ◌≤◌, ◌+◌, ℕ, true, false, nat_eq, length, IfOk, OnOk, OnErr, ◌++◌, ◌∷◌, [], vec_len, vec_capacity};
 ghost use Rattle.grs_base.specs.Lists.{can_have as can, is_apart, list_without, place_of as place_in, shared_front, standing_of};
-ghost use Rattle.grs_base.specs.State.{list_at};
+ghost use Rattle.grs_base.specs.State.{list_at, without};
 ghost use Rattle.grs_base.specs.declared.decision.Standing.TheVariants.{Absent};
 ghost use Rattle.grs_latch.specs.Latches.{obtain_code as code_of_obtain, obtained, release_code as code_of_release, released, owners_without, grants_at};
 ghost use Rattle.grs_wire.specs.Wants.{became_owners};
@@ -86,8 +86,37 @@ pub(crate) fn add_granted<Q: Queues>(
     add_grants(set, latch, tasks.as_slice(), grants)
 }
 
-/// Takes an owner's request out, and tells who gets the latch by it. Without memory nothing changes.
-fn give_up<Q: Queues>(
+/// Room for as many grants as a latch has requests.
+fn grants_room(alloc: Global, most: usize) -> Result<Vec<Grant>, NoMemory>
+    ensures none { IfOk result (λ room. room.items ≡ []) }
+    ensures room { IfOk result (λ room. vec_len room + most ≤ vec_capacity room) }
+{
+    match Vec::with_capacity(alloc, most) {
+        Ok(room) => Ok(room),
+        Err(_) => Err(NoMemory),
+    }
+}
+
+/// Those who got a latch, put where there is room for as many, so that no memory is taken.
+fn grants_within(room: Vec<Grant>, set: u32, latch: u32, tasks: &[TaskId]) -> List<Grant>
+    requires none { room.items ≡ [] }
+    requires room { vec_len room + length tasks.now ≤ vec_capacity room }
+    ensures { result ≡ grants_at set latch tasks.now }
+{
+    let mut grants = room;
+    for task in tasks {
+        grants.push_reserved(Grant {
+            set,
+            latch,
+            requestor: task.task,
+        });
+    }
+    List::from_vec(grants)
+}
+
+/// Takes a task's request out, and tells who gets the latch by it. Without memory nothing changes.
+#[tactic(auto, using(crate::proofs::LatchLemmas::leaves))]
+pub(crate) fn take_out<Q: Queues>(
     alloc: Global,
     set: u32,
     latch: u32,
@@ -99,13 +128,13 @@ fn give_up<Q: Queues>(
     ensures grants { IfOk result (λ grants. grants ≡ grants_at set latch (owners_without (list_at nat_eq (Q.elements queues.old) queue) task)) }
     ensures list { OnOk result (list_at nat_eq (Q.elements queues.new) queue ≡ list_without (list_at nat_eq (Q.elements queues.old) queue) task) }
     ensures others { (q : ℕ) → nat_eq q queue ≡ false → list_at nat_eq (Q.elements queues.new) q ≡ list_at nat_eq (Q.elements queues.old) q }
+    ensures elements { OnOk result (Q.elements queues.new ≡ without nat_eq (Q.elements queues.old) queue task) }
     ensures unchanged { OnErr result (Q.elements queues.new ≡ Q.elements queues.old) }
     ensures live { (q : ℕ) → Q.is_live queues.new q ≡ Q.is_live queues.old q }
 {
-    let mut grants = List::new(alloc);
-    add_granted(alloc, set, latch, queues, queue, task, &mut grants)?;
-    let _ = queues.take_of(queue, task);
-    Ok(grants)
+    let room = grants_room(alloc, queues.len(queue))?;
+    let tasks = queues.take_told(alloc, queue, task)?;
+    Ok(grants_within(room, set, latch, tasks.as_slice()))
 }
 
 /// Carries out a release of the latch of this number of a set, by its place: the code, and who gets the latch by it.
@@ -131,7 +160,7 @@ pub(crate) fn release_in<Q: Queues>(
     let code = release_code(standing);
     let (_, owns) = deq_table(standing, true);
     if owns {
-        let grants = give_up(alloc, set, latch, queues, queue, task)?;
+        let grants = take_out(alloc, set, latch, queues, queue, task)?;
         Ok((code, grants))
     } else {
         Ok((code, List::new(alloc)))

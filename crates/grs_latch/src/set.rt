@@ -1,12 +1,13 @@
 //! A set of latches.
-ghost use Rattle.std.specs.Prelude.{◌≡◌, ◌<◌, ◌≤◌, ◌++◌, ℕ, [], replicate, IfOk, OnOk, OnErr};
+ghost use Rattle.std.specs.Prelude.{◌≡◌, ◌<◌, ◌≤◌, ◌++◌, ℕ, [], length, replicate, IfOk, OnOk, OnErr};
 ghost use Rattle.grs_base.specs.Lists.{can_have, standing_of};
 ghost use Rattle.qel_store.specs.Items.{without_task};
 ghost use Rattle.grs_latch.specs.Calls.{rows_in};
+ghost use Rattle.grs_latch.specs.Numbered.{lists_at, IsNumbered};
 ghost use Rattle.grs_latch.specs.Latches.{task_of, obtain_code, obtained, release_code, released, code_at, changed_at, release_grants, requests_of, purge_grants, purged as lists_purged};
 
 use super::codes::task_of;
-use super::parts::{Purged, add_latches, obtain_at, purged_in, release_at};
+use super::parts::{Purged, add_latches, obtain_at, only_latch, purge_one, purged_in, release_at};
 use super::reply::{Grant, LatchRow};
 use super::rows::add_rows;
 use grs_base::{Ctl, Elem, List, NoMemory, Queues, Steps, TaskId};
@@ -32,6 +33,28 @@ fn take_all<L: Ledger>(queues: &mut LinkedQueues, task: TaskId, blank: Blank)
 {
     let mut steps = Steps::<L>::begin(blank);
     let _ = queues.end_task(task, &mut steps);
+}
+
+/// Purges a set, by its place, of a task that may have several requests. Without memory nothing changes.
+#[tactic(auto, using(crate::proofs::NumberLemmas::without_all))]
+fn purge_several(
+    alloc: Global,
+    set: u32,
+    numbers: &List<u32>,
+    queues: &mut LinkedQueues,
+    task: TaskId,
+) -> Result<Purged, NoMemory>
+    requires numbered { IsNumbered numbers.now (⟦<LinkedQueues as Queues>⟧.is_live queues.old) }
+    requires few { length numbers.now ≤ 1024 }
+    ensures taken { IfOk result (λ p. p.taken ≡ requests_of (lists_at numbers.now (⟦<LinkedQueues as Queues>⟧.elements queues.old)) task) }
+    ensures grants { IfOk result (λ p. p.grants ≡ purge_grants set 0 (lists_at numbers.now (⟦<LinkedQueues as Queues>⟧.elements queues.old)) task) }
+    ensures lists { OnOk result (lists_at numbers.now (⟦<LinkedQueues as Queues>⟧.elements queues.new) ≡ lists_purged (lists_at numbers.now (⟦<LinkedQueues as Queues>⟧.elements queues.old)) task) }
+    ensures unchanged { OnErr result (⟦<LinkedQueues as Queues>⟧.elements queues.new ≡ ⟦<LinkedQueues as Queues>⟧.elements queues.old) }
+    ensures numbered { IsNumbered numbers.now (⟦<LinkedQueues as Queues>⟧.is_live queues.new) }
+{
+    let purged = purged_in(alloc, set, numbers, queues, task)?;
+    take_all::<Brand>(queues, task, Blank::new(1));
+    Ok(purged)
 }
 
 impl Model for LatchSet {
@@ -100,7 +123,6 @@ impl LatchSet {
 
     /// Takes every request of a requestor out: how many there were, and who gets a latch by it, where the set has this
     /// place among all. Without memory nothing changes.
-    #[tactic(auto, using(crate::proofs::NumberLemmas::without_all))]
     pub fn purge(&mut self, alloc: Global, set: u32, requestor: u16) -> Result<Purged, NoMemory>
         ensures taken { IfOk result (λ p. p.taken ≡ requests_of self.old (task_of requestor)) }
         ensures grants { IfOk result (λ p. p.grants ≡ purge_grants set 0 self.old (task_of requestor)) }
@@ -108,9 +130,10 @@ impl LatchSet {
         ensures unchanged { OnErr result (self.new ≡ self.old) }
     {
         let task = task_of(requestor);
-        let purged = purged_in(alloc, set, &self.numbers, &self.queues, task)?;
-        take_all::<Brand>(&mut self.queues, task, Blank::new(1));
-        Ok(purged)
+        match only_latch(&self.numbers, &self.queues, task) {
+            Some(latch) => purge_one(alloc, set, &self.numbers, &mut self.queues, latch, task),
+            None => purge_several(alloc, set, &self.numbers, &mut self.queues, task),
+        }
     }
 
     /// Puts the latches that have requests behind others, by number, where the set has this place among all.

@@ -1,4 +1,4 @@
-use Rattle.grs_latch.proofs.set.LatchSet.purge.Given as goal
+use Rattle.grs_latch.proofs.set.purge_several.Given as goal
 
 abbrev pub ghosts-take_all : goal.ghosts-take_all
 ghosts-take_all a = record { name = a.blank.name; parts = a.blank.parts }
