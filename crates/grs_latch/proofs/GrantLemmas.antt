@@ -13,7 +13,8 @@ use Rattle.grs_base.specs.declared.decision.Standing.TheVariants.{Absent}
 use Rattle.grs_base.proofs.SameLaws.{same_task-itself, same_task-exact}
 use Rattle.grs_wire.specs.Wants.{became_owners}
 use Rattle.queue_table.proofs.OwnerLemmas.{became_owners-same}
-use Rattle.grs_latch.specs.Latches.{Lists, task_of, is_queued, obtained, released, changed_at, grants_at, owners_without}
+use Rattle.grs_latch.specs.Latches.{Lists, task_of, is_queued, obtained, released, changed_at, grants_at}
+use Rattle.grs_latch.specs.Latches.{owners_without}
 use Rattle.grs_latch.specs.Latches.{release_grants, purged, purge_grants}
 use Rattle.grs_latch.specs.Calls.{Sets, name_of, reply_in, lists_after, reply_apart, reply, after}
 use Rattle.grs_latch.specs.Granted.{waits, granted, granted_in, granted_of}
@@ -85,7 +86,8 @@ granted-either : (b : Bool) (es more : List Elem) → (b ≡ true → granted es
 granted-either true es more h = h refl
 granted-either false es more h = granted-same es
 
-granted-obtained : (t : TaskId) (c : Ctl) (may_wait : Bool) (es : List Elem) → granted es (obtained es t c may_wait) ≡ []
+granted-obtained : (t : TaskId) (c : Ctl) (may_wait : Bool) (es : List Elem)
+    → granted es (obtained es t c may_wait) ≡ []
 granted-obtained t c may_wait es =
     granted-either (is_queued (standing_of es t) (can_have es c) may_wait) es (es ++ record { task = t; ctl = c } ∷ [])
     (λ h. granted-more es (record { task = t; ctl = c })
@@ -104,7 +106,8 @@ left_over before (e ∷ es) t (suc n) there =
     step first (left_over before es t (suc n) deeper) (left_over before es t n deeper) (same_task t e.task) refl
   where
     step : has_task before e.task ≡ true
-        → pick (λ e. not (owns before e.task) && not (same_task t e.task)) (λ e. e.task) (take (suc n) (list_without es t))
+        → pick (λ e. not (owns before e.task) && not (same_task t e.task)) (λ e. e.task)
+        (take (suc n) (list_without es t))
         ≡ pick (λ e. waits before e.task) (λ e. e.task) (take (suc n) (list_without es t))
         → pick (λ e. not (owns before e.task) && not (same_task t e.task)) (λ e. e.task) (take n (list_without es t))
         ≡ pick (λ e. waits before e.task) (λ e. e.task) (take n (list_without es t))

@@ -168,7 +168,9 @@ nothing_purged : reply 0 (Prg seta 9) (of_set seta ((by 1 E ∷ []) ∷ []) ∷ 
 nothing_purged = refl
 
 -- those who waited and own now
-who_waited_owns : granted (by 1 E ∷ by 2 S ∷ by 3 S ∷ by 4 E ∷ []) (by 2 S ∷ by 3 S ∷ by 4 E ∷ []) ≡ task_of 2 ∷ task_of 3 ∷ []
+who_waited_owns :
+    granted (by 1 E ∷ by 2 S ∷ by 3 S ∷ by 4 E ∷ []) (by 2 S ∷ by 3 S ∷ by 4 E ∷ [])
+    ≡ task_of 2 ∷ task_of 3 ∷ []
 who_waited_owns = refl
 
 free_latch_is_no_grant : granted [] (by 1 E ∷ []) ≡ []
