@@ -1,8 +1,10 @@
 -- Lists in the order in which they are shown.
 use Rattle.std.proofs.Common.{◌≡◌, ◌≢◌, ◌≤◌, ◌+◌, ℕ, zero, suc, Bool, true, false, cond, T, List, [], ◌∷◌, ◌&&◌, map}
 use Rattle.std.proofs.Common.{length, drop, take, Option, Some, None, refl, ap, sym, ◌∙◌, arith, nat_eq, append-nil}
+use Rattle.std.proofs.Common.{◌++◌, append_assoc}
+use Rattle.std.proofs.lemmas.List.{reverse-append}
 use Rattle.std.proofs.Math.ListN.{drop_of_length-le}
-use Rattle.std.specs.Prelude.{slice_get, filter}
+use Rattle.std.specs.Prelude.{slice_get, filter, reverse}
 use Rattle.std.specs.declared.cmp.Ordering.{Ordering}
 use Rattle.std.specs.Ordering.{on, eq_by_cmp}
 use Rattle.std.specs.Cmp.{IsTotalOrder}
@@ -336,3 +338,36 @@ rows-all [] = refl
 rows-all (x ∷ rows) = ap (λ (l : List Row). x ∷ l) (rows-all rows)
 
 pub ruleset all_shown = (rows-all)
+
+-- ---- rows that are gathered from the last list to the first
+one_before : {X : Type 0} (b : Bool) (x : X) (xs ys zs : List X) → xs ≡ ys ++ zs
+    → cond b (x ∷ xs) xs ≡ cond b (x ∷ ys) ys ++ zs
+one_before true x xs ys zs e = ap (λ (l : List _). x ∷ l) e
+one_before false x xs ys zs e = e
+
+one_turned : {X : Type 0} (b : Bool) (x : X) → reverse (cond b (x ∷ []) []) ≡ cond b (x ∷ []) []
+one_turned true x = refl
+one_turned false x = refl
+
+abbrev rows_of_lists : Filter → List (Placed × List Elem) → List Row
+rows_of_lists f es = filter (passes f) (map row_of (plain es))
+
+rows-last : (f : Filter) (es : List (Placed × List Elem)) (e : Placed × List Elem)
+    → rows_of_lists f (es ++ e ∷ []) ≡ rows_of_lists f es ++ filter (passes f) (row_of (e.0.res, e.1) ∷ [])
+rows-last f [] e = refl
+rows-last f (x ∷ es) e =
+    one_before (passes f (row_of (x.0.res, x.1))) (row_of (x.0.res, x.1)) _ _ _ (rows-last f es e)
+
+-- the last list's rows come behind those that were gathered before, which stand turned round
+pub rows-gathered : (f : Filter) (es : List (Placed × List Elem)) (e : Placed × List Elem) (rows : List Row)
+    → rows_of_lists f es ++ reverse (rows ++ filter (passes f) (row_of (e.0.res, e.1) ∷ []))
+    ≡ rows_of_lists f (es ++ e ∷ []) ++ reverse rows
+rows-gathered f es e rows =
+    let more = filter (passes f) (row_of (e.0.res, e.1) ∷ []) in
+    ap (λ (l : List Row). rows_of_lists f es ++ l)
+    (reverse-append rows more
+    ∙ ap (λ (l : List Row). l ++ reverse rows) (one_turned (passes f (row_of (e.0.res, e.1))) (row_of (e.0.res, e.1))))
+    ∙ sym (append_assoc (rows_of_lists f es) more (reverse rows))
+    ∙ ap (λ (l : List Row). l ++ reverse rows) (sym (rows-last f es e))
+
+pub ruleset gathered = (rows-gathered)

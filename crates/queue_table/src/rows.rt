@@ -1,6 +1,6 @@
 //! The lists of a table as they are shown: with their resources, in order, and with their numbers of owners;
 //! all of them, or those of a place that pass a filter.
-ghost use Rattle.std.specs.Prelude.{◌≡◌, ◌++◌, ◌∷◌, [], true, cond, filter, map, nat_eq, Some, IfOk, OnOk};
+ghost use Rattle.std.specs.Prelude.{◌≡◌, ◌++◌, ◌∷◌, [], true, cond, filter, map, reverse, nat_eq, Some, IfOk, OnOk};
 ghost use Rattle.grs_base.specs.Lists.{is_apart};
 ghost use Rattle.grs_base.specs.State.{list_at, list_of};
 ghost use Rattle.grs_base.specs.Rows.{lists_of, row_of, rows_of};
@@ -185,7 +185,18 @@ fn add_row(rows: &mut List<Row>, row: Row, chosen: &Filter) -> Result<(), NoMemo
     }
 }
 
-/// The rows that pass, of lists that stand in order.
+/// Rows from the last to the first.
+fn turned(rows: List<Row>) -> List<Row>
+    ensures { result ≡ reverse rows }
+{
+    let mut rows = rows.into_vec();
+    rows.as_mut_slice().reverse();
+    List::from_vec(rows)
+}
+
+/// The rows that pass, of lists that stand in order. The last list is taken first, since those behind the first one would
+/// have to move.
+#[tactic(auto, using(crate::proofs::RowLemmas::gathered))]
 fn rows_from(
     alloc: Global,
     mut lists: BTreeMap<Placed, List<Elem>>,
@@ -193,11 +204,11 @@ fn rows_from(
 ) -> Result<List<Row>, NoMemory>
     ensures { IfOk result (λ rows. rows ≡ filter (passes chosen.now) (map row_of (plain lists.entries))) }
 {
-    let mut rows = List::new(alloc);
-    'lists: while let Some((placed, elems)) = lists.pop_first() {
+    let mut rows = List::with_room(alloc, lists.len())?;
+    'lists: while let Some((placed, elems)) = lists.pop_last() {
         add_row(&mut rows, row(placed.res, elems)?, chosen)?;
     }
-    Ok(rows)
+    Ok(turned(rows))
 }
 
 /// What is shown of the lists of a place, or of all.

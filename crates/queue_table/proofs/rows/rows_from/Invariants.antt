@@ -1,4 +1,5 @@
 use Rattle.std.proofs.Common.{◌≡◌, ◌++◌, map, filter}
+use Rattle.std.specs.Prelude.{reverse}
 use Rattle.std.specs.BTreeMap.{btree_map_len}
 use Rattle.grs_base.specs.Rows.{row_of}
 use Rattle.queue_table.specs.Shown.{plain, passes}
@@ -6,7 +7,7 @@ use Rattle.queue_table.proofs.rows.rows_from.Given as goal
 
 abbrev pub invariant-lists : goal.invariant-lists
 invariant-lists l =
-    l.rows ++ filter (passes l.chosen) (map row_of (plain l.lists.entries))
+    filter (passes l.chosen) (map row_of (plain l.lists.entries)) ++ reverse l.rows
     ≡ filter (passes l.chosen) (map row_of (plain l.fn.lists.entries))
 
 abbrev pub decreases-lists : goal.decreases-lists
