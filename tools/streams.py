@@ -16,6 +16,8 @@ class Failed(Exception):
 def take(name=None, most=-1):
     """The bytes of a file, or of standard input without a name or with the name -; at most so many."""
     name = None if name == "-" else name
+    if name is None and os.isatty(0):
+        say("grs", "standard input is the terminal, which is read up to Ctrl-D")
     try:
         with open(0 if name is None else name, "rb", closefd=name is not None) as file:
             return file.read(most)
