@@ -1,0 +1,7 @@
+pub mod Samples
+pub mod CodeLaws
+pub mod TurnLaws
+pub mod RemovalLemmas
+pub mod StepLemmas
+pub mod TextLemmas
+pub mod CompareLemmas

@@ -1,0 +1,4 @@
+pub mod Same
+pub mod Notices
+pub mod Laws
+pub mod Text

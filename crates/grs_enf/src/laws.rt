@@ -1,0 +1,13 @@
+//! Laws of notices: each function's contract is one, and there is nothing to run.
+ghost use Rattle.grs_enf.specs.Laws.{CodesTellNotices, NoticesAlternate};
+
+/// The codes of a legal history tell its notices.
+pub fn codes_tell_notices()
+    ensures { CodesTellNotices }
+{}
+
+/// Of each resource BEGIN and END come by turns, beginning with BEGIN, and the last of them is BEGIN exactly where the
+/// resource is contended in the end.
+pub fn notices_alternate()
+    ensures { NoticesAlternate }
+{}
