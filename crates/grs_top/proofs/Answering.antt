@@ -10,7 +10,7 @@ use Rattle.grs_report.specs.Ends.{all_ended}
 use Rattle.grs_top.specs.declared.status.Status.{Status}
 use Rattle.grs_top.specs.declared.status.Status.TheVariants as statuses
 use Rattle.grs_top.specs.declared.words.Command.{Command}
-use Rattle.grs_top.specs.declared.words.Command.TheVariants.{Replay, Run, Lists}
+use Rattle.grs_top.specs.declared.words.Command.TheVariants.{Replay, Run, Lists, Analyze, Notices}
 use Rattle.grs_top.specs.Seen.{seen_of_run, ending}
 use Rattle.grs_top.specs.Commands.{limit_of, InputOf, SpellsInput, IsTextOf, EndsRun, EndsDone, EndsBy, NamesStatus}
 use Rattle.grs_top.specs.Due.{IsAnswered, IsDue}
@@ -43,12 +43,16 @@ ends_by : (c : Command) (x : InputOf c) (out : List ℕ) (s : Status) → IsText
 ends_by Replay d out s is = ending_ends (unscheduled d) d.events s is.ends
 ends_by Run d out s is = ending_ends (unscheduled d) is.events s is.reported.ends
 ends_by Lists d out s is = subst (EndsBy Lists) (sym is.1) tt
+ends_by Analyze d out s is = ending_ends (unscheduled d) d.events s is.ends
+ends_by Notices d out s is = ending_ends (unscheduled d) d.events s is.ends
 
 -- what is spelled is short
 short_input : (c : Command) (text : List ℕ) (x : InputOf c) → SpellsInput c text x → length text ≤ limit_of c
 short_input Replay text d spelled = spelled.short
 short_input Run text d spelled = spelled.short
 short_input Lists text d spelled = spelled.short
+short_input Analyze text d spelled = spelled.short
+short_input Notices text d spelled = spelled.short
 
 done_ends : (s : Status) → EndsDone s → EndsRun s
 done_ends statuses.Done end = tt
@@ -64,6 +68,8 @@ ends_either : (c : Command) (s : Status) → EndsBy c s → EndsRun s
 ends_either Replay s end = end
 ends_either Run s end = end
 ends_either Lists s end = done_ends s end
+ends_either Analyze s end = end
+ends_either Notices s end = end
 
 completes_answers : (c : Command) (old new : Streams) (s : Status) → EndsBy c s → Completes c old new s
     → Answers c old new s

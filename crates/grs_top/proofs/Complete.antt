@@ -17,7 +17,7 @@ use Rattle.grs_io.specs.Moved.{TakesFirst}
 use Rattle.grs_top.specs.declared.status.Status.{Status}
 use Rattle.grs_top.specs.declared.status.Status.TheVariants as statuses
 use Rattle.grs_top.specs.declared.words.Command.{Command}
-use Rattle.grs_top.specs.declared.words.Command.TheVariants.{Replay, Run, Lists}
+use Rattle.grs_top.specs.declared.words.Command.TheVariants.{Replay, Run, Lists, Analyze, Notices}
 use Rattle.grs_top.specs.Commands.{limit_of, InputOf, SpellsInput, IsFaultOf, IsTextOf}
 use Rattle.grs_top.specs.Due.{fault_line}
 use Rattle.grs_top.specs.Answers.{Streams, TakesAll, Completes, Answers}
@@ -175,6 +175,8 @@ module _
   reads Replay = decks
   reads Run = decks
   reads Lists = decks
+  reads Analyze = decks
+  reads Notices = decks
 
   pub whole : WholeUnlessMemory
   whole c = whole_of c (reads c)

@@ -1,11 +1,16 @@
 -- What is due for a text, by what its reading answers.
-use Rattle.std.proofs.Common.{◌≡◌, ℕ, true, List, [], length, ap, sym, subst, ◌∙◌, inl, inr, Result, Ok, Err, IfOk}
+use Rattle.std.proofs.Common.{◌≡◌, ℕ, true, List, length, ap, sym, subst, ◌∙◌, inl, inr, Result, Ok, Err, IfOk}
 use Rattle.std.proofs.Common.{if◌then◌else◌}
+use Rattle.grs_analyze.specs.Depends.{AreApart, ListsAreApart}
+use Rattle.grs_analyze.specs.Text.{analysis_text}
 use Rattle.grs_base.specs.declared.fault.DeckFault.{DeckFault}
 use Rattle.grs_base.specs.declared.fault.ReadError.{ReadError}
 use Rattle.grs_base.specs.declared.fault.ReadError.TheVariants as read_errors
 use Rattle.grs_deck.specs.Faults.{IsFault, Answers as AnswersDeck}
+use Rattle.grs_enf.specs.Notices.{notices}
+use Rattle.grs_enf.specs.Text.{notices_text}
 use Rattle.grs_history.specs.Merge.{merged_steps}
+use Rattle.grs_legal.specs.Legal.{Legal}
 use Rattle.grs_medium.specs.Medium.{MediumState}
 use Rattle.grs_node.specs.Log.{NodeView}
 use Rattle.grs_report.specs.Ends.{all_ended}
@@ -14,6 +19,7 @@ use Rattle.std.proofs.lemmas.List.Elements.{All-nil}
 use Rattle.grs_wire.specs.Decks.{AreOrders, IsDeck, IsEventOf}
 use Rattle.grs_wire.specs.declared.deck.Deck.{Deck as DeckValue}
 use Rattle.grs_wire.specs.declared.deck.Event.{Event}
+use Rattle.grs_wire.specs.declared.history.HistEntry.{HistEntry}
 use Rattle.grs_wire.specs.declared.medium.JEntry.{JEntry}
 use Rattle.grs_wire.specs.declared.seen.Seen.{Seen}
 use Rattle.grs_workers.specs.Beside.{RanBeside, AllLast}
@@ -23,17 +29,18 @@ use Rattle.grs_world.specs.Decks.{may_be_star, FitsStar}
 use Rattle.grs_world.specs.Passed.{PassedIsTold}
 use Rattle.grs_world.specs.Removing.{RemovedTellNothing}
 use Rattle.grs_world.specs.Running.{at_rest}
-use Rattle.grs_world.specs.World.{first_world, run}
+use Rattle.grs_world.specs.World.{first_world, run, hist}
 use Rattle.grs_top.specs.Beside.{AllDo, logs_of, MergedRuns, MergedRests}
 use Rattle.grs_top.specs.Commands.{InputOf, SpellsInput, IsFaultOf, IsTextOf}
 use Rattle.grs_top.specs.Due.{fault_line, IsDue}
 use Rattle.grs_top.specs.Schedules.{unscheduled}
-use Rattle.grs_top.specs.Texts.{IsReported, IsRunToRest}
+use Rattle.grs_top.specs.Texts.{IsReported, IsRunToRest, IsToldOf, IsAnalyzed, AreNoticed}
 use Rattle.grs_top.specs.Seen.{seen_of_run, report_of, ending}
 use Rattle.grs_top.specs.declared.due.Due.{Due}
+use Rattle.grs_top.specs.declared.status.Status.{Status}
 use Rattle.grs_top.specs.declared.status.Status.TheVariants.{Deck, Done, Waits}
 use Rattle.grs_top.specs.declared.words.Command.{Command}
-use Rattle.grs_top.specs.declared.words.Command.TheVariants.{Replay, Run}
+use Rattle.grs_top.specs.declared.words.Command.TheVariants.{Run}
 
 pub answered_due : {E : Type 0} (c : Command) (text : List ℕ) (x : InputOf c) (r : Result Due E) → SpellsInput c text x
     → IfOk r (λ due. IsTextOf c x due.out due.status) → IfOk r (λ due. IsDue c text due.out due.status)
@@ -74,14 +81,14 @@ bare_deck d h = record {
 }
 
 -- what is written of a deck apart from its schedule is what the command writes for it
-pub replayed_apart :
-    {E : Type 0} (deck bare : DeckValue) (es : List Event) (r : Result Due E) → bare ≡ unscheduled deck
-    → es ≡ deck.events → IfOk r (λ due. IsReported bare es due.out due.status)
-    → IfOk r (λ due. IsTextOf Replay deck due.out due.status)
-replayed_apart deck bare es (Ok due) is events done =
-    subst (λ (d : DeckValue). IsReported d deck.events due.out due.status) is
-    (subst (λ (xs : List Event). IsReported bare xs due.out due.status) events done)
-replayed_apart deck bare es (Err e) is events done = tt
+pub apart :
+    {E : Type 0} (Is : DeckValue → List Event → List ℕ → Status → Type 0) (deck bare : DeckValue) (es : List Event)
+    (r : Result Due E) → bare ≡ unscheduled deck → es ≡ deck.events → IfOk r (λ due. Is bare es due.out due.status)
+    → IfOk r (λ due. Is (unscheduled deck) deck.events due.out due.status)
+apart Is deck bare es (Ok due) is events done =
+    subst (λ (d : DeckValue). Is d deck.events due.out due.status) is
+    (subst (λ (xs : List Event). Is bare xs due.out due.status) events done)
+apart Is deck bare es (Err e) is events done = tt
 
 pub ran_apart :
     {E : Type 0} (deck bare : DeckValue) (r : Result Due E) → bare ≡ unscheduled deck
@@ -116,6 +123,44 @@ replay_due d es seen (Ok due) whole sound passed silent is out status = record {
   silent = silent d es;
 }
 replay_due d es seen (Err e) whole sound passed silent is out status = tt
+
+-- ---- other texts of a run, by what is seen of it
+told_of :
+    (text : Seen → List ℕ) (d : DeckValue) (es : List Event) (seen : Seen) (out : List ℕ) (status : Status) → IsDeck d
+    → OfRuns Sound → seen ≡ seen_of_run d es → out ≡ text seen
+    → status ≡ (if all_ended seen.ended then Done else Waits) → IsToldOf d es (text (seen_of_run d es)) out status
+unfolding ending
+told_of text d es seen out status whole sound is written ends = record {
+  whole = written ∙ ap text is;
+  ends = ends ∙ ap (λ (x : Seen). if all_ended x.ended then Done else Waits) is;
+  sound = of_deck Sound sound d whole es;
+}
+
+pub analyzed_of :
+    (d : DeckValue) (es : List Event) (seen : Seen) (out : List ℕ) (status : Status) → IsDeck d → OfRuns Sound
+    → seen ≡ seen_of_run d es → out ≡ analysis_text d seen.queues
+    → status ≡ (if all_ended seen.ended then Done else Waits) → IsAnalyzed d es out status
+unfolding seen_of_run
+analyzed_of d = told_of (λ (x : Seen). analysis_text d x.queues) d
+
+pub noticed_of :
+    (d : DeckValue) (es : List Event) (seen : Seen) (hs : List HistEntry) (out : List ℕ) (status : Status) → IsDeck d
+    → OfRuns Sound → seen ≡ seen_of_run d es → hs ≡ seen.hist
+    → (Legal d hs → out ≡ notices_text d (notices d.limit hs))
+    → status ≡ (if all_ended seen.ended then Done else Waits) → AreNoticed d es out status
+unfolding seen_of_run
+noticed_of d es seen hs out status whole sound is lent written =
+    let legal : Legal d seen.hist =
+    subst (λ (x : Seen). Legal d x.hist) (sym is) (of_deck Sound sound d whole es).legal in
+    told_of (λ (x : Seen). notices_text d (notices d.limit x.hist)) d es seen out status whole sound is
+    (subst (λ (xs : List HistEntry). Legal d xs → out ≡ notices_text d (notices d.limit xs)) lent written legal)
+
+-- the lists that a run leaves may be analyzed
+pub seen_apart : (d : DeckValue) (es : List Event) (seen : Seen) → ListsAreApart → seen ≡ seen_of_run d es
+    → AreApart seen.queues
+unfolding seen_of_run
+seen_apart d es seen apart_lists is =
+    subst (λ (x : Seen). AreApart x.queues) (sym is) (apart_lists d.limit (hist d es))
 
 pub run_due :
     {E : Type 0} (d : DeckValue) (m : MediumState) (journal slice : List JEntry) (vs : List NodeView) (seen : Seen)

@@ -18,7 +18,7 @@ use Rattle.grs_top.specs.Due.{IsAnswered}
 use Rattle.grs_top.specs.Schedules.{unscheduled}
 use Rattle.grs_top.specs.declared.status.Status.{Status}
 use Rattle.grs_top.specs.declared.words.Command.{Command}
-use Rattle.grs_top.specs.declared.words.Command.TheVariants.{Replay, Run, Lists}
+use Rattle.grs_top.specs.declared.words.Command.TheVariants.{Replay, Run, Lists, Analyze, Notices}
 
 -- What one event fixed, where so many things were fixed by the first events.
 abbrev pub fixed_by_event : List (SysId × Fixed) → (ℕ → ℕ) → ℕ → List (SysId × Fixed)
@@ -71,6 +71,8 @@ pub record ShowsOneHistory (deck : Deck) (es : List Event) (text : List ℕ) : T
 -- deck's events, or by those that were made.
 abbrev pub ShowsHistory : Command → List ℕ → List ℕ → Type 0
 ShowsHistory Lists text out = Unit {0}
+ShowsHistory Analyze text out = Unit {0}
+ShowsHistory Notices text out = Unit {0}
 ShowsHistory Replay text out = (deck : Deck) × SpellsDeck text deck × ShowsOneHistory (unscheduled deck) deck.events out
 ShowsHistory Run text out =
     (deck : Deck) × SpellsDeck text deck × ((es : List Event) × ShowsOneHistory (unscheduled deck) es out)

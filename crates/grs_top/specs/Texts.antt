@@ -1,5 +1,7 @@
 -- What is written of a deck, and the status where all of it is.
 use Rattle.std.specs.Prelude.{◌≡◌, ℕ, true, List}
+use Rattle.grs_base.specs.Rows.{rows_of}
+use Rattle.grs_wire.specs.History.{replay}
 use Rattle.grs_wire.specs.declared.deck.Deck.{Deck as DeckValue}
 use Rattle.grs_wire.specs.declared.deck.Event.{Event}
 use Rattle.grs_world.specs.Agree.{Sound}
@@ -7,7 +9,10 @@ use Rattle.grs_world.specs.AtRest.{NothingIsLost}
 use Rattle.grs_world.specs.Passed.{PassedIsTold}
 use Rattle.grs_world.specs.Removing.{RemovedTellNothing}
 use Rattle.grs_world.specs.Running.{at_rest}
-use Rattle.grs_world.specs.World.{first_world, run}
+use Rattle.grs_world.specs.World.{first_world, run, hist}
+use Rattle.grs_analyze.specs.Text.{analysis_text}
+use Rattle.grs_enf.specs.Notices.{notices}
+use Rattle.grs_enf.specs.Text.{notices_text}
 use Rattle.grs_top.specs.declared.status.Status.{Status}
 use Rattle.grs_top.specs.declared.status.Status.TheVariants.{Done}
 use Rattle.grs_top.specs.Beside.{AllDo}
@@ -31,6 +36,20 @@ pub record IsRunToRest (deck : DeckValue) (out : List ℕ) (status : Status) : T
   pub reported : IsReported deck events out status
   pub rest : at_rest deck (run deck events) ≡ true
   pub nothing_lost : NothingIsLost deck events
+
+-- The run of these events is sound; the text is written, and the status says how the run ends.
+pub record IsToldOf (deck : DeckValue) (es : List Event) (text out : List ℕ) (status : Status) : Type 0 where
+  pub whole : out ≡ text
+  pub ends : status ≡ ending deck es
+  pub sound : Sound deck es
+
+-- Written is who waits for whom by the lists that the run's history leaves.
+abbrev pub IsAnalyzed : DeckValue → List Event → List ℕ → Status → Type 0
+IsAnalyzed deck es = IsToldOf deck es (analysis_text deck (rows_of (replay deck.limit (hist deck es))))
+
+-- Written is what is noticed of contention along the run's history.
+abbrev pub AreNoticed : DeckValue → List Event → List ℕ → Status → Type 0
+AreNoticed deck es = IsToldOf deck es (notices_text deck (notices deck.limit (hist deck es)))
 
 -- The deck's name lists are written, and there is nothing to wait for.
 abbrev pub IsListed : DeckValue → List ℕ → Status → Type 0

@@ -8,14 +8,16 @@ use Rattle.grs_base.specs.ShortNames.{is_digit}
 use Rattle.grs_top.specs.declared.words.Form.{Form}
 use Rattle.grs_top.specs.declared.words.Form.TheVariants.{OfText, Generate}
 use Rattle.grs_top.specs.declared.words.Command.{Command}
-use Rattle.grs_top.specs.declared.words.Command.TheVariants.{Replay, Run, Lists}
+use Rattle.grs_top.specs.declared.words.Command.TheVariants.{Replay, Run, Lists, Analyze, Notices}
 
 -- the command of a word
 abbrev pub command_named : List ℕ → Option Command
 command_named word =
     if bytes_eq word (codes "replay") then Some Replay
     else (if bytes_eq word (codes "run") then Some Run
-    else (if bytes_eq word (codes "lists") then Some Lists else None))
+    else (if bytes_eq word (codes "lists") then Some Lists
+    else (if bytes_eq word (codes "analyze") then Some Analyze
+    else (if bytes_eq word (codes "notices") then Some Notices else None))))
 
 -- a number of which a deck can be made: 1 to 64
 abbrev pub size_in : ℕ → Option ℕ

@@ -9,7 +9,7 @@ ghost use Rattle.grs_top.specs.Forms.{AnswersForm};
 ghost use Rattle.grs_top.specs.Words.{form_of};
 
 use super::Status;
-use super::due::{Due, due_by_lists, due_by_replay, due_by_run};
+use super::due::{Due, due_by_analyze, due_by_lists, due_by_notices, due_by_replay, due_by_run};
 use super::generate::gen_command;
 use super::words::{Command, Form, form_of};
 use deck_scan::MOST_TEXT_BYTES;
@@ -26,7 +26,8 @@ fn limit_of(command: Command) -> usize
     ensures room { result < usize.MAX }
 {
     match command {
-        Command::Replay | Command::Run | Command::Lists => MOST_TEXT_BYTES,
+        Command::Replay | Command::Run | Command::Lists | Command::Analyze | Command::Notices =>
+            MOST_TEXT_BYTES,
     }
 }
 
@@ -159,8 +160,48 @@ pub fn lists_command<S: Source, K: Sink>(alloc: Global, source: &mut S, sink: &m
     )
 }
 
-/// Does what the words after the program's name ask for. The words are `replay`, `run` or `lists`, or `gen` and a number from 1
-/// to 64; no others are known, and `Words` is the answer to these: then nothing is read and nothing written. Nothing is read for
+/// Reads a deck from a source, runs its schedule, and writes to a sink who waits for whom by the lists that the run leaves: how many
+/// elements wait, each list where somebody waits with the task that keeps each waiter from control, and tasks that wait for one another
+/// in a circle, where there are such. (z/OS MVS System Commands: DISPLAY GRS,ANALYZE.) It reads and writes as `replay_command` does, and
+/// its statuses say what they say there.
+pub fn analyze_command<S: Source, K: Sink>(alloc: Global, source: &mut S, sink: &mut K) -> Status
+    ensures answer { Answers Command.Analyze
+        (streams (S.left source.old) (K.written sink.old) (S.faults source.old) (K.faults sink.old))
+        (streams (S.left source.new) (K.written sink.new) (S.faults source.new) (K.faults sink.new))
+        result }
+    ensures named { NamesStatus Command.Analyze result }
+{
+    answer(
+        alloc,
+        Command::Analyze,
+        source,
+        sink,
+        &|text| due_by_analyze(alloc, text),
+    )
+}
+
+/// Reads a deck from a source, runs its schedule, and writes to a sink what is noticed of contention along the run's history: where
+/// somebody begins to wait for a resource, where the list of one for which somebody waits changes, and where nobody waits any more.
+/// (z/OS MVS Programming: Authorized Assembler Services Guide, event notification facility, signal 51.) It reads and writes as
+/// `replay_command` does, and its statuses say what they say there.
+pub fn notices_command<S: Source, K: Sink>(alloc: Global, source: &mut S, sink: &mut K) -> Status
+    ensures answer { Answers Command.Notices
+        (streams (S.left source.old) (K.written sink.old) (S.faults source.old) (K.faults sink.old))
+        (streams (S.left source.new) (K.written sink.new) (S.faults source.new) (K.faults sink.new))
+        result }
+    ensures named { NamesStatus Command.Notices result }
+{
+    answer(
+        alloc,
+        Command::Notices,
+        source,
+        sink,
+        &|text| due_by_notices(alloc, text),
+    )
+}
+
+/// Does what the words after the program's name ask for. The words are the name of a command, or `gen` and a number from 1 to 64; no
+/// others are known, and `Words` is the answer to these: then nothing is read and nothing written. Nothing is read for
 /// `gen` either. Only `run` waits, and looks at the gate.
 pub fn grs<R: Threads + Wait + Sync, S: Source, K: Sink, G: Gate + Sync>(
     rt: &R,
@@ -185,6 +226,8 @@ pub fn grs<R: Threads + Wait + Sync, S: Source, K: Sink, G: Gate + Sync>(
         Some(Form::OfText(Command::Replay)) => replay_command(alloc, source, sink),
         Some(Form::OfText(Command::Run)) => run_command(rt, alloc, source, sink, gate),
         Some(Form::OfText(Command::Lists)) => lists_command(alloc, source, sink),
+        Some(Form::OfText(Command::Analyze)) => analyze_command(alloc, source, sink),
+        Some(Form::OfText(Command::Notices)) => notices_command(alloc, source, sink),
         Some(Form::Generate(n)) => gen_command(alloc, n, sink),
         None => Status::Words,
     }

@@ -1,12 +1,15 @@
 //! What a text is answered by: what the command writes for the deck that it spells, or the line of its first
 //! fault. The answer is built whole before any of it is written.
 ghost use Rattle.std.specs.Prelude.{◌≡◌, IfOk, if◌then◌else◌};
+ghost use Rattle.grs_analyze.specs.Text.{analysis_text};
+ghost use Rattle.grs_enf.specs.Notices.{notices};
+ghost use Rattle.grs_enf.specs.Text.{notices_text};
 ghost use Rattle.grs_report.specs.Ends.{all_ended};
 ghost use Rattle.grs_report.specs.Report.{report};
 ghost use Rattle.grs_wire.specs.Decks.{IsDeck};
 ghost use Rattle.grs_top.specs.Due.{fault_line, IsDue};
 ghost use Rattle.grs_top.specs.Schedules.{unscheduled};
-ghost use Rattle.grs_top.specs.Texts.{IsReported, IsRunToRest, IsListed};
+ghost use Rattle.grs_top.specs.Texts.{IsReported, IsRunToRest, IsAnalyzed, AreNoticed, IsListed};
 
 use super::Status;
 use super::beside::seen_of;
@@ -15,8 +18,11 @@ use super::laws::{merged_rests, merged_runs};
 use super::lists::lists_text;
 use super::seen::seen_by_replay;
 use super::words::Command;
+use grs_analyze::analysis_text;
+use grs_analyze::laws::lists_are_apart;
 use grs_base::{List, NoMemory, ReadError};
 use grs_deck::read_deck;
+use grs_enf::notices_text;
 use grs_report::{all_ended, report};
 use grs_wire::{Deck, Event, Seen};
 use grs_workers::{Gate, run_workers};
@@ -38,6 +44,17 @@ fn ending(done: bool) -> Status
     if done { Status::Done } else { Status::Waits }
 }
 
+/// A text of a run, with how the run ends by what is seen of it.
+fn told(out: List<u8>, seen: &Seen) -> Due
+    ensures out { result.out ≡ out }
+    ensures status { result.status ≡ (if all_ended seen.now.ended then Status.Done else Status.Waits) }
+{
+    Due {
+        out,
+        status: ending(all_ended(seen.ended.as_slice())),
+    }
+}
+
 /// The report of what is seen of a run.
 fn report_due(alloc: Global, deck: &Deck, seen: &Seen) -> Result<Due, NoMemory>
     requires { IsDeck deck.now }
@@ -45,10 +62,7 @@ fn report_due(alloc: Global, deck: &Deck, seen: &Seen) -> Result<Due, NoMemory>
     ensures status { IfOk result (λ due. due.status ≡ (if all_ended seen.now.ended then Status.Done else Status.Waits)) }
 {
     let out = report(alloc, deck, seen)?;
-    Ok(Due {
-        out,
-        status: ending(all_ended(seen.ended.as_slice())),
-    })
+    Ok(told(out, seen))
 }
 
 /// A deck without its schedule, and the events that stood there.
@@ -108,6 +122,29 @@ pub(crate) fn ran<R: Threads + Wait + Sync, G: Gate + Sync>(
     let ran = run_workers(rt, alloc, deck, gate)?;
     let seen = seen_of(alloc, deck, &ran.medium, ran.journal.as_slice(), &ran.nodes)?;
     report_due(alloc, deck, &seen)
+}
+
+/// The analysis of the lists that the run of these events leaves.
+fn analyzed(alloc: Global, deck: &Deck, events: List<Event>) -> Result<Due, NoMemory>
+    requires { IsDeck deck.now }
+    ensures { IfOk result (λ due. IsAnalyzed deck.now events due.out due.status) }
+{
+    runs_are_sound();
+    lists_are_apart();
+    let seen = seen_by_replay(alloc, deck, events)?;
+    let out = analysis_text(alloc, deck, &seen.queues)?;
+    Ok(told(out, &seen))
+}
+
+/// The notices of contention along the history of the run of these events.
+fn noticed(alloc: Global, deck: &Deck, events: List<Event>) -> Result<Due, NoMemory>
+    requires { IsDeck deck.now }
+    ensures { IfOk result (λ due. AreNoticed deck.now events due.out due.status) }
+{
+    runs_are_sound();
+    let seen = seen_by_replay(alloc, deck, events)?;
+    let out = notices_text(alloc, deck, seen.hist.as_slice())?;
+    Ok(told(out, &seen))
 }
 
 /// What a text is answered by of which nothing could be read.
@@ -171,6 +208,32 @@ pub(crate) fn due_by_lists(alloc: Global, text: &[u8]) -> Result<Due, NoMemory>
 {
     match read_deck(alloc, text) {
         Ok(deck) => listed(alloc, &deck),
+        Err(error) => refused(alloc, error),
+    }
+}
+
+/// What a text is answered by under `analyze`.
+pub(crate) fn due_by_analyze(alloc: Global, text: &[u8]) -> Result<Due, NoMemory>
+    ensures { IfOk result (λ due. IsDue Command.Analyze text.now due.out due.status) }
+{
+    match read_deck(alloc, text) {
+        Ok(deck) => {
+            let (bare, events) = set_apart(alloc, deck);
+            analyzed(alloc, &bare, events)
+        }
+        Err(error) => refused(alloc, error),
+    }
+}
+
+/// What a text is answered by under `notices`.
+pub(crate) fn due_by_notices(alloc: Global, text: &[u8]) -> Result<Due, NoMemory>
+    ensures { IfOk result (λ due. IsDue Command.Notices text.now due.out due.status) }
+{
+    match read_deck(alloc, text) {
+        Ok(deck) => {
+            let (bare, events) = set_apart(alloc, deck);
+            noticed(alloc, &bare, events)
+        }
         Err(error) => refused(alloc, error),
     }
 }

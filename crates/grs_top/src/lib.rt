@@ -15,7 +15,9 @@ mod status;
 mod words;
 
 pub use beside::seen_of;
-pub use command::{grs, lists_command, replay_command, run_command};
+pub use command::{
+    analyze_command, grs, lists_command, notices_command, replay_command, run_command,
+};
 pub use generate::gen_command;
 pub use seen::seen_by_replay;
 pub use status::Status;

@@ -14,6 +14,10 @@ pub enum Command {
     Run,
     /// Writes the name lists of a deck.
     Lists,
+    /// Runs the schedule of a deck and tells who waits for whom in the end.
+    Analyze,
+    /// Runs the schedule of a deck and tells what is noticed of contention along its history.
+    Notices,
 }
 
 /// What the words after the program's name ask for.
@@ -35,6 +39,10 @@ fn command_named(word: &[u8]) -> Option<Command>
         Some(Command::Run)
     } else if word == b"lists".as_slice() {
         Some(Command::Lists)
+    } else if word == b"analyze".as_slice() {
+        Some(Command::Analyze)
+    } else if word == b"notices".as_slice() {
+        Some(Command::Notices)
     } else {
         None
     }
@@ -75,7 +83,7 @@ fn form_of_two(word: &[u8], number: &[u8]) -> Option<Form>
     }
 }
 
-/// What the words ask for, if they are of one of the forms: `replay`, `run` or `lists`, alone, or `gen` and a number.
+/// What the words ask for, if they are of one of the forms: a command's name alone, or `gen` and a number.
 pub(crate) fn form_of(words: &[String]) -> Option<Form>
     ensures { result ≡ form_of (map string_bytes words.now) }
 {

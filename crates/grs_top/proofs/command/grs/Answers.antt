@@ -43,6 +43,34 @@ returns-in-Some-OfText-Lists-clause-unread g c = rw (← c.in-Some-OfText-Lists.
 pub returns-in-Some-OfText-Lists-clause-unwritten : goal.returns-in-Some-OfText-Lists-clause-unwritten
 returns-in-Some-OfText-Lists-clause-unwritten g c = rw (← c.in-Some-OfText-Lists.ensures) tt
 
+pub returns-in-Some-OfText-Analyze-clause-form : goal.returns-in-Some-OfText-Analyze-clause-form
+returns-in-Some-OfText-Analyze-clause-form g c =
+    rw (← c.in-Some-OfText-Analyze.ensures, c.in-Some-OfText-Analyze.field-0-is, c.in-Some-OfText-Analyze.field-0-0-is)
+    (c.analyze_command.ensures.answer, c.analyze_command.ensures.named)
+
+pub returns-in-Some-OfText-Analyze-clause-words : goal.returns-in-Some-OfText-Analyze-clause-words
+returns-in-Some-OfText-Analyze-clause-words g c = rw (← c.in-Some-OfText-Analyze.ensures) tt
+
+pub returns-in-Some-OfText-Analyze-clause-unread : goal.returns-in-Some-OfText-Analyze-clause-unread
+returns-in-Some-OfText-Analyze-clause-unread g c = rw (← c.in-Some-OfText-Analyze.ensures) tt
+
+pub returns-in-Some-OfText-Analyze-clause-unwritten : goal.returns-in-Some-OfText-Analyze-clause-unwritten
+returns-in-Some-OfText-Analyze-clause-unwritten g c = rw (← c.in-Some-OfText-Analyze.ensures) tt
+
+pub returns-in-Some-OfText-Notices-clause-form : goal.returns-in-Some-OfText-Notices-clause-form
+returns-in-Some-OfText-Notices-clause-form g c =
+    rw (← c.in-Some-OfText-Notices.ensures, c.in-Some-OfText-Notices.field-0-is, c.in-Some-OfText-Notices.field-0-0-is)
+    (c.notices_command.ensures.answer, c.notices_command.ensures.named)
+
+pub returns-in-Some-OfText-Notices-clause-words : goal.returns-in-Some-OfText-Notices-clause-words
+returns-in-Some-OfText-Notices-clause-words g c = rw (← c.in-Some-OfText-Notices.ensures) tt
+
+pub returns-in-Some-OfText-Notices-clause-unread : goal.returns-in-Some-OfText-Notices-clause-unread
+returns-in-Some-OfText-Notices-clause-unread g c = rw (← c.in-Some-OfText-Notices.ensures) tt
+
+pub returns-in-Some-OfText-Notices-clause-unwritten : goal.returns-in-Some-OfText-Notices-clause-unwritten
+returns-in-Some-OfText-Notices-clause-unwritten g c = rw (← c.in-Some-OfText-Notices.ensures) tt
+
 pub returns-in-None-clause-form : goal.returns-in-None-clause-form
 returns-in-None-clause-form g c = rw (← c.in-None.ensures) tt
 
