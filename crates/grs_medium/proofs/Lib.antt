@@ -10,3 +10,7 @@ pub mod Replies
 pub mod CauseLaws
 pub mod StarCauses
 pub mod TurnLaws
+pub mod LiveLaws
+pub mod Round
+pub mod Waiting
+pub mod GoesOn

@@ -6,3 +6,4 @@ pub mod Changes
 pub mod Causes
 pub mod TurnReplies
 pub mod Concerned
+pub mod GoesOn

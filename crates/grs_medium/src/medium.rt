@@ -8,6 +8,7 @@ ghost use Rattle.grs_medium.specs.Inboxes.{is_empty};
 ghost use Rattle.grs_medium.specs.Medium.{first_medium, systems_of, awake, inbox, medium_at_end, word};
 ghost use Rattle.grs_medium.specs.Apply.{turn_row, manages, joined, submit_row, switch_ring, switch_row, take_row, mail_row, leave_row, purge_row, rest_row, reply_to, medium_after, changes, row, row_changes, ActFits, MayCall};
 ghost use Rattle.grs_medium.specs.Changes.{TellsChanges};
+ghost use Rattle.grs_medium.specs.GoesOn.{WaitsForLive};
 ghost use Rattle.grs_medium.specs.Concerned.{just, addressee, is_over, concerned};
 ghost use Rattle.grs_medium.specs.Room.{HasRoomFor, HasRoomOn, request_on};
 ghost use Rattle.grs_medium.specs.TurnReplies.{refusal_reply, refusal};
@@ -92,7 +93,8 @@ impl Medium {
     pub fn new(alloc: Global, systems: u32, entries: u32, star: bool) -> Result<Medium, NoMemory>
         requires some { 0 < systems }
         requires few { systems ≤ most_systems }
-        ensures { IfOk result (λ medium. medium.state ≡ first_medium systems entries star) }
+        ensures start { IfOk result (λ medium. medium.state ≡ first_medium systems entries star) }
+        ensures waits { IfOk result (λ medium. WaitsForLive medium.state) }
     {
         let words = Words::new(alloc, entries)?;
         let inboxes = Inboxes::new(alloc, systems)?;
@@ -217,6 +219,13 @@ impl Medium {
         None
     }
 
+    /// The system at which the message stands; None where it stands nowhere any more, or never did.
+    pub fn holder(&self) -> Option<SysId>
+        ensures { result ≡ self.now.state.message.holder }
+    {
+        self.rsa.holder()
+    }
+
     /// The entries of the message, in order.
     pub fn entries(&self) -> &[RingEntry]
         ensures { result.now ≡ self.now.state.message.entries }
@@ -249,6 +258,7 @@ impl Medium {
         requires few { length out ≤ most_additions }
         requires places { HasPlaces self.old.room (length out) }
         ensures state { self.new.state ≡ (turn_row self.old.state caller out).1 }
+        ensures goes_on { WaitsForLive self.old.state → WaitsForLive self.new.state }
         ensures systems { systems_of self.new.state ≡ systems_of self.old.state }
     {
         let live = live_of(self.systems, self.removed);
@@ -520,6 +530,7 @@ impl Medium {
         requires room { HasRoomFor self.old caller call.act }
         ensures reply { result ≡ reply_to self.old.state caller call }
         ensures state { self.new.state ≡ medium_after self.old.state caller call }
+        ensures goes_on { WaitsForLive self.old.state → WaitsForLive self.new.state }
         ensures systems { systems_of self.new.state ≡ systems_of self.old.state }
     {
         let Call { known, act } = call;

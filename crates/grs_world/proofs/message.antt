@@ -1,4 +1,3 @@
 -- The message.
-pub mod LapsRound
 pub mod LapsMessage
 pub mod Stands

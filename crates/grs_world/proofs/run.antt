@@ -1,5 +1,6 @@
 -- The run: what the systems and the message come to together.
 pub mod Each
+pub mod Waits
 pub mod Laps
 pub mod GoesOn
 pub mod LapsTold

@@ -3,6 +3,7 @@
 ghost use Rattle.std.specs.Prelude.{◌≡◌, ◌<◌, ◌≤◌, ◌+◌, ◌++◌, ◌∷◌, [], true, length, IfOk, OnOk};
 ghost use Rattle.grs_base.specs.Limits.{last_number, most_systems};
 ghost use Rattle.grs_wire.specs.Decks.{IsDeck};
+ghost use Rattle.grs_medium.specs.GoesOn.{WaitsForLive};
 ghost use Rattle.grs_node.specs.Node.{first_node};
 ghost use Rattle.grs_world.specs.World as runs;
 ghost use Rattle.grs_world.specs.Running.{starting, after, ran, nodes_of, AreOf, AreNumbered, is_live, at_rest, units_of, task_end};
@@ -171,9 +172,10 @@ impl<'d> World<'d> {
 
     /// One event happens. NoMemory comes where memory is wanting, or there were 2^57 events; the run is then to be
     /// given up.
-    #[tactic(auto, using(crate::proofs::code::Happens::happening))]
+    #[tactic(auto, using(crate::proofs::code::Happens::happening, crate::proofs::run::Waits::waiting))]
     pub fn step(&mut self, event: &Event) -> Result<(), NoMemory>
-        ensures { OnOk result (self.new ≡ after self.old event.now) }
+        ensures next { OnOk result (self.new ≡ after self.old event.now) }
+        ensures goes_on { OnOk result (WaitsForLive self.old.world.medium → WaitsForLive self.new.world.medium) }
     {
         if self.events >= LAST_NUMBER {
             return Err(NoMemory);

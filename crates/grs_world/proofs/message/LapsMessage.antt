@@ -1,12 +1,11 @@
 -- The message as it goes round: it passes over no system that has still to process an entry.
 use Rattle.std.proofs.Common.{ℕ, suc, ◌≡◌, ◌≢◌, ◌+◌, ◌-◌, ◌%◌, ◌<◌, ◌≤◌, Bool, true, false, cond, not, List, [], ◌∷◌}
 use Rattle.std.proofs.Common.{◌++◌, length, map, Option, Some, None, refl, sym, ap, ◌∙◌, subst, arith, add-zero, ◌||◌}
-use Rattle.std.specs.Prelude.{filter, find, ◌==◌}
+use Rattle.std.specs.Prelude.{filter, ◌==◌}
 use Rattle.std.specs.List.{list_any}
 use Rattle.std.proofs.lemmas.List.Folds.{list_any-append}
 use Rattle.std.proofs.Math.Nat.{mod-eq_of_lt, mod-add-mod}
-use Rattle.std.proofs.Math.Bool.{or-false}
-use Rattle.std.proofs.lemmas.Bool.{and_parts, eq-eqb, or_left, or_right, or_parts}
+use Rattle.std.proofs.lemmas.Bool.{or_left, or_right, or_parts}
 use native.Mathlib.Decide.{ℕ_discrete}
 use Rattle.grs_base.specs.declared.resource.SysId.{SysId}
 use Rattle.grs_wire.specs.declared.medium.RingEntry.{RingEntry}
@@ -21,7 +20,8 @@ use Rattle.rsa_message.specs.Message.{first_number}
 use Rattle.grs_wire.specs.Unseen.{is_unseen, unseen}
 use Rattle.rsa_message.proofs.OrderLaws.{stands_at-exact}
 use Rattle.grs_world.specs.Laps.{OnlyLeft, LastAtHome}
-use Rattle.grs_world.proofs.message.LapsRound.{Ahead, home, inside_round, after_some, first_found, first_inside}
+use Rattle.grs_medium.proofs.Round.{Ahead, home, inside_round, after_some, first_found, first_inside}
+use Rattle.grs_medium.proofs.Waiting.{Masks, cleared_live, cleared_unseen, masks_cleared, masks_joined, stamped_unseen}
 use Rattle.grs_known.proofs.lists.Truths.{false_by, no_truth}
 
 -- Whoever has still to process an entry: the message comes to it before it has gone once round from the system that
@@ -47,10 +47,6 @@ abbrev pub AllEndAtHome : ℕ → List RingEntry → Type 0
 AllEndAtHome live [] = Unit {0}
 AllEndAtHome live (e ∷ es) = EndsAtHome live e × AllEndAtHome live es
 
--- Whoever has still to process one of these is live.
-abbrev pub Masks : ℕ → List RingEntry → Type 0
-Masks live es = (u : ℕ) → any_unseen (record { 0 = u }) es ≡ true → has live u ≡ true
-
 -- A system that has still to process one of these passes the test.
 abbrev pub Passes : ℕ → (SysId → Bool) → List RingEntry → Type 0
 Passes n test es = (u : ℕ) → u < n → any_unseen (record { 0 = u }) es ≡ true → test (record { 0 = u }) ≡ true
@@ -65,19 +61,15 @@ pub record Round (m : Message) (live : ℕ) : Type 0 where
   pub awaited : (h : SysId) → m.holder ≡ Some h → AllAwaited m.systems h m.entries
   -- A request's own system is the last.
   pub ends : AllEndAtHome live m.entries
-  -- It waits for live systems alone, and as long as it is open it stands at one, if there is any.
-  pub masks : Masks live m.entries
-  pub holder : m.closed ≡ false → (u : ℕ) → u < m.systems → has live u ≡ true
-      → (h : SysId) × (m.holder ≡ Some h) × (has live h.0 ≡ true)
 
 -- ---- one entry
 -- A place further on is the same, counted from two systems.
-further : (n c f gone j : ℕ) → (f + gone) % n ≡ c → (f + (gone + j)) % n ≡ (c + j) % n
+pub further : (n c f gone j : ℕ) → (f + gone) % n ≡ c → (f + (gone + j)) % n ≡ (c + j) % n
 further n c f gone j stands =
     let more : f + (gone + j) ≡ (f + gone) + j = omega arith in
     ap (λ (x : ℕ). x % n) more ∙ sym (mod-add-mod (f + gone) n j) ∙ ap (λ (x : ℕ). (x + j) % n) stands
 
-the_way : (n c f gone whole : ℕ) → gone ≤ whole → (f + gone) % n ≡ c → (c + (whole - gone)) % n ≡ (f + whole) % n
+pub the_way : (n c f gone whole : ℕ) → gone ≤ whole → (f + gone) % n ≡ c → (c + (whole - gone)) % n ≡ (f + whole) % n
 the_way n c f gone whole yet stands =
     let way : gone + (whole - gone) ≡ whole = omega arith in
     sym (further n c f gone (whole - gone) stands) ∙ ap (λ (x : ℕ). (f + x) % n) way
@@ -254,106 +246,9 @@ passes_back n test xs ys due u low here =
     due u low (list_any-append (is_unseen (record { 0 = u })) xs ys
     ∙ or_right (list_any (is_unseen (record { 0 = u })) xs) _ here)
 
--- who has still to process one of these, once c has left
-cleared_unseen : (c : SysId) (es : List RingEntry) (u : ℕ) → any_unseen (record { 0 = u }) (cleared c es) ≡ true
-    → (u ≢ c.0) × (any_unseen (record { 0 = u }) es ≡ true)
-unfolding cleared any_unseen
-cleared_unseen c [] u h = absurd (cc)
-cleared_unseen c (e ∷ es) u h = go (not (e.mask == only c.0)) (cleared_unseen c es u) h
-  where
-    Both : Type 0
-    Both = (u ≢ c.0) × (list_any (is_unseen (record { 0 = u })) (e ∷ es) ≡ true)
-
-    behind :
-        (list_any (is_unseen (record { 0 = u })) (cleared c es) ≡ true
-        → (u ≢ c.0) × (list_any (is_unseen (record { 0 = u })) es ≡ true))
-        → list_any (is_unseen (record { 0 = u })) (cleared c es) ≡ true → Both
-    behind more k = let r = more k in (r.0, or_right (has e.mask u) (list_any (is_unseen (record { 0 = u })) es) r.1)
-
-    here : (b : Bool) → has (without e.mask c.0) u ≡ b
-        → (list_any (is_unseen (record { 0 = u })) (cleared c es) ≡ true
-        → (u ≢ c.0) × (list_any (is_unseen (record { 0 = u })) es ≡ true))
-        → (b || list_any (is_unseen (record { 0 = u })) (cleared c es)) ≡ true → Both
-    here true is more k =
-        let ne : u
-        ≢ c.0 = λ same.
-        let no : true ≡ false = sym is ∙ (ap (has (without e.mask c.0)) same ∙ has-without_same e.mask c.0) in
-        absurd (cc) in (
-          ne,
-          or_left (has e.mask u) (list_any (is_unseen (record { 0 = u })) es)
-              (sym (has-without_other e.mask c.0 u ne) ∙ is),
-        )
-    here false is more k = behind more k
-
-    go : (b : Bool)
-        → (list_any (is_unseen (record { 0 = u })) (cleared c es) ≡ true
-        → (u ≢ c.0) × (list_any (is_unseen (record { 0 = u })) es ≡ true))
-        →
-        list_any (is_unseen (record { 0 = u })) (map (left_by c)
-        (cond b (e ∷ filter (λ x. not (x.mask == only c.0)) es) (filter (λ x. not (x.mask == only c.0)) es)))
-        ≡ true
-        → Both
-    go true more k = here (has (without e.mask c.0) u) refl more k
-    go false more k = behind more k
-
--- who is in no mask has none to process
-no_unseen : (live u : ℕ) (e : RingEntry) → e.mask ≡ live → has live u ≡ false
-    → any_unseen (record { 0 = u }) (e ∷ []) ≡ true → ⊥
-unfolding any_unseen
-no_unseen live u e mask out k =
-    let f : true ≡ false = sym k ∙ (or-false (has e.mask u) ∙ (ap (λ (x : ℕ). has x u) mask ∙ out)) in absurd cc
-
 -- ---- a Turn
 due_all : (n live rest : ℕ) (es : List RingEntry) → Masks live es → Passes n (is_due es live rest) es
 due_all n live rest es masks u low here = let in_it : has live u ≡ true = masks u here in rw (in_it, here) refl
-
--- new requests are waited for by those in their mask
-stamped_unseen : (c : SysId) (number mask : ℕ) (rs : List Req) (u : ℕ)
-    → any_unseen (record { 0 = u }) (stamped number c mask rs) ≡ true → has mask u ≡ true
-unfolding stamped any_unseen
-stamped_unseen c number mask [] u h = absurd (cc)
-stamped_unseen c number mask (r ∷ rs) u h = go (has mask u) refl (stamped_unseen c (suc number) mask rs u) h
-  where
-    go : (b : Bool) → has mask u ≡ b
-        → (list_any (is_unseen (record { 0 = u })) (stamped (suc number) c mask rs) ≡ true → has mask u ≡ true)
-        → (b || list_any (is_unseen (record { 0 = u })) (stamped (suc number) c mask rs)) ≡ true → has mask u ≡ true
-    go true is more k = is
-    go false is more k = more k
-
-masks_joined : (live : ℕ) (xs ys : List RingEntry) → Masks live xs → Masks live ys → Masks live (xs ++ ys)
-unfolding any_unseen
-masks_joined live xs ys a b u h =
-    go (list_any (is_unseen (record { 0 = u })) xs) refl
-    (sym (list_any-append (is_unseen (record { 0 = u })) xs ys) ∙ h)
-  where
-    go : (k : Bool) → list_any (is_unseen (record { 0 = u })) xs ≡ k
-        → (k || list_any (is_unseen (record { 0 = u })) ys) ≡ true → has live u ≡ true
-    go true is e = a u is
-    go false is e = b u e
-
-masks_cleared : (live : ℕ) (c : SysId) (es : List RingEntry) → Masks live es → Masks live (cleared c es)
-masks_cleared live c es masks u h = masks u (cleared_unseen c es u h).1
-
--- the first that passes a test passes it
-find_passes : (test : SysId → Bool) (xs : List SysId) (h : SysId) → find test xs ≡ Some h → test h ≡ true
-find_passes test [] h e = absurd cc
-find_passes test (x ∷ xs) h e = go (test x) refl (find_passes test xs h) e
-  where
-    go : (b : Bool) → test x ≡ b → (find test xs ≡ Some h → test h ≡ true) → cond b (Some x) (find test xs) ≡ Some h
-        → test h ≡ true
-    go true is more k = let same : x ≡ h = cc in subst (λ (y : SysId). test y ≡ true) same is
-    go false is more k = more k
-
-first_passes : (test : SysId → Bool) (n : ℕ) (c h : SysId) → first_after n c test ≡ Some h → test h ≡ true
-unfolding first_after
-first_passes test n c h e = find_passes test _ h e
-
--- where the message moves on from a live system it stands at a live one
-live_onward : (live : ℕ) (c : SysId) (test : SysId → Bool) → ((h : SysId) → test h ≡ true → has live h.0 ≡ true)
-    → has live c.0 ≡ true → (first : Option SysId) → ((h : SysId) → first ≡ Some h → test h ≡ true)
-    → has live (or_else first c).0 ≡ true
-live_onward live c test within here None each = here
-live_onward live c test within here (Some h) each = within h (each h refl)
 
 moved_inside : (n : ℕ) (c : SysId) (first : Option SysId) (h : SysId) → c.0 < n
     → ((x : SysId) → first ≡ Some x → x.0 < n) → or_else first c ≡ h → h.0 < n
@@ -362,16 +257,16 @@ moved_inside n c (Some x) h low each e = subst (λ (y : SysId). y.0 < n) e (each
 
 -- It is open.
 pub open_round : (m : Message) (c : SysId) (out : List Req) (live rest : ℕ) → Round m live
-    → ((u : ℕ) → has live u ≡ true → u < m.systems) → has live c.0 ≡ true → m.holder ≡ Some c → m.closed ≡ false
+    → Masks live m.entries → ((u : ℕ) → has live u ≡ true → u < m.systems) → m.holder ≡ Some c → m.closed ≡ false
     → Round (turned_open m c out live rest) live
-open_round m c out live rest laws below alive here opened =
+open_round m c out live rest laws waits below here opened =
     let n : ℕ = m.systems in
     let flags : ℕ = cond (moves m c (length out)) (without rest c.0) rest in
     let old : List RingEntry = cleared c m.entries in
     let new : List RingEntry = stamped m.next c live out in
     let test : SysId → Bool = is_due (old ++ new) live flags in
     let masks : Masks live (old ++ new) =
-    masks_joined live old new (masks_cleared live c m.entries laws.masks) (stamped_unseen c m.next live out) in
+    masks_joined live old new (masks_cleared live c m.entries waits) (stamped_unseen c m.next live out) in
     let due : Passes n test (old ++ new) = due_all n live flags (old ++ new) masks in
     record {
       shut = λ shut. absurd cc;
@@ -386,13 +281,6 @@ open_round m c out live rest laws below alive here opened =
       ends =
           ends_joined live old new (cleared_ends n c live m.entries (laws.awaited c here) laws.ends)
           (stamped_ends c m.next live out);
-      masks = masks;
-      holder = λ z u low lives. (
-        or_else (first_after n c test) c,
-        refl,
-        live_onward live c test (λ h t. (and_parts (has live h.0) _ t).0) alive (first_after n c test)
-            (λ h at. first_passes test n c h at),
-      );
     }
 
 -- It is closed: the caller changes, and has processed all.
@@ -409,8 +297,6 @@ closed_turn m c live laws here shut =
       inside = λ h at some. first_inside test n c h some at;
       awaited = λ h at. cleared_onward n c h test (ap (λ o. or_else o c) at) m.entries due (laws.awaited c here);
       ends = cleared_ends n c live m.entries (laws.awaited c here) laws.ends;
-      masks = masks_cleared live c m.entries laws.masks;
-      holder = λ z. no_truth m.closed shut z;
     }
 
 -- ---- a system is removed
@@ -447,10 +333,11 @@ still_awaited n t h (e ∷ es) all = go (not (e.mask == only t.0)) (still_awaite
             ∙ k
     go false on = on
 
-pub dropped_round : (m : Message) (c t : SysId) (before live : ℕ) → Round m before → m.closed ≡ false → t.0 < m.systems
-    → has live t.0 ≡ false → ((u : ℕ) → u ≢ t.0 → has live u ≡ has before u) → Round (dropped m c t live) live
+pub dropped_round : (m : Message) (c t : SysId) (before live : ℕ) → Round m before → Masks before m.entries
+    → m.closed ≡ false → has live t.0 ≡ false → ((u : ℕ) → u ≢ t.0 → has live u ≡ has before u)
+    → Round (dropped m c t live) live
 unfolding dropped
-dropped_round m c t before live laws opened low gone others_same = record {
+dropped_round m c t before live laws waits opened gone others_same = record {
   shut = λ z. no_truth m.closed z opened;
   inside = λ h at some. (stands (stands_at m.holder t) refl h at).0 some;
   awaited = λ h at.
@@ -459,8 +346,6 @@ dropped_round m c t before live laws opened low gone others_same = record {
   ends =
       ends_joined live (cleared t m.entries) (new ∷ [])
       (each_ends before live t (gone_ends before live t gone fewer) m.entries laws.ends) (λ q body. absurd (cc), tt);
-  masks = masks_joined live (cleared t m.entries) (new ∷ []) masks new_masks;
-  holder = λ z u below lives. by_holder (stands_at m.holder t) refl u below lives;
 }
   where
     new : RingEntry
@@ -473,17 +358,7 @@ dropped_round m c t before live laws opened low gone others_same = record {
     fewer u h = sym (others_same u (apart u h)) ∙ h
 
     masks : Masks live (cleared t m.entries)
-    masks u h = let r = cleared_unseen t m.entries u h in others_same u r.0 ∙ laws.masks u r.1
-
-    new_masks : Masks live (new ∷ [])
-    new_masks u h = by_mask (has live u) refl h
-      where
-        no_mask : has live u ≡ false → any_unseen (record { 0 = u }) (new ∷ []) ≡ true → ⊥
-        no_mask is k = no_unseen live u new refl is k
-
-        by_mask : (b : Bool) → has live u ≡ b → any_unseen (record { 0 = u }) (new ∷ []) ≡ true → has live u ≡ true
-        by_mask true is k = is
-        by_mask false is k = absurd (no_mask is k)
+    masks = cleared_live t before live others_same m.entries waits
 
     stands : (b : Bool) → stands_at m.holder t ≡ b → (h : SysId)
         → cond b (first_after m.systems t (λ s. has live s.0)) m.holder ≡ Some h
@@ -494,23 +369,6 @@ dropped_round m c t before live laws opened low gone others_same = record {
           (laws.awaited t (stands_at-exact m.holder t here)),
     )
     stands false here h at = (laws.inside h at, still_awaited m.systems t h m.entries (laws.awaited h at))
-
-    by_holder : (b : Bool) → stands_at m.holder t ≡ b → (u : ℕ) → u < m.systems → has live u ≡ true
-        → (h : SysId) × (cond b (first_after m.systems t (λ s. has live s.0)) m.holder ≡ Some h) × (has live h.0 ≡ true)
-    by_holder true here u below lives =
-        let k = after_some m.systems t.0 u low below in
-        let r =
-        first_found (λ s. has live s.0) m.systems t k.0 k.1 k.2
-        (subst (λ (x : ℕ). has live x ≡ true) (sym k.3) lives) in
-        (record { 0 = (t.0 + r.0) % m.systems }, r.3, first_passes (λ s. has live s.0) m.systems t _ r.3)
-    by_holder false here u below lives =
-        let r = laws.holder opened u below (fewer u lives) in (
-          r.0,
-          r.1,
-          others_same (r.0).0
-              (λ same. no_truth (stands_at m.holder t) (ap (λ o. stands_at o t) r.1 ∙ eq-eqb (r.0).0 t.0 same) here)
-              ∙ r.2,
-        )
 
 -- ---- it is closed by a system that has processed all
 pub none_unseen : (c : SysId) (es : List RingEntry) → first_number (unseen c es) ≡ None → any_unseen c es ≡ false
@@ -549,16 +407,14 @@ passed_onward n s h test moved (e ∷ es) idle due all =
         entry_onward n s h test moved e (λ v low z. passes_head n test e es due v low (back v z)) (all.0 q body) u
         (has-without_other e.mask s.0 u (away none u k) ∙ k)
 
-pub closed_round : (m : Message) (c : SysId) (live : ℕ) → Round m live → any_unseen c m.entries ≡ false
-    → Round (closed_by m c live) live
+pub closed_round : (m : Message) (c : SysId) (live : ℕ) → Round m live → Masks live m.entries
+    → any_unseen c m.entries ≡ false → Round (closed_by m c live) live
 unfolding closed_by first_after
-closed_round m c live laws idle = record {
+closed_round m c live laws waits idle = record {
   shut = λ z. due;
   inside = λ h at some. (stands m.holder refl h at).0 some;
   awaited = λ h at. (stands m.holder refl h at).1;
   ends = laws.ends;
-  masks = laws.masks;
-  holder = λ z. absurd (cc);
 }
   where
     test : SysId → Bool
@@ -570,7 +426,7 @@ closed_round m c live laws idle = record {
         ≢ c.0 = λ same.
         let no : true ≡ false = sym k ∙ (ap (λ (i : ℕ). any_unseen (record { 0 = i }) m.entries) same ∙ idle) in
         absurd (cc) in
-        has-without_other live c.0 u ne ∙ laws.masks u k
+        has-without_other live c.0 u ne ∙ waits u k
 
     no_place : (s h : SysId) (k : ℕ) → k ≡ 0 → first_after k s (λ t. has (without live c.0) t.0) ≡ Some h → ⊥
     no_place s h k none at =

@@ -11,7 +11,7 @@ use Rattle.grs_node.specs.Node.{NodeState}
 use Rattle.grs_wire.specs.Masks.{has}
 use Rattle.grs_wire.specs.declared.deck.Choice.{Choice}
 use Rattle.grs_wire.specs.declared.deck.Deck.{Deck}
-use Rattle.grs_world.proofs.message.Stands.{has-live}
+use Rattle.grs_medium.proofs.LiveLaws.{has-live}
 use Rattle.grs_world.proofs.move.Changing.{IsChanging, IsMoved, Shown, has_changed, waits_yet}
 use Rattle.grs_world.proofs.move.Late.{came_late}
 use Rattle.grs_world.proofs.move.Star.{star-moved}

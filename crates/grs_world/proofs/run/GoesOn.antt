@@ -2,10 +2,10 @@
 use Rattle.std.proofs.Common.{◌≡◌, ◌<◌, ℕ, zero, suc, Bool, true, List, [], ◌∷◌, length, ap, sym, ◌∙◌, arith}
 use Rattle.std.specs.Prelude.{Contains, slice_index_or}
 use Rattle.std.specs.List.{list_any}
-use Rattle.std.proofs.lemmas.Bool.{and_parts, ltb-true, or_left, or_right}
+use Rattle.std.proofs.lemmas.Bool.{or_left, or_right}
 use Rattle.std.proofs.lemmas.List.{length-set}
 use Rattle.grs_base.specs.declared.resource.SysId.{SysId}
-use Rattle.grs_medium.specs.Medium.{live}
+use Rattle.grs_medium.specs.Apply.{is_live as medium_is_live}
 use Rattle.grs_wire.specs.Masks.{has, lives}
 use Rattle.grs_wire.specs.Unseen.{is_unseen}
 use Rattle.grs_wire.specs.declared.deck.Deck.{Deck}
@@ -13,11 +13,12 @@ use Rattle.grs_wire.specs.declared.deck.Event.{Event}
 use Rattle.grs_wire.specs.declared.medium.RingEntry.{RingEntry}
 use Rattle.rsa_message.specs.Message.{any_unseen}
 use Rattle.grs_world.specs.Removing.{MessageGoesOn}
+use Rattle.grs_world.specs.Running.{is_live}
 use Rattle.grs_world.specs.World.{chosen, first_world, placed, run}
-use Rattle.grs_world.proofs.message.Stands.{has-live}
 use Rattle.grs_world.proofs.run.Each.{each_event, each_run}
-use Rattle.grs_world.proofs.run.InRing.{count_first, open_ring}
+use Rattle.grs_world.proofs.run.InRing.{count_first}
 use Rattle.grs_world.proofs.run.Laps.{goes_on}
+use Rattle.grs_world.proofs.run.Waits.{run_waits}
 
 -- an element that passes is one of them
 one-passes : {X : Type 0} (p : X → Bool) (x : X) → p x ≡ true → (xs : List X) (k : ℕ) → k < length xs
@@ -42,22 +43,15 @@ module _ (deck : Deck) where
       length-set (run deck us).nodes e.system.0 (chosen deck (run deck us).medium e.system n e.choice).step.node ∙ g))
       es
 
-  live_as : (es : List Event) (s : ℕ)
-      → has (live (run deck es).medium) s ≡ lives (length (run deck es).nodes) (run deck es).medium.removed s
+  live_as : (es : List Event) (s : SysId) → medium_is_live (run deck es).medium s ≡ is_live (run deck es) s
   live_as es s =
-      has-live (run deck es).medium.message.systems (run deck es).medium.removed s
-      ∙ ap (λ i. lives i (run deck es).medium.removed s) ((goes_on deck es).around ∙ sym (as_many es))
+      ap (λ n. lives n (run deck es).medium.removed s.0) ((goes_on deck es).around ∙ sym (as_many es))
 
   pub message_waits : (es : List Event) → MessageGoesOn deck es
   message_waits es = record {
     masks = λ x s there h.
-        sym (live_as es s.0)
-        ∙ (goes_on deck es).round.masks s.0 (has_unseen (run deck es).medium.message.entries x s there h);
+        sym (live_as es s)
+        ∙ (run_waits deck es).masks s (has_unseen (run deck es).medium.message.entries x s there h);
     holder = λ s ring alive.
-        let here : has (live (run deck es).medium) s.0 ≡ true = live_as es s.0 ∙ alive in
-        let below = ltb-true s.0 (length (run deck es).nodes) (and_parts _ _ alive).0 in
-        let r =
-        (goes_on deck es).round.holder (open_ring deck es ring) s.0
-        (omega (arith, below, (goes_on deck es).around, as_many es)) here in
-        (r.0, r.1, sym (live_as es (r.0).0) ∙ r.2);
+        let r = (run_waits deck es).holder s ring (live_as es s ∙ alive) in (r.0, r.1, sym (live_as es r.0) ∙ r.2);
   }

@@ -28,7 +28,7 @@ use Rattle.grs_world.specs.World.{World, first_nodes, first_world, carry_out, ch
 use Rattle.grs_world.specs.World.{counted}
 use Rattle.grs_world.proofs.run.Runs.{by_node}
 use Rattle.grs_world.proofs.run.Each.{each_answer, each_heard, each_prepared, each_live, each_event, each_run}
-use Rattle.grs_world.proofs.message.Stands.{has-live}
+use Rattle.grs_medium.proofs.LiveLaws.{has-live}
 use Rattle.std.proofs.lemmas.Bool.{lt-ltb}
 use Rattle.std.proofs.lemmas.List.{length-set}
 use Rattle.std.proofs.lemmas.Option.{same_Some, slice_get_within}

@@ -31,7 +31,10 @@ use Rattle.grs_world.specs.Laps.{OnlyLeft, ComesBackLast, given_by, given_when, 
 use Rattle.grs_world.specs.World.{World, first_world, placed, happens, run, Turnout}
 use Rattle.grs_world.proofs.message.LapsMessage.{Round, left_at_home, last_at_home, unseen_awaited, closed_round}
 use Rattle.grs_world.proofs.message.LapsMessage.{closed_turn, dropped_round, none_unseen, open_round}
-use Rattle.grs_world.proofs.message.Stands.{has-live, has-others}
+use Rattle.grs_medium.proofs.GoesOn.{masks_of}
+use Rattle.grs_medium.proofs.LiveLaws.{has-live}
+use Rattle.grs_medium.specs.GoesOn.{WaitsForLive}
+use Rattle.grs_world.proofs.run.Waits.{run_waits}
 use Rattle.grs_wire.specs.declared.medium.Mail.{Mail}
 use Rattle.grs_wire.specs.declared.medium.Reply.{Reply}
 use Rattle.grs_wire.specs.LockWords.{interest, is_kept, leave_reply}
@@ -61,8 +64,6 @@ closed_at_start n = record {
   inside = λ h e. absurd cc;
   awaited = λ h e. absurd cc;
   ends = tt;
-  masks = λ u h. absurd cc;
-  holder = λ e. absurd cc;
 }
 
 open_at_start : (n : ℕ) → Round (opened n) (others n 0)
@@ -72,8 +73,6 @@ open_at_start n = record {
   inside = λ h e some. let zero_at : h.0 ≡ 0 = cc in omega arith;
   awaited = λ h e. tt;
   ends = tt;
-  masks = λ u h. absurd cc;
-  holder = λ e u low lives. (record { 0 = 0 }, refl, has-others n 0 (omega (arith, low)));
 }
 
 goes_at_start : (n entries : ℕ) (star : Bool) → Goes n (first_medium n entries star)
@@ -118,10 +117,10 @@ star_goes deck w e star g =
       around = all.2 ∙ g.around;
     }
 
-ring_goes : (deck : Deck) (w : World) (e : Event) → IsRing deck w → Goes (length deck.systems) w.medium
-    → Goes (length deck.systems) (happens deck w e).medium
+ring_goes : (deck : Deck) (w : World) (e : Event) → IsRing deck w → WaitsForLive w.medium
+    → Goes (length deck.systems) w.medium → Goes (length deck.systems) (happens deck w e).medium
 unfolding placed closed_by dropped
-ring_goes deck w e ring g =
+ring_goes deck w e ring waits g =
     each_came deck w e (λ (x : World). Goes (length deck.systems) x.medium) ring
     (record { round = g.round; closed = g.closed; around = g.around })
     (λ n o at alive came. by_case n o (live-there deck w ring e.system.0 n at alive) came)
@@ -139,8 +138,8 @@ ring_goes deck w e ring g =
         let now : ℕ = with_also w.medium.removed target.0 in
         record {
           round =
-              dropped_round w.medium.message e.system target (live w.medium) (others n now) g.round ring.unclosed
-              (ltb-true target.0 n (and_parts (nat_lt target.0 n) (not (has w.medium.removed target.0)) lives).0)
+              dropped_round w.medium.message e.system target (live w.medium) (others n now) g.round
+              (masks_of w.medium waits) ring.unclosed
               (has-live n now target.0
               ∙ and_right (nat_lt target.0 n) (not (has now target.0))
               (ap not (has-with_same w.medium.removed target.0)))
@@ -162,13 +161,13 @@ ring_goes deck w e ring g =
     by_case n o alive (turn flags here) = record {
       round =
           open_round w.medium.message e.system (take most_additions n.outbox) (live w.medium) w.medium.rest g.round
-          below alive (stands_at-exact w.medium.message.holder e.system here) ring.unclosed;
+          (masks_of w.medium waits) below (stands_at-exact w.medium.message.holder e.system here) ring.unclosed;
       closed = λ z. absurd (let no : true ≡ false = sym z ∙ ring.mode in cc);
       around = g.around;
     }
     by_case n o alive (changed next idle) = record {
       round =
-          closed_round w.medium.message e.system (live w.medium) g.round
+          closed_round w.medium.message e.system (live w.medium) g.round (masks_of w.medium waits)
           (none_unseen e.system w.medium.message.entries idle);
       closed = λ z. refl;
       around = g.around;
@@ -184,7 +183,7 @@ goes deck h = each_run deck (λ es (w : World). Goes (length deck.systems) w.med
         go : (b : Bool) → (run deck es).medium.star ≡ b
             → Goes (length deck.systems) (happens deck (run deck es) e).medium
         go true is = star_goes deck (run deck es) e is g
-        go false is = ring_goes deck (run deck es) e (is_ring deck h es is) g
+        go false is = ring_goes deck (run deck es) e (is_ring deck h es is) (run_waits deck es) g
 
 -- So it is of a deck that begins in star mode, which stays in it.
 stays_star : (deck : Deck) → deck.star ≡ true → (es : List Event)

@@ -36,7 +36,7 @@ use Rattle.grs_known.proofs.known.ItemLaws.{items_are_history}
 use Rattle.grs_known.proofs.lists.Truths.{no_truth}
 use Rattle.grs_known.proofs.system.Says.{own_requests}
 use Rattle.grs_world.specs.World.{World, Turnout, fixed_by, placed, run}
-use Rattle.grs_world.proofs.message.Stands.{has-live}
+use Rattle.grs_medium.proofs.LiveLaws.{has-live}
 use Rattle.grs_world.proofs.run.Growing.{fixeds, own_requests-append}
 use Rattle.grs_world.proofs.run.InRing.{IsRing, live-there}
 use Rattle.grs_world.proofs.run.Messages.{message-removed}

@@ -14,7 +14,7 @@ returns-clause-bus c =
 pub returns-clause-systems : goal.returns-clause-systems
 returns-clause-systems c =
     let bus = c.in_ok-bus.bus in
-    let two : systems_of bus.first ≡ 2 = ap systems_of (c.in_ok-bus.ensures.first ∙ c.in_ok-medium.ensures) in
+    let two : systems_of bus.first ≡ 2 = ap systems_of (c.in_ok-bus.ensures.first ∙ c.in_ok-medium.ensures.start) in
     subst (All (λ (s : SeatValue). s.system.0 < systems_of bus.first)) (sym c.into_vec-seats.ensures)
     (subst (λ (n : ℕ). All (λ (s : SeatValue). s.system.0 < n) c.in_ok-bus.seats) (sym two)
     (seats-inside bus c.in_ok-bus.seats 2 c.in_ok-bus.ensures.seats c.in_ok-bus.ensures.count))

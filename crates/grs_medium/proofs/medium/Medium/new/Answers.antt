@@ -3,6 +3,10 @@ use Rattle.std.proofs.lemmas.Grind.{common_steps}
 use Rattle.std.specs.List.{All}
 use Rattle.lock_structure.specs.Words.{ManagerIsBelow}
 use Rattle.lock_structure.proofs.WordLaws.{below-replicate}
+use Rattle.rsa_message.specs.Message.{Message}
+use Rattle.grs_medium.specs.GoesOn.{WaitsForLive}
+use Rattle.grs_medium.specs.Medium.{first_medium}
+use Rattle.grs_medium.proofs.GoesOn.{beside, start_waits}
 use Rattle.grs_medium.proofs.medium.Medium.new.Goals as goal
 
 pub invariant_of-result : goal.invariant_of-result
@@ -14,3 +18,20 @@ invariant_of-result c =
       subst (λ (words : List ℕ). All (ManagerIsBelow c.args.systems) words) (sym empty)
           (below-replicate c.args.systems c.args.entries),
     )
+
+pub returns-clause-waits : goal.returns-clause-waits
+returns-clause-waits c =
+    let start = start_waits c.args.systems c.args.entries c.args.star in
+    subst
+    (λ (m : Message).
+    WaitsForLive (record {
+      star = c.args.star;
+      message = m;
+      words = c.in_ok-words.words;
+      inboxes = c.in_ok-inboxes.inboxes.mail;
+      removed = 0;
+      rest = 0;
+    }))
+    (sym c.new-3.ensures)
+    (beside (first_medium c.args.systems c.args.entries c.args.star) c.in_ok-words.words c.in_ok-inboxes.inboxes.mail 0
+    start)

@@ -20,11 +20,11 @@ pub record Ahead (systems start here there : ℕ) : Type 0 where
   pub comes : (start + whole) % systems ≡ there
 
 -- ---- places round
-under : (n x : ℕ) → 0 < n → x % n < n
+pub under : (n x : ℕ) → 0 < n → x % n < n
 under n x some = mod-lt x some
 
 -- Whoever comes to where it was has gone once round.
-came_round : (n s k : ℕ) → s < n → 0 < k → k ≤ n → (s + k) % n ≡ s → k ≡ n
+pub came_round : (n s k : ℕ) → s < n → 0 < k → k ≤ n → (s + k) % n ≡ s → k ≡ n
 came_round n s k low some most same = go (dec_lt (s + k) n)
   where
     go : Dec ((s + k) < n) → k ≡ n
