@@ -7,5 +7,5 @@ mod queues;
 mod replies;
 
 pub use order::{Merged, merge, merge_steps};
-pub use queues::queues_after;
+pub use queues::{carry_out, queues_after};
 pub use replies::answers;

@@ -1,5 +1,5 @@
 //! The lists that a history leaves.
-ghost use Rattle.std.specs.Prelude.{◌≡◌, IfOk, OnOk};
+ghost use Rattle.std.specs.Prelude.{◌≡◌, IfOk, OnOk, OnErr};
 ghost use Rattle.grs_base.specs.Rows.{rows_of};
 ghost use Rattle.grs_wire.specs.History.{step, replay};
 
@@ -9,14 +9,16 @@ use qel_store::LinkedQueues;
 use queue_table::Table;
 use std::alloc::Global;
 
-/// Does what one entry of a history asks for.
-fn carry_out(
+/// Does what one entry of a history asks for, where a task may have `limit` elements. What the entry says of its answer
+/// isn't looked at. Without memory the table stays as it was.
+pub fn carry_out(
     alloc: Global,
     limit: u32,
     table: &mut Table<LinkedQueues>,
     entry: &HistEntry,
 ) -> Result<(), NoMemory>
-    ensures { OnOk result (table.new.elements ≡ step limit table.old.elements entry.now) }
+    ensures elements { OnOk result (table.new.elements ≡ step limit table.old.elements entry.now) }
+    ensures unchanged { OnErr result (table.new.elements ≡ table.old.elements) }
 {
     match entry {
         HistEntry::Enq {
