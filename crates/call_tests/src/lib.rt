@@ -22,3 +22,5 @@ mod medium;
 mod merging;
 #[cfg(test)]
 mod readers;
+#[cfg(test)]
+mod tracks;

@@ -1,2 +1,5 @@
 pub mod Standing
 pub mod Samples
+pub mod WalkLaws
+pub mod ScriptLaws
+pub mod NextLaws

@@ -10,6 +10,7 @@ use Rattle.std.proofs.lemmas.List.Elements.{filter-append}
 use Rattle.grs_base.specs.Lists.{owns}
 use Rattle.grs_base.specs.State.{State, list_of, is_full, enq_code, deq_reply}
 use Rattle.grs_base.specs.Looks.{look}
+use Rattle.grs_base.proofs.SameLaws.{same_task-itself}
 use Rattle.grs_base.specs.declared.decision.Code.{Code}
 use Rattle.grs_base.specs.declared.decision.Code.TheVariants as codes
 use Rattle.grs_base.specs.declared.resource.Res.{Res}
@@ -26,8 +27,8 @@ use Rattle.grs_legal.specs.declared.meaning.Meaning.{Meaning}
 use Rattle.grs_track.specs.Track.{Track, track_of, waited_for, waits_behind, waits_behind_last}
 use Rattle.grs_track.specs.Track.{ask_next, passed_next, is_free, may_go_on, entry_for, entry_next}
 use Rattle.grs_track.specs.Tracks.{TracksView, removed_by, removed_in, IsBehind, is_removed, next_in, next_of}
-use Rattle.grs_track.specs.Tracks.{may_remove, next_removal, MayCome, StandsByTracks, track_after}
-use Rattle.grs_track.specs.Tracks.{LongerByTracks, BeginsByTracks}
+use Rattle.grs_track.specs.Tracks.{may_remove, next_removal, next_like, MayCome, StandsByTracks, NextIsOwn}
+use Rattle.grs_track.specs.Tracks.{track_after, LongerByTracks, BeginsByTracks}
 
 -- ---- tests
 both : (a b : Bool) → a ≡ true → b ≡ true → (a && b) ≡ true
@@ -281,6 +282,38 @@ module _ (hist : List HistEntry) (v : TracksView) (k : IsBehind hist v) where
 
 pub stands_by_tracks : StandsByTracks
 stands_by_tracks hist v h k = (comes hist v k h, stands hist v k h)
+
+-- ---- what a task may ask next is its own
+module _ (v : TracksView) (t : TaskId) where
+  own-entry : (a : Ask)
+      → (is_by t (entry_for v.deck.limit v.lists t a) ≡ true)
+      × (next_like v (entry_for v.deck.limit v.lists t a) ≡ next_of v t)
+  own-entry (AsksEnq r c ret) = (same_task-itself t, refl)
+  own-entry (AsksDeq r have) = (same_task-itself t, refl)
+  own-entry (AsksRelease r) = (same_task-itself t, refl)
+  own-entry (AsksLook place filter) = (same_task-itself t, refl)
+
+  own-made : (a : Ask) (h : HistEntry) → next_of v t ≡ Some h → entry_for v.deck.limit v.lists t a ≡ h
+      → (is_by t h ≡ true) × MayCome v h
+  own-made a h e same =
+      subst (λ x. (is_by t x ≡ true) × (next_like v x ≡ Some h)) same
+      ((own-entry a).0, (own-entry a).1 ∙ e)
+
+  own-next : (gone : Bool) (o : Option (List Meaning)) (h : HistEntry) → next_of v t ≡ Some h
+      → cond gone None (next_in v.deck.limit v.lists t (v.tracks t) o) ≡ Some h → (is_by t h ≡ true) × MayCome v h
+  own-next true o h e f = absurd (cc)
+  own-next false None h e f = absurd (cc)
+  own-next false (Some ls) h e f =
+      by_test (may_go_on v.lists t ls (v.tracks t)) (ask_next v.lists t ls (v.tracks t)) f
+    where
+      by_test : (b : Bool) (o : Option Ask) → cond b (option_map (entry_for v.deck.limit v.lists t) o) None ≡ Some h
+          → (is_by t h ≡ true) × MayCome v h
+      by_test false o g = absurd (cc)
+      by_test true None g = absurd (cc)
+      by_test true (Some a) g = own-made a h e (cc)
+
+pub next_is_own : NextIsOwn
+next_is_own v t h e = own-next v t (is_removed v.removed t.system) (lines_of v.deck t) h e e
 
 -- ---- one more entry
 last-push : (xs : List HistEntry) (h : HistEntry) → last_entry (xs ++ h ∷ []) ≡ Some h

@@ -1,2 +1,3 @@
 pub mod Track
 pub mod Tracks
+pub mod Walk

@@ -31,6 +31,11 @@ pub record Track : Type 0 where
 abbrev pub new_track : Track
 new_track = record { asked = 0; ended = false; waits = None }
 
+-- of a task of which something may be kept
+abbrev pub track_in : Option Track → Track
+track_in None = new_track
+track_in (Some k) = k
+
 -- the resource for which a task waits that was answered so
 abbrev pub waited_for : Code → Res → Option Res
 waited_for Wait r = Some r
@@ -56,11 +61,15 @@ track_of t hist = record {
   waits = waits_behind_last (last_entry (entries_of t hist));
 }
 
+-- whether an entry of a line ends its task
+abbrev pub ends : HistEntry → Bool
+ends h = is_of_line h && is_some (end_or (code_of h) None)
+
 -- what is kept of a task behind one more entry of its own
 abbrev pub track_behind : Track → HistEntry → Track
 track_behind k h = record {
   asked = cond (is_of_line h) (suc k.asked) k.asked;
-  ended = k.ended || (is_of_line h && is_some (end_or (code_of h) None));
+  ended = k.ended || ends h;
   waits = waits_behind h;
 }
 

@@ -1,6 +1,8 @@
 -- What is kept of all tasks of a deck behind a history, and which entries may come by that.
-use Rattle.std.specs.Prelude.{◌≡◌, ℕ, Bool, not, ◌&&◌, ◌==◌, List, [], ◌∷◌, ◌++◌, cond, Option, Some, None, slice_get}
+use Rattle.std.specs.Prelude.{◌≡◌, ℕ, Bool, true, not, ◌&&◌, ◌==◌, List, [], ◌∷◌, ◌++◌, cond, Option, Some, None, slice_get}
 use Rattle.std.specs.List.{flat_map, list_any}
+use Rattle.std.specs.Map.{lookup}
+use Rattle.grs_base.specs.Same.{same_task}
 use Rattle.grs_base.specs.State.{State}
 use Rattle.grs_base.specs.declared.resource.SysId.{SysId}
 use Rattle.grs_base.specs.declared.resource.TaskId.{TaskId}
@@ -11,7 +13,7 @@ use Rattle.grs_wire.specs.declared.history.HistEntry.TheVariants.{Enq, Deq, Rele
 use Rattle.grs_legal.specs.Asks.{lines_of}
 use Rattle.grs_legal.specs.Legal.{commands_removal, MayStand}
 use Rattle.grs_legal.specs.declared.meaning.Meaning.{Meaning}
-use Rattle.grs_track.specs.Track.{Track, new_track, track_of, track_behind, entry_next}
+use Rattle.grs_track.specs.Track.{Track, new_track, track_in, track_of, track_behind, entry_next}
 
 -- what is kept: the deck, the lists, the systems that were removed, in the order of their removals, and of each task
 -- its track
@@ -20,6 +22,22 @@ pub record TracksView : Type 0 where
   pub lists : State
   pub removed : List SysId
   pub tracks : TaskId → Track
+
+-- what code keeps: the same, with the tracks of the tasks that asked for something
+pub record TracksValue : Type 0 where
+  pub deck : Deck
+  pub lists : State
+  pub removed : List SysId
+  pub kept : List (TaskId × Track)
+
+-- what is kept by that of all tasks: of one that isn't listed, what is kept of one that asked for nothing
+abbrev pub view_of : TracksValue → TracksView
+view_of k = record {
+  deck = k.deck;
+  lists = k.lists;
+  removed = k.removed;
+  tracks = λ t. track_in (lookup (same_task t) k.kept);
+}
 
 -- the system that an entry removes, if it removes one
 abbrev pub removed_by : HistEntry → List SysId
@@ -91,6 +109,11 @@ abbrev pub StandsByTracks : Type 0
 StandsByTracks =
     (hist : List HistEntry) (v : TracksView) (h : HistEntry) → IsBehind hist v →
     (MayStand v.deck hist h → MayCome v h) × (MayCome v h → MayStand v.deck hist h)
+
+-- What a task may ask next is an entry of this task, which may come.
+abbrev pub NextIsOwn : Type 0
+NextIsOwn =
+    (v : TracksView) (t : TaskId) (h : HistEntry) → next_of v t ≡ Some h → (is_by t h ≡ true) × MayCome v h
 
 -- ---- one more entry
 

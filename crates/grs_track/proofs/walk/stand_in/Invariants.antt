@@ -1,0 +1,8 @@
+use Rattle.std.proofs.Common.{◌≡◌, drop}
+use Rattle.grs_track.specs.Walk.{stand}
+use Rattle.grs_track.proofs.walk.stand_in.Given as goal
+
+abbrev pub invariant-loop-place : goal.invariant-loop-place
+invariant-loop-place l =
+    stand l.table.elements l.task l.resolver (drop l.place l.lines) l.place l.left
+    ≡ stand l.table.elements l.task l.resolver l.lines 0 l.asked
