@@ -17,3 +17,5 @@ mod HistoryLen
 mod GenAnswering
 mod GenLaws
 mod GenLine
+pub mod Bare
+pub mod Unread

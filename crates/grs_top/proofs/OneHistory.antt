@@ -20,6 +20,7 @@ use Rattle.grs_world.specs.World.{World, happens, placed, fixed_by, run_from, ru
 use Rattle.grs_world.proofs.run.Each.{each_event}
 use Rattle.grs_top.specs.Seen.{seen_of_run, report_of}
 use Rattle.grs_top.specs.Due.{IsAnswered}
+use Rattle.grs_top.proofs.Unread.{unread}
 use Rattle.grs_top.specs.Schedules.{unscheduled}
 use Rattle.grs_top.specs.Texts.{IsReported}
 use Rattle.grs_top.specs.OneHistory.{moment_in, is_of_its_event, is_of_live, ShowsOneHistory, AnswersShowHistories}
@@ -192,10 +193,18 @@ pub answers_show_histories : AnswersShowHistories
 answers_show_histories Lists text out status a = tt
 answers_show_histories Analyze text out status a = tt
 answers_show_histories Notices text out status a = tt
-answers_show_histories Replay text out status a =
-    (a.input, a.spelled, reported_shows (unscheduled a.input) a.input.events out status a.is_text)
+answers_show_histories Replay text out status a = (
+  a.input,
+  a.spelled,
+  ((unread a.input a.input.events).shows out).0
+      (reported_shows (unscheduled a.input) a.input.events out status a.is_text),
+)
 answers_show_histories Run text out status a = (
   a.input,
   a.spelled,
-  (a.is_text.events, reported_shows (unscheduled a.input) a.is_text.events out status a.is_text.reported),
+  (
+    a.is_text.events,
+    ((unread a.input a.is_text.events).shows out).0
+        (reported_shows (unscheduled a.input) a.is_text.events out status a.is_text.reported),
+  ),
 )

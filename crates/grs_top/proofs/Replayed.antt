@@ -16,7 +16,7 @@ use Rattle.grs_report.specs.Report.{head_line, end_line, report}
 use Rattle.grs_report.specs.Schedule.{schedule_text}
 use Rattle.grs_report.specs.State.{queues_text, units_text, words_text, mode_line}
 use Rattle.grs_report.specs.Told.{told_text}
-use Rattle.grs_top.specs.Replayed.{RunsAreReplayed, StandsIn}
+use Rattle.grs_top.specs.Replayed.{HasSchedule, RunsAreReplayed}
 use Rattle.grs_top.specs.Schedules.{DoersAreOfDeck, SchedulesReadBack, printed, unscheduled}
 use Rattle.grs_top.specs.Seen.{report_of, seen_of_run}
 
@@ -25,32 +25,32 @@ abbrev joined : List ℕ → List (List ℕ) → List ℕ
 joined text [] = text
 joined text (part ∷ parts) = joined (text ++ part) parts
 
-in_longer : (text before part behind more : List ℕ) → text ≡ before ++ (part ++ behind)
-    → text ++ more ≡ before ++ (part ++ (behind ++ more))
-in_longer text before part behind more h =
-    ap (λ xs. xs ++ more) h
-    ∙ append_assoc before (part ++ behind) more
-    ∙ ap (λ xs. before ++ xs) (append_assoc part behind more)
+in_longer : (text before behind more : List ℕ) → text ≡ before ++ behind → text ++ more ≡ before ++ (behind ++ more)
+in_longer text before behind more h = ap (λ xs. xs ++ more) h ∙ append_assoc before behind more
 
--- what stands in a text stands there whatever is put behind it
-in_joined : (parts : List (List ℕ)) (text before part behind : List ℕ) → text ≡ before ++ (part ++ behind)
-    → StandsIn part (joined text parts)
-in_joined [] text before part behind h = (before, behind, h)
-in_joined (more ∷ parts) text before part behind h =
-    in_joined parts (text ++ more) before part (behind ++ more) (in_longer text before part behind more h)
+-- what stands at the front of a text stands there whatever is put behind it
+in_joined : (parts : List (List ℕ)) (text before behind : List ℕ) → text ≡ before ++ behind
+    → (rest : List ℕ) × (joined text parts ≡ before ++ rest)
+in_joined [] text before behind h = (behind, h)
+in_joined (more ∷ parts) text before behind h =
+    in_joined parts (text ++ more) before (behind ++ more) (in_longer text before behind more h)
 
-at_end : (head first part : List ℕ) → head ++ (first ++ part) ≡ (head ++ first) ++ (part ++ [])
-at_end head first part =
-    sym (append_assoc head first part) ∙ ap (λ xs. (head ++ first) ++ xs) (sym (append-nil part))
+-- the parts of a front, each behind the others
+split_front : (head first part rest : List ℕ)
+    → (head ++ (first ++ part)) ++ rest ≡ head ++ (first ++ (part ++ rest))
+split_front head first part rest =
+    append_assoc head (first ++ part) rest ∙ ap (λ xs. head ++ xs) (append_assoc first part rest)
 
--- a report has the printed lines of its events
-stands : (deck : Deck) (es : List Event) → StandsIn (printed deck es) (report_of (unscheduled deck) es)
+-- a report has the schedule of its events
+stands : (deck : Deck) (es : List Event) → HasSchedule deck es (report_of (unscheduled deck) es)
 unfolding report_of seen_of_run report schedule_text names_of
 stands deck es =
     let bare : Deck = unscheduled deck in
     let names : Names = names_of bare in
     let seen : Seen = seen_of_run bare es in
     let first : List ℕ = line (codes "SCHEDULE" ∷ decimal (length es) ∷ []) in
+    let front : List ℕ = head_line ++ (first ++ printed deck es) in
+    let whole =
     in_joined
     (
     history_text names seen.hist
@@ -61,8 +61,8 @@ stands deck es =
     ∷ mode_line seen.star
     ∷ end_line (all_ended seen.ended)
     ∷ [])
-    (head_line ++ (first ++ printed deck es)) (head_line ++ first) (printed deck es) []
-    (at_end head_line first (printed deck es))
+    front front [] (sym (append-nil front)) in
+    (whole.0, whole.1 ∙ split_front head_line first (printed deck es) whole.0)
 
 pub runs_are_replayed :
     ((text : List ℕ) (d : Deck) → SpellsDeck text d → IsDeck d) → DoersAreOfDeck → SchedulesReadBack → RunsAreReplayed
@@ -72,7 +72,7 @@ runs_are_replayed whole doers back text out front status a at short =
     let own : All (IsEventOf deck.systems deck.entries) a.is_text.events =
     doers (unscheduled deck) a.is_text.events bare a.is_text.all_do in
     let shown = stands deck a.is_text.events in (
-      (shown.0, shown.1, a.is_text.reported.whole ∙ shown.2),
+      (shown.0, a.is_text.reported.whole ∙ shown.1),
       record {
         input = record deck { events = a.is_text.events };
         spelled = back front deck a.is_text.events at own short;

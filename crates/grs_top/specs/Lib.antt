@@ -10,6 +10,7 @@ pub mod Commands
 pub mod Due
 pub mod Replayed
 pub mod OneHistory
+pub mod Unread
 pub mod Answers
 pub mod Generated
 pub mod Forms

@@ -15,7 +15,6 @@ use Rattle.grs_wire.specs.declared.seen.Seen.{Seen}
 use Rattle.grs_wire.specs.declared.told.Told.{Told}
 use Rattle.grs_world.specs.Agree.{Moment, AgreeAt, RemovalsTold, is_event_of, is_of_event}
 use Rattle.grs_top.specs.Due.{IsAnswered}
-use Rattle.grs_top.specs.Schedules.{unscheduled}
 use Rattle.grs_top.specs.declared.status.Status.{Status}
 use Rattle.grs_top.specs.declared.words.Command.{Command}
 use Rattle.grs_top.specs.declared.words.Command.TheVariants.{Replay, Run, Lists, Analyze, Notices}
@@ -73,9 +72,9 @@ abbrev pub ShowsHistory : Command → List ℕ → List ℕ → Type 0
 ShowsHistory Lists text out = Unit {0}
 ShowsHistory Analyze text out = Unit {0}
 ShowsHistory Notices text out = Unit {0}
-ShowsHistory Replay text out = (deck : Deck) × SpellsDeck text deck × ShowsOneHistory (unscheduled deck) deck.events out
+ShowsHistory Replay text out = (deck : Deck) × SpellsDeck text deck × ShowsOneHistory deck deck.events out
 ShowsHistory Run text out =
-    (deck : Deck) × SpellsDeck text deck × ((es : List Event) × ShowsOneHistory (unscheduled deck) es out)
+    (deck : Deck) × SpellsDeck text deck × ((es : List Event) × ShowsOneHistory deck es out)
 
 abbrev pub AnswersShowHistories : Type 0
 AnswersShowHistories = (c : Command) (text out : List ℕ) (status : Status) → IsAnswered c text out status

@@ -1,10 +1,14 @@
 //! The laws of the commands, which follow from what each says of its source and sink, those of systems that ran beside each
 //! other, and that of runs that are made from a number. There is nothing to run.
+ghost use Rattle.std.specs.Prelude.{List};
+ghost use Rattle.grs_wire.specs.declared.deck.Deck.{Deck};
+ghost use Rattle.grs_wire.specs.declared.deck.Event.{Event};
 ghost use Rattle.grs_top.specs.Beside.{MergedRuns, MergedRests};
 ghost use Rattle.grs_top.specs.Generated.{LineUnlessMemory, GeneratedRuns};
 ghost use Rattle.grs_top.specs.OneHistory.{AnswersShowHistories};
 ghost use Rattle.grs_top.specs.Replayed.{RunsAreReplayed};
 ghost use Rattle.grs_top.specs.Schedules.{DoersAreOfDeck, SchedulesReadBack};
+ghost use Rattle.grs_top.specs.Unread.{ScheduleIsUnread};
 ghost use Rattle.grs_top.specs.Whole.{WholeUnlessMemory, RefusedUnlessMemory, FaultsAreFailedCalls};
 
 use grs_deck::one_deck;
@@ -67,6 +71,13 @@ pub fn schedules_read_back()
     one_deck();
     printed_events();
 }
+
+/// A deck's own schedule is read by nobody but who takes its events: with it and without it a deck has one run of any events, one
+/// report and one ending, the run is sound for both or for neither, the same histories are legal, and a text shows one history of
+/// both or of neither.
+pub fn schedules_are_unread()
+    ensures { (deck : Deck) → (events : List Event) → ScheduleIsUnread deck events }
+{}
 
 /// What `run` wrote for a deck has the schedule of its run, and `replay` of the deck with these lines in place of its own schedule
 /// writes the same bytes and ends by the same status, where that text isn't too long.
