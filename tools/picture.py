@@ -1,9 +1,11 @@
 """Draws a run:
 
-    ./grs-picture [--deck DECK] [REPORT] > run.html
+    ./grs-picture [--deck DECK] [--with TEXT] .. [REPORT] > run.html
     ./grs-picture --help
 
-The report is read from the file, else from standard input. With the deck beside it nothing in the picture is a guess.
+The report is read from the file, else from standard input. With the deck beside it nothing in the picture is a guess. A TEXT is what
+./grs analyze or ./grs notices wrote of the same run: the cycle is shown that the one tells, in place of one that is found here, and
+the notices of the other stand as marks under the list of each resource.
 
 The page stands alone: what it shows is in it, and it asks no network. Its first view has a lane for each task, with the events
 from left to right; its second the list of each resource, with the places in the history from left to right. A panel says who owns
@@ -31,7 +33,7 @@ which a request has its place is in part a guess, and with it up to where the re
 The page says so. With --deck all of this is taken from a model of the run (tools/runs.py), where that comes to the same report;
 it tells too which lock entries a system manages, and what was on its way in the end.
 
-Exit status: 0, the page was written; 8, there is no report, or it isn't one of this deck; 12, other words; 16, a read failed;
+Exit status: 0, the page was written; 8, there is no report, or it isn't one of this deck or of this TEXT; 12, other words; 16, a read failed;
 20, a write failed.
 """
 import collections
@@ -56,6 +58,7 @@ TEMPLATE = HERE / "picture.html"
 HISTORY = re.compile(r"H (?P<n>\d+) (?P<by>\S+) (?:ENQ (?P<enq>.*) (?P<control>[ES]) (?P<ret>\w+) (?P<answer>\w+)"
                      r"|DEQ (?P<deq>.*) (?:NONE|HAVE) (?P<answered>\w+)|RELEASE (?P<release>.*)|LOOK (?P<look>.*)|REMOVE (?P<remove>\S+))")
 QUEUE = re.compile(r"Q (?P<name>.*?\)) (?P<elements>[^ ()']+:[ES]\*?(?: [^ ()']+:[ES]\*?)*)")
+NOTICE = re.compile(r"N (\d+) (BEGIN|CHANGE|END) (.*\)) (\d+) (\d+)")
 TOLD = re.compile(r"T (?P<k>\d+|END) (?P<what>.*?) ?@(?P<event>\d+)")
 
 
@@ -605,6 +608,30 @@ def cycle(run):
     return []
 
 
+def beside(run, texts):
+    """What ./grs analyze and ./grs notices wrote of the same run: the tasks of a cycle, or nothing without an analysis, and each notice."""
+    found, notices, tasks = None, [], [it["name"] for it in run["tasks"]]
+    for text in texts:
+        head, *lines = text.splitlines() or [""]
+        rows, told = [line[2:] for line in lines if line.startswith("A ")], [NOTICE.fullmatch(line) for line in lines]
+        contended = [line[2:] for line in run["queues"] if not all(it.endswith("*") for it in QUEUE.fullmatch(line)["elements"].split(" "))]
+        word, *circle = lines[-1].split(" ") if lines else [""]
+        if re.fullmatch(r"ANALYZE \d+", head) and rows == contended and word == "CYCLE" and (circle == ["NONE"] or set(circle) <= set(tasks)):
+            found = [it for it in circle if it != "NONE"]
+        elif head == "NOTICES %d" % len(lines) and all(told) and all(is_of(run, it) for it in told):
+            notices += [(int(it[1]), it[2], it[3], int(it[4]), int(it[5])) for it in told]
+        else:
+            raise NoReport("a text beside the report isn't what ./grs analyze or ./grs notices write of the same run")
+    return found, notices
+
+
+def is_of(run, notice):
+    """Whether a notice is by an entry of the history that may change the list of its resource."""
+    number = int(notice[1])
+    entry = run["history"][number - 1] if 0 < number <= len(run["history"]) else None
+    return bool(entry) and (resource(entry) == notice[3] or bool(entry["remove"]) and notice[3].startswith("SYSTEMS("))
+
+
 def is_star(run):
     """Whether a run begins in star mode."""
     return run["mode"] == "MODE STAR" and all(what != "SETGRS DONE" for _, what, _ in run["desk"])
@@ -625,15 +652,17 @@ def commanded(run, what, event):
     return " ".join([verb, *run["events"][event - 1].split()[2:], said_to_it])
 
 
-def picture(report, deck=None):
-    """What the page shows of a report; by its deck, where that is given too."""
+def picture(report, deck=None, texts=()):
+    """What the page shows of a report; by its deck and by texts beside it, where these are given too."""
     run = read(report)
     tasks, stays, managers = follow(run) if deck is None else by_deck(run, deck, report)
-    queues, last = lists(run), len(run["events"])
+    queues, last, (told, notices) = lists(run), len(run["events"]), beside(run, texts)
+    for it in queues:
+        it["notices"] = [notice for notice in notices if notice[2] == it["name"]]
     return {
         "events": run["events"], "mode": run["mode"], "end": run["end"], "words": run["words"], "units": run["units"],
         "history": len(run["history"]), "fixed": [entry["at"] for entry in run["history"]],
-        "systems": run["systems"], "message": stays, "managers": managers, "cycle": cycle(run), "guess": [] if deck is not None else guesses(run),
+        "systems": run["systems"], "message": stays, "managers": managers, "cycle": cycle(run) if told is None else told, "analyzed": told is not None, "guess": [] if deck is not None else guesses(run),
         "desk": [{"system": system, "what": commanded(run, what, event), "event": event} for system, what, event in run["desk"]],
         "lanes": [{"task": task.name, "system": task.system, "ended": task.ended, "code": task.code, "end": task.end, "removed": task.removed,
                    "bars": bars(task, last)} for task in tasks],
@@ -641,10 +670,10 @@ def picture(report, deck=None):
     }
 
 
-def page(report, title, deck=None):
+def page(report, title, deck=None, texts=()):
     """The page of a report; a text that is none is refused."""
     try:
-        data = json.dumps(picture(report, deck), separators=(",", ":"))
+        data = json.dumps(picture(report, deck, texts), separators=(",", ":"))
     except NoReport as why:
         raise streams.Failed(8, why) from None
     except Exception as why:  # whatever else a text that isn't grs's own leads to
@@ -654,19 +683,32 @@ def page(report, title, deck=None):
     return head.replace("{title}", html.escape(title), 1) + data.replace("<", "\\u003c") + tail
 
 
+def files(words):
+    """By the words: the report's file and the deck's, or none of either, and those of the texts beside."""
+    report, deck, texts, left = None, None, [], list(words)
+    while left:
+        word = left.pop(0)
+        if word == "--deck" and left and deck is None:
+            deck = left.pop(0)
+        elif word == "--with" and left:
+            texts.append(left.pop(0))
+        elif report is None and not word.startswith("--"):
+            report = word
+        else:
+            left, deck = [], "-"
+    if "-" in (deck, *texts):
+        raise streams.Failed(12, "these are no words of it: ./grs-picture [--deck DECK] [--with TEXT] .. [REPORT], or --help")
+    return report, deck, texts
+
+
 def main(words):
     if words and words[0] in ("--help", "-h"):
         streams.give(__doc__.strip() + "\n")
         return 0
-    deck, rest = None, list(words)
-    if "--deck" in rest[:-1]:
-        at = rest.index("--deck")
-        deck, rest = rest[at + 1], rest[:at] + rest[at + 2:]
-    if len(rest) > 1 or rest and rest[0].startswith("--") or deck in ("-", *rest):
-        raise streams.Failed(12, "these are no words of it: ./grs-picture [--deck DECK] [REPORT], or --help")
-    file = next((it for it in (*rest, deck) if it not in (None, "-")), None)
-    texts = [None if it is None else streams.take(it).decode("latin-1") for it in (deck, (rest or ["-"])[0])]
-    streams.give(page(texts[1], pathlib.Path(file).stem if file else "a run", texts[0]))
+    report, deck, texts = files(words)
+    title = next((pathlib.Path(it).stem for it in (report, deck) if it not in (None, "-")), "a run")
+    deck, *texts = [None if it is None else streams.take(it).decode("latin-1") for it in (deck, *texts)]
+    streams.give(page(streams.take(report).decode("latin-1"), title, deck, texts))
     return 0
 
 
