@@ -106,6 +106,8 @@ STATEMENTS = {
     "D": DISPLAY,
     "SCHEDULE": Form(),
 }
+# the calls of a text of latch calls
+CALLS = {"CRT": Form("set latches"), "OBT": Form("set latch requestor E|S SYNC|COND"), "REL": Form("set latch requestor"), "PRG": Form("set requestor")}
 EVENT = Form("name", "ONE", {"TASK": "task", "TURN": "", "SEND": "task", "TAKE": "", "SETTLE": "", "TELL": "entry", "LEAVE": "entry",
                              "SWITCH": "", "PURGE": "name", "REST": ""})
 NAME = r"[A-Z$#@][A-Z0-9$#@]*"
@@ -113,6 +115,10 @@ NAME = r"[A-Z$#@][A-Z0-9$#@]*"
 ITEMS = {
     "name": ("a name (A to Z, 0 to 9, $, # and @, no digit first)", NAME, None),
     "task": ("a job and a task (as J1.T1)", NAME + r"\." + NAME, None),
+    "set": ("a set's name (A to Z, 0 to 9, $, # and @, no digit first)", NAME, None),
+    "latches": ("a number of latches from 1 to 1024", r"\d{1,9}", range(1, 1025)),
+    "latch": ("a latch's number, of 1 to 9 digits", r"\d{1,9}", range(10 ** 9)),
+    "requestor": ("a requestor's number from 0 to 65535", r"\d{1,9}", range(65536)),
     "number": ("a number of 1 to 9 digits", r"\d{1,9}", range(10 ** 9)),
     "entries": ("1, 2, 4, 8, 16, 32 or 64", r"\d{1,9}", [1, 2, 4, 8, 16, 32, 64]),
     "limit": ("a number from 1 to 4096", r"\d{1,9}", range(1, 4097)),
