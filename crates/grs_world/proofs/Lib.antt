@@ -6,3 +6,4 @@ pub mod samples
 pub mod star
 pub mod move
 pub mod rest
+pub mod lap

@@ -4,3 +4,4 @@ pub mod Calls
 pub mod Nodes
 pub mod Happens
 pub mod Turns
+pub mod Lapped

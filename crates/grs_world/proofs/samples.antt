@@ -9,3 +9,4 @@ pub mod SwitchSamples
 pub mod RestSamples
 pub mod RankSamples
 pub mod RemovalSamples
+pub mod StopSamples

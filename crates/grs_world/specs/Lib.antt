@@ -12,3 +12,4 @@ pub mod Changing
 pub mod Passed
 pub mod AtRest
 pub mod Removing
+pub mod Stopped

@@ -12,6 +12,7 @@ ghost use Rattle.grs_world.specs.Kept.{KeptArePlaces, ManagersKeepWell};
 ghost use Rattle.grs_world.specs.Laps.{ComesBackLast, ProcessedLast, AnsweredLast};
 ghost use Rattle.grs_world.specs.Passed.{PassedIsTold};
 ghost use Rattle.grs_world.specs.Removing.{RemovedAreInHistory, AnswersHaveCauses, RemovalsAreEntries, NoneFollows, RemovedTellNothing, RemovalsKeepOthers, MessageGoesOn};
+ghost use Rattle.grs_world.specs.Stopped.{LapsEnd};
 ghost use Rattle.grs_world.specs.Tables.{TablesAreFronts};
 ghost use Rattle.grs_world.specs.Decks.{FitsStar, may_be_star};
 ghost use Rattle.grs_world.specs.World.{run};
@@ -137,4 +138,11 @@ pub fn removals_keep_others()
 /// message stands at a live one.
 pub fn message_goes_on()
     ensures { (deck : Deck) → (events : List Event) → MessageGoesOn deck events }
+{}
+
+/// A lap of the message ends. In ring mode, where some system is live, its events are Turns, each of the system at which the
+/// message stands; as many of them get to the message as systems are live; and none of the entries that stood in the message
+/// before is left behind it, whatever removed systems have left undone.
+pub fn laps_end()
+    ensures { (deck : Deck) → (events : List Event) → LapsEnd deck events }
 {}

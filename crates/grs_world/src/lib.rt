@@ -4,8 +4,10 @@
 
 mod chosen;
 pub mod laws;
+mod stops;
 mod summary;
 mod world;
 
+pub use stops::stopped;
 pub use summary::{task_end, units_of};
 pub use world::{RunLog, World, replay};

@@ -4,6 +4,7 @@ ghost use Rattle.grs_base.specs.Limits.{most_systems};
 ghost use Rattle.task_state.specs.Units.{units_at};
 ghost use Rattle.grs_world.specs.Running as runs;
 ghost use Rattle.grs_world.specs.Running.{nodes_of, none_pending, pending_at, units_of, end_of, task_end};
+ghost use Rattle.grs_world.specs.Stopped.{live_below};
 
 use grs_base::{List, NoMemory, SysId, TaskId};
 use grs_node::Node;
@@ -22,6 +23,21 @@ pub(crate) fn none_pending(removed: u32, nodes: &[Node<'_>]) -> bool
         }
     }
     true
+}
+
+/// How many of so many systems aren't removed.
+pub(crate) fn live_count(systems: usize, removed: u32) -> u32
+    requires { systems ≤ most_systems }
+    ensures count { result ≡ live_below removed systems }
+    ensures few { result ≤ systems }
+{
+    let mut count = 0;
+    for place in 0..systems {
+        if !has_system(removed, SysId(place as u8)) {
+            count += 1;
+        }
+    }
+    count
 }
 
 /// Adds the counts of units of a system.

@@ -1,11 +1,17 @@
 //! The world of a run: the medium, the systems that share it, what the events fixed and what was told. Each event
 //! is one system's; one of a system that isn't there, or was removed, does nothing.
-ghost use Rattle.std.specs.Prelude.{◌≡◌, ◌<◌, ◌≤◌, ◌+◌, ◌++◌, ◌∷◌, [], true, length, IfOk, OnOk};
+ghost use Rattle.std.specs.Prelude.{◌≡◌, ◌<◌, ◌≤◌, ◌+◌, ◌*◌, ◌++◌, ◌∷◌, [], true, length, IfOk, OnOk};
 ghost use Rattle.grs_base.specs.Limits.{last_number, most_systems};
 ghost use Rattle.grs_wire.specs.Decks.{IsDeck};
-ghost use Rattle.grs_medium.specs.GoesOn.{WaitsForLive};
 ghost use Rattle.grs_node.specs.Node.{first_node};
 ghost use Rattle.grs_world.specs.World as runs;
+ghost use Rattle.grs_world.specs.World.{run_from};
+ghost use Rattle.grs_node.specs.Node.{prepare as prepared_by};
+ghost use Rattle.grs_medium.specs.GoesOn.{WaitsForLive};
+ghost use Rattle.grs_medium.specs.Medium.{systems_of as systems_at};
+ghost use Rattle.grs_wire.specs.declared.deck.Choice.TheVariants.{Turn};
+ghost use Rattle.grs_world.specs.Removing.{reply_of, reply_by, call_in};
+ghost use Rattle.grs_world.specs.Stopped.{lap, live_count, is_turned, turn_of, left_behind, next_of};
 ghost use Rattle.grs_world.specs.Running.{starting, after, ran, nodes_of, AreOf, AreNumbered, is_live, at_rest, units_of, task_end};
 
 use super::chosen::{Done, choose_at};
@@ -14,7 +20,7 @@ use grs_base::{LAST_NUMBER, List, NoMemory, SysId, TaskId};
 use grs_medium::Medium;
 use grs_node::Node;
 use grs_wire::masks::has_system;
-use grs_wire::{Deck, Event, Fixed, TaskEnd, Told, ToldLine};
+use grs_wire::{Choice, Deck, Event, Fixed, TaskEnd, Told, ToldLine};
 use std::alloc::Global;
 use std::marker::Model;
 
@@ -121,6 +127,18 @@ fn add_told(
     Ok(())
 }
 
+/// Whether the Turn of a system that wasn't removed gets to the message.
+#[tactic(auto, using(crate::proofs::code::Lapped::lapping))]
+fn is_served(medium: &Medium, system: SysId, node: &Node<'_>) -> bool
+    requires { system.0 < systems_at medium.now.state }
+    ensures { result ≡ is_turned (reply_by medium.now.state system (call_in (prepared_by node.now.deck node.now.node Turn))) }
+{
+    match node.known_at_turn() {
+        Some(known) => medium.turn_refusal(system, known).is_none(),
+        None => false,
+    }
+}
+
 impl<'d> World<'d> {
     /// A deck before its first event: nothing is queued and no task has begun.
     #[tactic(auto, using(crate::proofs::system::First::first), unfolding(crate::specs::World::first_world))]
@@ -186,6 +204,68 @@ impl<'d> World<'d> {
             self.events += 1;
             Ok(())
         }
+    }
+
+    /// Whether the Turn of a system gets to the message.
+    #[tactic(auto, using(crate::proofs::code::Lapped::lapping, crate::proofs::code::Nodes::nodes))]
+    fn gets_turn(&self, system: SysId) -> bool
+        ensures { result ≡ is_turned (reply_of self.now.deck self.now.world (turn_of system)) }
+    {
+        self.is_live(system) && is_served(&self.medium, system, &self.nodes[system.0 as usize])
+    }
+
+    /// The Turn of a system in a lap, of which so many that get to the message are left. It says how many are left then.
+    fn take_turn(&mut self, system: SysId, left: u32) -> Result<u32, NoMemory>
+        ensures world { OnOk result (self.new ≡ after self.old (turn_of system)) }
+        ensures left { IfOk result (λ now. now ≡ left_behind self.old.deck self.old.world system left) }
+    {
+        let served = self.gets_turn(system);
+        self.step(&Event {
+            system,
+            choice: Choice::Turn,
+        })?;
+        Ok(if served { left.saturating_sub(1) } else { left })
+    }
+
+    /// The system that goes on in a lap of which so many Turns are left: the one at which the message stands.
+    fn next_of(&self, left: u32) -> Option<SysId>
+        ensures { result ≡ next_of left self.now.world }
+    {
+        if left == 0 {
+            None
+        } else {
+            self.medium.holder()
+        }
+    }
+
+    /// The message goes one lap: it hands out the Turns that were made, each of the system at which the message stood, until
+    /// as many got to the message as systems are live. A system that has yet to be told which others were removed is told
+    /// that by one Turn and makes another, so there are at most twice as many. In ring mode none of the entries that stood in
+    /// the message before is left behind it, whatever the systems that were removed have left undone.
+    ///
+    /// NoMemory comes where memory is wanting, or there were 2^57 events; the run is then to be given up.
+    #[tactic(auto, using(crate::proofs::code::Lapped::lapped))]
+    pub fn lap(&mut self) -> Result<List<Event>, NoMemory>
+        ensures turns { IfOk result (λ turns. turns ≡ lap self.old.deck self.old.world) }
+        ensures world { IfOk result (λ turns. self.new.world ≡ run_from self.old.deck self.old.world turns) }
+        ensures deck { OnOk result (self.new.deck ≡ self.old.deck) }
+        ensures few { IfOk result (λ turns. length turns ≤ 2 * live_count self.old.world) }
+    {
+        let mut turns = List::new(self.alloc);
+        let mut left = summary::live_count(self.nodes.len(), self.medium.removed());
+        let mut most = 2 * left;
+        'turns: while most > 0 {
+            let Some(system) = self.next_of(left) else {
+                return Ok(turns);
+            };
+            left = self.take_turn(system, left)?;
+            turns.push(Event {
+                system,
+                choice: Choice::Turn,
+            })?;
+            most -= 1;
+        }
+        Ok(turns)
     }
 
     /// Whether nothing is left to do: nothing is pending at a system that wasn't removed, and nothing is left to

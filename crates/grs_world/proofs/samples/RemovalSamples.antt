@@ -49,7 +49,7 @@ use Rattle.grs_medium.specs.Medium.{medium_at_end}
 use Rattle.grs_world.specs.Agree.{lines_of_told}
 use Rattle.grs_world.specs.AtRest.{goes_on_with, lists_after}
 
-abbrev purges : ℕ → ℕ → Event
+abbrev pub purges : ℕ → ℕ → Event
 purges s target = record { system = system s; choice = choices.Purge (system target) }
 
 -- A ring of three systems, each with a task that asks for exclusive control of the same resource, and with a desk that

@@ -1,0 +1,129 @@
+-- What the Turn of the system comes to at which the message stands, in ring mode.
+use Rattle.std.proofs.Common.{◌≡◌, ◌≢◌, Bool, true, false, cond, not, List, [], length, take, Some, None}
+use Rattle.std.proofs.Common.{refl, sym, ap, ◌∙◌}
+use Rattle.std.specs.Prelude.{nat_lt, slice_get, ◌==◌}
+use Rattle.std.proofs.lemmas.Bool.{and_parts, eq-eqb, ltb-true, true≢false}
+use Rattle.std.proofs.lemmas.Option.{same_Some, slice_get-get_or}
+use Rattle.grs_base.specs.Limits.{most_additions}
+use Rattle.grs_base.specs.declared.resource.SysId.{SysId}
+use Rattle.grs_known.proofs.lists.Facts.{slice_get-set}
+use Rattle.grs_medium.specs.Apply.{turn_row}
+use Rattle.grs_medium.specs.Medium.{live}
+use Rattle.grs_medium.specs.TurnReplies.{refusal}
+use Rattle.grs_medium.specs.declared.medium.TurnRefusal.TheVariants as refusals
+use Rattle.grs_node.specs.Node.{NodeState, Step, finish, first_node, finish_call, prepare, turn_call}
+use Rattle.grs_node.specs.TurnCalls as calls
+use Rattle.grs_node.specs.declared.prepared.Prepared.TheVariants.{Call}
+use Rattle.grs_wire.specs.Masks.{has}
+use Rattle.grs_wire.specs.declared.deck.Choice.TheVariants.{Turn}
+use Rattle.grs_wire.specs.declared.deck.Deck.{Deck}
+use Rattle.grs_wire.specs.declared.medium.Reply.TheVariants as replies
+use Rattle.grs_wire.specs.declared.request.Req.{Req}
+use Rattle.rsa_message.specs.Message.{stands_at, turned, turned_open}
+use Rattle.grs_world.proofs.code.Happens.{happens-live}
+use Rattle.grs_world.proofs.code.Lapped.{reply_of-live, turned-call}
+use Rattle.grs_world.proofs.code.Turns.{chosen-given, chosen-refused}
+use Rattle.grs_world.proofs.run.InRing.{IsRing}
+use Rattle.grs_world.specs.Removing.{reply_of}
+use Rattle.grs_world.specs.Running.{is_live, node_at}
+use Rattle.grs_world.specs.Stopped.{is_turned, turn_of}
+use Rattle.grs_world.specs.World.{Turnout, World, chosen, happens, placed}
+
+-- A system knows which systems were removed.
+abbrev pub Knows : World → SysId → Type 0
+Knows w s = (n : NodeState) → slice_get w.nodes s.0 ≡ Some n → n.known ≡ w.medium.removed
+
+-- It gets to the message, or its system is told which were removed, which it didn't know.
+pub data TurnCame (deck : Deck) (w : World) (s : SysId) : Type 0 where
+  served : (out : List Req) → is_turned (reply_of deck w (turn_of s)) ≡ true
+      → (happens deck w (turn_of s)).medium.message ≡ turned_open w.medium.message s out (live w.medium) w.medium.rest
+      → (happens deck w (turn_of s)).medium.removed ≡ w.medium.removed
+      → (happens deck w (turn_of s)).medium.star ≡ w.medium.star → TurnCame deck w s
+  told : is_turned (reply_of deck w (turn_of s)) ≡ false → (happens deck w (turn_of s)).medium ≡ w.medium
+      → Knows (happens deck w (turn_of s)) s → ¬ (Knows w s) → TurnCame deck w s
+
+module _ (deck : Deck) (w : World) (ring : IsRing deck w) (s : SysId) (here : w.medium.message.holder ≡ Some s)
+    (lives : is_live w s ≡ true) where
+  abbrev n : NodeState
+  n = node_at deck w.nodes s
+
+  there : slice_get w.nodes s.0 ≡ Some n
+  there =
+      slice_get-get_or w.nodes s.0 (first_node deck s.0)
+      (ltb-true s.0 (length w.nodes) (and_parts (nat_lt s.0 (length w.nodes)) _ lives).0)
+
+  pub unremoved : has w.medium.removed s.0 ≡ false
+  unremoved = go (has w.medium.removed s.0) (and_parts (nat_lt s.0 (length w.nodes)) _ lives).1
+    where
+      go : (b : Bool) → not b ≡ true → b ≡ false
+      go true h = absurd cc
+      go false h = refl
+
+  stands : stands_at w.medium.message.holder s ≡ true
+  stands = ap (λ o. stands_at o s) here ∙ eq-eqb s.0 s.0 refl
+
+  asks : prepare deck n Turn ≡ Call (calls.turn_of n n.known)
+  unfolding prepare
+  asks = ap (turn_call n) (ring.alone s.0 n there)
+
+  refused : (b : Bool) → (n.known == w.medium.removed) ≡ b
+      → refusal w.medium s n.known ≡ cond b None (Some (replies.Stale w.medium.removed))
+  unfolding refusal
+  refused b k = rw (unremoved, k, stands) refl
+
+  by : (out : Turnout) → chosen deck w.medium s n Turn ≡ out → happens deck w (turn_of s) ≡ placed w s n out
+  by out is = happens-live deck w (turn_of s) lives ∙ ap (placed w s n) is
+
+  open_turn : (out : List Req)
+      → turned w.medium.message s out (live w.medium) w.medium.rest
+      ≡ turned_open w.medium.message s out (live w.medium) w.medium.rest
+  unfolding turned
+  open_turn out = rw (stands, ring.unclosed) refl
+
+  at_message : (n.known == w.medium.removed) ≡ true → TurnCame deck w s
+  unfolding turn_row placed
+  at_message k =
+      let none = refused true k in
+      let out : List Req = take most_additions n.outbox in
+      let is = by _ (chosen-given deck w.medium s n n.known asks none) in
+      served out
+      (ap is_turned (reply_of-live deck w s lives)
+      ∙ turned-call deck n w.medium s n.known None asks (sym none))
+      (ap (λ (x : World). x.medium.message) is ∙ open_turn out) (ap (λ (x : World). x.medium.removed) is)
+      (ap (λ (x : World). x.medium.star) is)
+
+  not_knowing : (n.known == w.medium.removed) ≡ false → Knows w s → ⊥
+  not_knowing k knows =
+      let same : (n.known == w.medium.removed) ≡ true = eq-eqb n.known w.medium.removed (knows n there) in
+      absurd (true≢false (sym same ∙ k))
+
+  told_step : finish deck n Turn (Some (replies.Stale w.medium.removed))
+      ≡ record { node = record n { known = w.medium.removed }; fixed = [] }
+  unfolding finish finish_call
+  told_step = refl
+
+  elsewhere : (n.known == w.medium.removed) ≡ false → TurnCame deck w s
+  unfolding placed
+  elsewhere k =
+      let some = refused false k in
+      let is =
+      by _ (chosen-refused deck w.medium s n n.known asks (replies.Stale w.medium.removed) some
+      ∙ ap (λ (st : Step). record { medium = w.medium; step = st }) told_step) in
+      told
+      (ap is_turned (reply_of-live deck w s lives)
+      ∙ turned-call deck n w.medium s n.known (Some (refusals.Stale w.medium.removed)) asks (sym some))
+      (ap (λ (x : World). x.medium) is)
+      (λ t at.
+      let now : slice_get (happens deck w (turn_of s)).nodes s.0 ≡ Some (record n { known = w.medium.removed }) =
+      ap (λ (x : World). slice_get x.nodes s.0) is
+      ∙ slice_get-set w.nodes s.0 n (record n { known = w.medium.removed }) there in
+      ap (λ (x : NodeState). x.known) (same_Some t (record n { known = w.medium.removed }) (sym at ∙ now))
+      ∙ ap (λ (x : World). x.medium.removed) (sym is))
+      (not_knowing k)
+
+  pub turn_came : TurnCame deck w s
+  turn_came = go (n.known == w.medium.removed) refl
+    where
+      go : (b : Bool) → (n.known == w.medium.removed) ≡ b → TurnCame deck w s
+      go true k = at_message k
+      go false k = elsewhere k

@@ -1,0 +1,7 @@
+use Rattle.std.proofs.Common.{◌≡◌, ◌++◌, drop}
+use Rattle.grs_world.specs.Stopped.{cut}
+use Rattle.grs_world.proofs.stops.cut.Given as goal
+
+abbrev pub invariant-loop-event : goal.invariant-loop-event
+invariant-loop-event l =
+    l.kept ++ cut l.system l.left (drop l.event-index l.events) ≡ cut l.system l.events_made l.events

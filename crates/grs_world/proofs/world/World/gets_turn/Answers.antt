@@ -1,0 +1,31 @@
+use Rattle.std.proofs.Common.{◌≡◌, true, ap, refl, subst, sym, ◌∙◌}
+use Rattle.grs_node.specs.Node.{prepare}
+use Rattle.grs_wire.specs.declared.deck.Choice.TheVariants.{Turn}
+use Rattle.grs_world.specs.Removing.{call_in, reply_by, reply_of}
+use Rattle.grs_world.specs.Running.{Running, is_live, nodes_of}
+use Rattle.grs_world.specs.Stopped.{is_turned, turn_of}
+use Rattle.grs_world.specs.World.{World}
+use Rattle.grs_world.proofs.code.Lapped.{served-at}
+use Rattle.grs_world.proofs.world.World.gets_turn.Goals as goal
+
+pub returns-then-is_live : goal.returns-then-is_live
+returns-then-is_live c =
+    let inside = c.self.inside in
+    let w : World = record {
+      medium = inside.medium.state;
+      nodes = nodes_of inside.nodes.items;
+      events = inside.events;
+      fixed = inside.fixed;
+      told = inside.told;
+    } in
+    let lives : is_live w c.args.system ≡ true =
+    ap (λ (r : Running). is_live r.world c.args.system) c.self.view_is ∙ sym c.if-is_live.ensures in
+    c.is_served.ensures
+    ∙ subst
+    (λ (r : Running).
+    is_turned (reply_by w.medium c.args.system
+    (call_in (prepare c.index.result.now.deck c.index.result.now.node Turn)))
+    ≡ is_turned (reply_of r.deck r.world (turn_of c.args.system)))
+    c.self.view_is
+    (served-at inside.deck.now inside.nodes.items w c.args.system c.index.result.now refl c.self.invariant.0
+    c.index.ensures lives)
