@@ -36,7 +36,7 @@ pub front-is : (f : Front) (p : TaskId → Bool) (es : List Elem) → f.any ≡ 
     → f ≡ front_of p es
 front-is f p es a b = λ i. record { any = a i; exclusive = b i }
 
-front-more : (p : TaskId → Bool) (es : List Elem) (e : Elem)
+pub front-more : (p : TaskId → Bool) (es : List Elem) (e : Elem)
     → front_with (front_of p es) e.ctl (p e.task) ≡ front_of p (es ++ e ∷ [])
 front-more p es e = grind (arith, blocks-append p E es (e ∷ []), blocks-append p S es (e ∷ []))
 

@@ -8,3 +8,5 @@ pub mod CycleLaws
 pub mod WaitLemmas
 pub mod RowLaws
 pub mod MarkLemmas
+pub mod DeadlockLaws
+pub mod DeadlockSamples

@@ -31,7 +31,7 @@ e_of n = record { task = task n; ctl = E }
 abbrev s_of : ℕ → Elem
 s_of n = record { task = task n; ctl = S }
 
-abbrev res : ℕ → Res
+abbrev pub res : ℕ → Res
 res n = System (record { 0 = 0 }) (65 ∷ []) (n ∷ [])
 
 abbrev row : ℕ → ℕ → List Elem → Row

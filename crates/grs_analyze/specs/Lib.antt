@@ -4,3 +4,4 @@ pub mod Walk
 pub mod Waits
 pub mod Text
 pub mod Numbered
+pub mod Deadlocks

@@ -1,4 +1,5 @@
 //! Laws of analyses: each function's contract is one, and there is nothing to run.
+ghost use Rattle.grs_analyze.specs.Deadlocks.{DeadlocksStay};
 ghost use Rattle.grs_analyze.specs.Depends.{ListsAreApart};
 ghost use Rattle.grs_analyze.specs.Greatest.{GreatestIsGreatest};
 ghost use Rattle.grs_analyze.specs.Waits.{EachWaiterIsTold};
@@ -16,4 +17,10 @@ pub fn each_waiter_is_told()
 /// No task stands twice in a list that a history leaves, so these lists may be analyzed.
 pub fn lists_are_apart()
     ensures { ListsAreApart }
+{}
+
+/// Tasks each of which is held for a resource for which it waits behind one of them stay so, and none of them asks for
+/// anything, whatever comes, unless the system of one is removed.
+pub fn deadlocks_stay()
+    ensures { DeadlocksStay }
 {}
