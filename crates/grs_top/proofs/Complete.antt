@@ -12,12 +12,16 @@ use Rattle.grs_wire.specs.declared.deck.Deck.{Deck as DeckValue}
 use Rattle.deck_scan.specs.Reading.{most_text_bytes, byte_fault}
 use Rattle.grs_deck.specs.Faults.{IsFault, IsFaultless, FaultOfLines}
 use Rattle.grs_deck.specs.Spells.{SpellsDeck}
+use Rattle.grs_latch.specs.declared.call.LatchCall.{LatchCall}
+use Rattle.latch_form.specs.Faults.{IsFault as IsFaultOfCalls, IsFaultless as IsFaultlessOfCalls}
+use Rattle.latch_form.specs.Faults.{FaultOfLines as FaultOfCallLines}
+use Rattle.latch_form.specs.Spelled.{SpellsCalls}
 use Rattle.grs_io.specs.Faults.{last_count, HasRisen}
 use Rattle.grs_io.specs.Moved.{TakesFirst}
 use Rattle.grs_top.specs.declared.status.Status.{Status}
 use Rattle.grs_top.specs.declared.status.Status.TheVariants as statuses
 use Rattle.grs_top.specs.declared.words.Command.{Command}
-use Rattle.grs_top.specs.declared.words.Command.TheVariants.{Replay, Run, Lists, Analyze, Notices}
+use Rattle.grs_top.specs.declared.words.Command.TheVariants.{Replay, Run, Lists, Analyze, Notices, Latch}
 use Rattle.grs_top.specs.Commands.{limit_of, InputOf, SpellsInput, IsFaultOf, IsTextOf}
 use Rattle.grs_top.specs.Due.{fault_line}
 use Rattle.grs_top.specs.Answers.{Streams, TakesAll, Completes, Answers}
@@ -71,6 +75,10 @@ module _
 
 deck_front : (text : List ℕ) (f : DeckFault) → IsFault text f → IsFault (take (most_text_bytes + 1) text) f
 deck_front = front_of FaultOfLines (λ text f lines. lines.allowed)
+
+calls_front : (text : List ℕ) (f : DeckFault) → IsFaultOfCalls text f
+    → IsFaultOfCalls (take (most_text_bytes + 1) text) f
+calls_front = front_of FaultOfCallLines (λ text f lines. lines.allowed)
 
 -- ---- what is read of a source that tells its bytes
 not_risen : (old new : ℕ) → new ≡ old → old < last_count → HasRisen old new → ⊥
@@ -161,7 +169,10 @@ module _ (c : Command) (reads : IsRead c) where
 module _
     (one : (text : List ℕ) (d e : DeckValue) → SpellsDeck text d → SpellsDeck text e → d ≡ e)
     (one_fault : (text : List ℕ) (f g : DeckFault) → IsFault text f → IsFault text g → f ≡ g)
-    (spelled : (text : List ℕ) (d : DeckValue) → SpellsDeck text d → IsFaultless text) where
+    (spelled : (text : List ℕ) (d : DeckValue) → SpellsDeck text d → IsFaultless text)
+    (one_calls : (text : List ℕ) (cs ds : List LatchCall) → SpellsCalls text cs → SpellsCalls text ds → cs ≡ ds)
+    (one_fault_of_calls : (text : List ℕ) (f g : DeckFault) → IsFaultOfCalls text f → IsFaultOfCalls text g → f ≡ g)
+    (spelled_calls : (text : List ℕ) (cs : List LatchCall) → SpellsCalls text cs → IsFaultlessOfCalls text) where
   decks : IsReader DeckValue SpellsDeck IsFault most_text_bytes
   decks = record {
     one = one;
@@ -171,12 +182,22 @@ module _
     front = deck_front;
   }
 
+  calls : IsReader (List LatchCall) SpellsCalls IsFaultOfCalls most_text_bytes
+  calls = record {
+    one = one_calls;
+    one_fault = one_fault_of_calls;
+    faultless = spelled_calls;
+    short = λ text cs s. s.short;
+    front = calls_front;
+  }
+
   reads : (c : Command) → IsRead c
   reads Replay = decks
   reads Run = decks
   reads Lists = decks
   reads Analyze = decks
   reads Notices = decks
+  reads Latch = calls
 
   pub whole : WholeUnlessMemory
   whole c = whole_of c (reads c)

@@ -12,6 +12,7 @@ use Rattle.grs_enf.specs.Text.{notices_text}
 use Rattle.grs_history.specs.Merge.{merged_steps}
 use Rattle.grs_legal.specs.Legal.{Legal}
 use Rattle.grs_medium.specs.Medium.{MediumState}
+use Rattle.latch_form.specs.Faults.{IsFault as IsFaultOfCalls, Answers as AnswersCalls}
 use Rattle.grs_node.specs.Log.{NodeView}
 use Rattle.grs_report.specs.Ends.{all_ended}
 use Rattle.grs_report.specs.Report.{report}
@@ -63,6 +64,11 @@ refused_due c text error (Err e) first refused = tt
 pub first_fault : (text : List ℕ) (error : ReadError) → AnswersDeck (Err error) text
     → (f : DeckFault) → error ≡ read_errors.Fault f → IsFault text f
 first_fault text error exact f is = subst (λ (e : ReadError). AnswersDeck (Err e) text) is exact
+
+-- and so does that of calls
+pub first_call_fault : (text : List ℕ) (error : ReadError) → AnswersCalls (Err error) text
+    → (f : DeckFault) → error ≡ read_errors.Fault f → IsFaultOfCalls text f
+first_call_fault text error exact f is = subst (λ (e : ReadError). AnswersCalls (Err e) text) is exact
 
 -- a deck without its schedule is a deck
 pub bare_deck : (d : DeckValue) → IsDeck d → IsDeck (unscheduled d)

@@ -25,7 +25,7 @@ use Rattle.grs_top.specs.Schedules.{unscheduled}
 use Rattle.grs_top.specs.Texts.{IsReported}
 use Rattle.grs_top.specs.OneHistory.{moment_in, is_of_its_event, is_of_live, ShowsOneHistory, AnswersShowHistories}
 use Rattle.grs_top.specs.declared.status.Status.{Status}
-use Rattle.grs_top.specs.declared.words.Command.TheVariants.{Replay, Run, Lists, Analyze, Notices}
+use Rattle.grs_top.specs.declared.words.Command.TheVariants.{Replay, Run, Lists, Analyze, Notices, Latch}
 
 -- What was fixed stays fixed; behind an event it is more, by the event's system,
 more_fixed : (deck : Deck) (w : World) (e : Event)
@@ -193,6 +193,7 @@ pub answers_show_histories : AnswersShowHistories
 answers_show_histories Lists text out status a = tt
 answers_show_histories Analyze text out status a = tt
 answers_show_histories Notices text out status a = tt
+answers_show_histories Latch text out status a = tt
 answers_show_histories Replay text out status a = (
   a.input,
   a.spelled,

@@ -17,7 +17,7 @@ use Rattle.grs_world.specs.Agree.{Moment, AgreeAt, RemovalsTold, is_event_of, is
 use Rattle.grs_top.specs.Due.{IsAnswered}
 use Rattle.grs_top.specs.declared.status.Status.{Status}
 use Rattle.grs_top.specs.declared.words.Command.{Command}
-use Rattle.grs_top.specs.declared.words.Command.TheVariants.{Replay, Run, Lists, Analyze, Notices}
+use Rattle.grs_top.specs.declared.words.Command.TheVariants.{Replay, Run, Lists, Analyze, Notices, Latch}
 
 -- What one event fixed, where so many things were fixed by the first events.
 abbrev pub fixed_by_event : List (SysId × Fixed) → (ℕ → ℕ) → ℕ → List (SysId × Fixed)
@@ -72,6 +72,7 @@ abbrev pub ShowsHistory : Command → List ℕ → List ℕ → Type 0
 ShowsHistory Lists text out = Unit {0}
 ShowsHistory Analyze text out = Unit {0}
 ShowsHistory Notices text out = Unit {0}
+ShowsHistory Latch text out = Unit {0}
 ShowsHistory Replay text out = (deck : Deck) × SpellsDeck text deck × ShowsOneHistory deck deck.events out
 ShowsHistory Run text out =
     (deck : Deck) × SpellsDeck text deck × ((es : List Event) × ShowsOneHistory deck es out)

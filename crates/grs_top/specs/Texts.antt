@@ -1,4 +1,4 @@
--- What is written of a deck, and the status where all of it is.
+-- What is written of a deck, or of calls of latches, and the status where all of it is.
 use Rattle.std.specs.Prelude.{◌≡◌, ℕ, true, List}
 use Rattle.grs_base.specs.Rows.{rows_of}
 use Rattle.grs_wire.specs.History.{replay}
@@ -13,6 +13,8 @@ use Rattle.grs_world.specs.World.{first_world, run, hist}
 use Rattle.grs_analyze.specs.Text.{analysis_text}
 use Rattle.grs_enf.specs.Notices.{notices}
 use Rattle.grs_enf.specs.Text.{notices_text}
+use Rattle.grs_latch.specs.declared.call.LatchCall.{LatchCall}
+use Rattle.latch_text.specs.Text.{latch_text}
 use Rattle.grs_top.specs.declared.status.Status.{Status}
 use Rattle.grs_top.specs.declared.status.Status.TheVariants.{Done}
 use Rattle.grs_top.specs.Beside.{AllDo}
@@ -50,6 +52,10 @@ IsAnalyzed deck es = IsToldOf deck es (analysis_text deck (rows_of (replay deck.
 -- Written is what is noticed of contention along the run's history.
 abbrev pub AreNoticed : DeckValue → List Event → List ℕ → Status → Type 0
 AreNoticed deck es = IsToldOf deck es (notices_text deck (notices deck.limit (hist deck es)))
+
+-- What the calls are answered is written, and what is left of the latches; there is nothing to wait for.
+abbrev pub AreCalled : List LatchCall → List ℕ → Status → Type 0
+AreCalled calls out status = (out ≡ latch_text calls) × (status ≡ Done)
 
 -- The deck's name lists are written, and there is nothing to wait for.
 abbrev pub IsListed : DeckValue → List ℕ → Status → Type 0

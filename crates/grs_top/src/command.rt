@@ -9,7 +9,9 @@ ghost use Rattle.grs_top.specs.Forms.{AnswersForm};
 ghost use Rattle.grs_top.specs.Words.{form_of};
 
 use super::Status;
-use super::due::{Due, due_by_analyze, due_by_lists, due_by_notices, due_by_replay, due_by_run};
+use super::due::{
+    Due, due_by_analyze, due_by_latch, due_by_lists, due_by_notices, due_by_replay, due_by_run,
+};
 use super::generate::gen_command;
 use super::words::{Command, Form, form_of};
 use deck_scan::MOST_TEXT_BYTES;
@@ -26,8 +28,12 @@ fn limit_of(command: Command) -> usize
     ensures room { result < usize.MAX }
 {
     match command {
-        Command::Replay | Command::Run | Command::Lists | Command::Analyze | Command::Notices =>
-            MOST_TEXT_BYTES,
+        Command::Replay
+        | Command::Run
+        | Command::Lists
+        | Command::Analyze
+        | Command::Notices
+        | Command::Latch => MOST_TEXT_BYTES,
     }
 }
 
@@ -200,6 +206,28 @@ pub fn notices_command<S: Source, K: Sink>(alloc: Global, source: &mut S, sink: 
     )
 }
 
+/// Reads calls of latches from a source, one a line, carries them out, and writes to a sink what each is answered, who gets a latch by
+/// it, and in the end which latches are held and awaited. (z/OS MVS Programming: Authorized Assembler Services Reference, ISGLCRT,
+/// ISGLOBT, ISGLREL and ISGLPRG.) It reads and writes as `replay_command` does, up to one byte more than a text of calls may have.
+///
+/// `Done` says that all of it was written, `Deck` that the line of the text's first fault was written in its place, and the other
+/// statuses what they say there; `Waits` never comes.
+pub fn latch_command<S: Source, K: Sink>(alloc: Global, source: &mut S, sink: &mut K) -> Status
+    ensures answer { Answers Command.Latch
+        (streams (S.left source.old) (K.written sink.old) (S.faults source.old) (K.faults sink.old))
+        (streams (S.left source.new) (K.written sink.new) (S.faults source.new) (K.faults sink.new))
+        result }
+    ensures named { NamesStatus Command.Latch result }
+{
+    answer(
+        alloc,
+        Command::Latch,
+        source,
+        sink,
+        &|text| due_by_latch(alloc, text),
+    )
+}
+
 /// Does what the words after the program's name ask for. The words are the name of a command, or `gen` and a number from 1 to 64; no
 /// others are known, and `Words` is the answer to these: then nothing is read and nothing written. Nothing is read for
 /// `gen` either. Only `run` waits, and looks at the gate.
@@ -228,6 +256,7 @@ pub fn grs<R: Threads + Wait + Sync, S: Source, K: Sink, G: Gate + Sync>(
         Some(Form::OfText(Command::Lists)) => lists_command(alloc, source, sink),
         Some(Form::OfText(Command::Analyze)) => analyze_command(alloc, source, sink),
         Some(Form::OfText(Command::Notices)) => notices_command(alloc, source, sink),
+        Some(Form::OfText(Command::Latch)) => latch_command(alloc, source, sink),
         Some(Form::Generate(n)) => gen_command(alloc, n, sink),
         None => Status::Words,
     }

@@ -1,15 +1,16 @@
 //! What a text is answered by: what the command writes for the deck that it spells, or the line of its first
 //! fault. The answer is built whole before any of it is written.
-ghost use Rattle.std.specs.Prelude.{◌≡◌, IfOk, if◌then◌else◌};
+ghost use Rattle.std.specs.Prelude.{◌≡◌, [], IfOk, if◌then◌else◌};
 ghost use Rattle.grs_analyze.specs.Text.{analysis_text};
 ghost use Rattle.grs_enf.specs.Notices.{notices};
 ghost use Rattle.grs_enf.specs.Text.{notices_text};
+ghost use Rattle.grs_latch.specs.Calls.{AllCome};
 ghost use Rattle.grs_report.specs.Ends.{all_ended};
 ghost use Rattle.grs_report.specs.Report.{report};
 ghost use Rattle.grs_wire.specs.Decks.{IsDeck};
 ghost use Rattle.grs_top.specs.Due.{fault_line, IsDue};
 ghost use Rattle.grs_top.specs.Schedules.{unscheduled};
-ghost use Rattle.grs_top.specs.Texts.{IsReported, IsRunToRest, IsAnalyzed, AreNoticed, IsListed};
+ghost use Rattle.grs_top.specs.Texts.{IsReported, IsRunToRest, IsAnalyzed, AreNoticed, AreCalled, IsListed};
 
 use super::Status;
 use super::beside::seen_of;
@@ -23,10 +24,13 @@ use grs_analyze::laws::lists_are_apart;
 use grs_base::{List, NoMemory, ReadError};
 use grs_deck::read_deck;
 use grs_enf::notices_text;
+use grs_latch::LatchCall;
 use grs_report::{all_ended, report};
 use grs_wire::{Deck, Event, Seen};
 use grs_workers::{Gate, run_workers};
 use grs_world::laws::{passed_is_told, removed_tell_nothing, rests_in_the_end, runs_are_sound};
+use latch_form::read_calls;
+use latch_text::latch_text;
 use std::alloc::Global;
 use std::sync::Wait;
 use std::thread::Threads;
@@ -160,6 +164,18 @@ fn refused(alloc: Global, error: ReadError) -> Result<Due, NoMemory>
     }
 }
 
+/// What calls of latches are answered, and what they leave.
+fn called(alloc: Global, calls: &[LatchCall]) -> Result<Due, NoMemory>
+    requires { AllCome calls.now [] }
+    ensures { IfOk result (λ due. AreCalled calls.now due.out due.status) }
+{
+    let out = latch_text(alloc, calls)?;
+    Ok(Due {
+        out,
+        status: Status::Done,
+    })
+}
+
 /// The name lists of a deck.
 fn listed(alloc: Global, deck: &Deck) -> Result<Due, NoMemory>
     ensures { IfOk result (λ due. IsListed deck.now due.out due.status) }
@@ -234,6 +250,16 @@ pub(crate) fn due_by_notices(alloc: Global, text: &[u8]) -> Result<Due, NoMemory
             let (bare, events) = set_apart(alloc, deck);
             noticed(alloc, &bare, events)
         }
+        Err(error) => refused(alloc, error),
+    }
+}
+
+/// What a text is answered by under `latch`.
+pub(crate) fn due_by_latch(alloc: Global, text: &[u8]) -> Result<Due, NoMemory>
+    ensures { IfOk result (λ due. IsDue Command.Latch text.now due.out due.status) }
+{
+    match read_calls(alloc, text) {
+        Ok(calls) => called(alloc, calls.as_slice()),
         Err(error) => refused(alloc, error),
     }
 }

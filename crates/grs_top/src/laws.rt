@@ -15,13 +15,15 @@ use grs_deck::one_deck;
 use grs_gen::laws::are_decks;
 use grs_report::printed_events;
 use grs_world::laws::runs_are_sound;
+use latch_form::one_list_of_calls;
 
-/// A source whose bytes spell a deck is answered by the whole text of the command, unless a read or write
+/// A source whose bytes spell what the command reads is answered by the whole text of the command, unless a read or write
 /// fails or memory is wanted.
 pub fn whole_unless_memory()
     ensures { WholeUnlessMemory }
 {
     one_deck();
+    one_list_of_calls();
 }
 
 /// A source whose bytes have a fault is answered by the line of the first one, unless a read or write fails or memory is wanted.
@@ -29,6 +31,7 @@ pub fn refused_unless_memory()
     ensures { RefusedUnlessMemory }
 {
     one_deck();
+    one_list_of_calls();
 }
 
 /// Where no read and no write fails, neither status of a failed call comes: so never over `SureSource` and `SureSink`.

@@ -18,6 +18,8 @@ pub enum Command {
     Analyze,
     /// Runs the schedule of a deck and tells what is noticed of contention along its history.
     Notices,
+    /// Carries out calls of latches.
+    Latch,
 }
 
 /// What the words after the program's name ask for.
@@ -43,6 +45,8 @@ fn command_named(word: &[u8]) -> Option<Command>
         Some(Command::Analyze)
     } else if word == b"notices".as_slice() {
         Some(Command::Notices)
+    } else if word == b"latch".as_slice() {
+        Some(Command::Latch)
     } else {
         None
     }

@@ -71,6 +71,20 @@ returns-in-Some-OfText-Notices-clause-unread g c = rw (← c.in-Some-OfText-Noti
 pub returns-in-Some-OfText-Notices-clause-unwritten : goal.returns-in-Some-OfText-Notices-clause-unwritten
 returns-in-Some-OfText-Notices-clause-unwritten g c = rw (← c.in-Some-OfText-Notices.ensures) tt
 
+pub returns-in-Some-OfText-Latch-clause-form : goal.returns-in-Some-OfText-Latch-clause-form
+returns-in-Some-OfText-Latch-clause-form g c =
+    rw (← c.in-Some-OfText-Latch.ensures, c.in-Some-OfText-Latch.field-0-is, c.in-Some-OfText-Latch.field-0-0-is)
+    (c.latch_command.ensures.answer, c.latch_command.ensures.named)
+
+pub returns-in-Some-OfText-Latch-clause-words : goal.returns-in-Some-OfText-Latch-clause-words
+returns-in-Some-OfText-Latch-clause-words g c = rw (← c.in-Some-OfText-Latch.ensures) tt
+
+pub returns-in-Some-OfText-Latch-clause-unread : goal.returns-in-Some-OfText-Latch-clause-unread
+returns-in-Some-OfText-Latch-clause-unread g c = rw (← c.in-Some-OfText-Latch.ensures) tt
+
+pub returns-in-Some-OfText-Latch-clause-unwritten : goal.returns-in-Some-OfText-Latch-clause-unwritten
+returns-in-Some-OfText-Latch-clause-unwritten g c = rw (← c.in-Some-OfText-Latch.ensures) tt
+
 pub returns-in-None-clause-form : goal.returns-in-None-clause-form
 returns-in-None-clause-form g c = rw (← c.in-None.ensures) tt
 
