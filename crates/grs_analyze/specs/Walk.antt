@@ -1,7 +1,6 @@
 -- The walk along the tasks that depend on one another, and the cycle that is reported.
 use Rattle.std.specs.Prelude.{◌≡◌, ◌⊎◌, ◌==◌, ℕ, zero, suc, Bool, true, false, ◌&&◌, ◌||◌, nat_lt, List, [], ◌∷◌, ◌++◌}
-use Rattle.std.specs.Prelude.{length}
-use Rattle.std.specs.Prelude.{filter, Option, Some, None, if◌then◌else◌}
+use Rattle.std.specs.Prelude.{length, filter, Option, Some, None, if◌then◌else◌}
 use Rattle.grs_base.specs.Same.{same_task}
 use Rattle.grs_base.specs.declared.resource.Row.{Row}
 use Rattle.grs_base.specs.declared.resource.TaskId.{TaskId}
@@ -63,3 +62,7 @@ is_cycle rows (t ∷ ts) = leads_to rows t ts t
 pub record CyclesAreReported (rows : List Row) : Type 0 where
   pub some : (reported_cycle rows ≡ []) ⊎ (is_cycle rows (reported_cycle rows) ≡ true)
   pub none : reported_cycle rows ≡ [] → (ts : List TaskId) → is_cycle rows ts ≡ false
+
+-- So it is of all lists.
+abbrev pub AllCyclesAreReported : Type 0
+AllCyclesAreReported = (rows : List Row) → CyclesAreReported rows

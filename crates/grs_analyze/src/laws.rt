@@ -3,10 +3,17 @@ ghost use Rattle.grs_analyze.specs.Deadlocks.{DeadlocksStay};
 ghost use Rattle.grs_analyze.specs.Depends.{ListsAreApart};
 ghost use Rattle.grs_analyze.specs.Greatest.{GreatestIsGreatest};
 ghost use Rattle.grs_analyze.specs.Waits.{EachWaiterIsTold};
+ghost use Rattle.grs_analyze.specs.Walk.{AllCyclesAreReported};
 
 /// The tasks that are left in the end each depend on one of them, and hold every set of tasks of which that is true.
 pub fn greatest_is_greatest()
     ensures { GreatestIsGreatest }
+{}
+
+/// Each task of a reported cycle depends on the next, and the last on the first; and none is reported only
+/// where no tasks are a cycle.
+pub fn cycles_are_reported()
+    ensures { AllCyclesAreReported }
 {}
 
 /// Each element that waits is told, in order and once.
