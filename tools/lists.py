@@ -54,6 +54,28 @@ def resolve(deck, system, task, line):
     return whole if is_whole else own, False
 
 
+# Who waits for whom
+
+def keeping_away(queue, place):
+    """The tasks in front of an element that keep it away, since one of both at least is exclusive: those on whom its task depends."""
+    return [task for task, control in queue[:place] if "E" in (control, queue[place][1])]
+
+
+def cycle(behind):
+    """A cycle among tasks, of each of which it is told on whom it depends, by the walk of `analyze`: along the greatest set of tasks each
+    of which depends on one of the set, from its least task on, each time to the least one; or none."""
+    while True:
+        left = {task: on for task, others in behind.items() if (on := [it for it in others if it in behind])}
+        if len(left) == len(behind):
+            break
+        behind = left
+    path, task = [], min(left, default=None)
+    while task is not None and task not in path:
+        path.append(task)
+        task = min(left[task])
+    return path[path.index(task):] if path else []
+
+
 # The lists of resources
 
 class Lists:
@@ -76,6 +98,10 @@ class Lists:
     def front_of(self, resource, task):
         """Who stands in front of a task's element."""
         return list(itertools.takewhile(lambda it: it[0] != task, self.list(resource)))
+
+    def keeping_away(self, resource, task):
+        """Who keeps a task from a resource for which it waits."""
+        return keeping_away(self.list(resource), len(self.front_of(resource, task)))
 
     def enq(self, resource, task, control, ret, full):
         queue, owners = self.list(resource), self.owners(resource)

@@ -4,7 +4,7 @@
     ./grs-picture --help
 
 The report is read from the file, else from standard input. With the deck beside it nothing in the picture is a guess. A TEXT is what
-./grs analyze or ./grs notices wrote of the same run: the cycle is shown that the one tells, in place of one that is found here, and
+./grs analyze or ./grs notices wrote of the same run: the cycle is shown that the one tells, in place of a deadlock that is found here, and
 the notices of the other stand as marks under the list of each resource.
 
 The page stands alone: what it shows is in it, and it asks no network. Its first view has a lane for each task, with the events
@@ -30,7 +30,8 @@ A report tells in which event a task was told something, and in which order requ
 A command that is never carried out is in no report. So if one keeps a system from resting, the message's place isn't exact. Nor does
 a report say which system manages the names of a request that wasn't answered at once. So in a star with several managers the event in
 which a request has its place is in part a guess, and with it up to where the request is on its way, and from where on it waits.
-The page says so. With --deck all of this is taken from a model of the run (tools/runs.py), where that comes to the same report;
+The page says so. Nor does it say for which of several ECB requests a task stands at a WAIT line; such a task is shown in no deadlock.
+With --deck all of this is taken from a model of the run (tools/runs.py), where that comes to the same report;
 it tells too which lock entries a system manages, and what was on its way in the end.
 
 Exit status: 0, the page was written; 8, there is no report, or it isn't one of this deck or of this TEXT; 12, other words; 16, a read failed;
@@ -50,6 +51,7 @@ sys.path.insert(0, str(HERE))
 import decks
 import runs
 import streams
+from lists import cycle, keeping_away
 
 # how many requests a TURN takes along at most
 TURN_TAKES = 32
@@ -425,14 +427,14 @@ def scheduled(text, report):
 
 
 def by_deck(run, text, report):
-    """What `follow` finds, by a model of the deck's run, which has to come to the report."""
+    """What `follow` finds, and a deadlock, by a model of the deck's run, which has to come to the report."""
     try:
         model, found = modelled(run, scheduled(text, report))
     except Exception:  # whatever a text leads to that is no deck, or another one
         model = None
     if not model or runs.report(model) != report:
         raise NoReport("this is no report of that deck, or the deck has a mistake, which ./grs replay tells")
-    return found
+    return (*found, [model.task_name(it) for it in runs.deadlock(model)])
 
 
 def modelled(run, deck):
@@ -582,30 +584,30 @@ def lists(run):
     return [{"name": name, "spells": spells[name]} for name in sorted(spells) if spells[name]]
 
 
-def cycle(run):
-    """Tasks of which each waits behind the next one, and the last behind the first; or none."""
-    waits = {it["name"] for it in run["tasks"] if it["end"] == "WAITS"}
-    behind = {}
+def deadlock(run, tasks):
+    """Tasks each of which is held for a resource from which the next one keeps it away, and the last the first; or none."""
+    queues, behind, names = {}, {}, [it["name"] for it in run["tasks"]]
     for line in run["queues"]:
-        elements = QUEUE.fullmatch(line)["elements"].split(" ")
-        names = [element.rstrip("*")[:-2] for element in elements]
-        for place, (name, element) in enumerate(zip(names, elements)):
-            if not element.endswith("*") and name in waits:
-                behind[name] = names[:place]
-    for first in behind:
-        path, seen = [first], {first}
-        rest = [iter(behind[first])]
-        while path:
-            task = next(rest[-1], None)
-            if task == first:
-                return path
-            if task is None:
-                path.pop(), rest.pop()
-            elif task in behind and task not in seen:
-                seen.add(task)
-                path.append(task)
-                rest.append(iter(behind[task]))
-    return []
+        found = QUEUE.fullmatch(line)
+        queues[found["name"]] = [it.rstrip("*").rsplit(":", 1) for it in found["elements"].split(" ")]
+    for number, task in enumerate(tasks):
+        queue = queues.get(held_for(task, queues), [])
+        place = next((place for place, it in enumerate(queue) if it[0] == task.name), None)
+        if place is not None:
+            behind[number] = [names.index(it) for it in keeping_away(queue, place)]
+    return [names[it] for it in cycle(behind)]
+
+
+def held_for(task, queues):
+    """The resource for which a task is held: that of the ENQ of which it wasn't told, or else of the one ECB request that wasn't posted. Of
+    several it isn't in a report for which of them the task stands at a WAIT line."""
+    if task.end != "WAITS":
+        return None
+    steps = [step for step in [*task.asked_steps, *task.steps] if step.entries and resource(step.entries[0])]
+    asked = {resource(step.entries[0]) for step in steps if step.told is None}
+    posted = {resource(step.entries[0]) for step in steps if step.entries[0]["answer"] == "04" and step.entries[0]["ret"] == "ECB" and step.post is None}
+    found = asked or {it for it in posted if any(name == task.name for name, _ in queues.get(it, []))}
+    return found.pop() if len(found) == 1 else None
 
 
 def beside(run, texts):
@@ -655,14 +657,18 @@ def commanded(run, what, event):
 def picture(report, deck=None, texts=()):
     """What the page shows of a report; by its deck and by texts beside it, where these are given too."""
     run = read(report)
-    tasks, stays, managers = follow(run) if deck is None else by_deck(run, deck, report)
+    tasks, stays, managers, *known = follow(run) if deck is None else by_deck(run, deck, report)
     queues, last, (told, notices) = lists(run), len(run["events"]), beside(run, texts)
+    if told is None:
+        circle, circled = known[0] if known else deadlock(run, tasks), "in a deadlock"
+    else:
+        circle, circled = told, "in the cycle of the analysis"
     for it in queues:
         it["notices"] = [notice for notice in notices if notice[2] == it["name"]]
     return {
         "events": run["events"], "mode": run["mode"], "end": run["end"], "words": run["words"], "units": run["units"],
         "history": len(run["history"]), "fixed": [entry["at"] for entry in run["history"]],
-        "systems": run["systems"], "message": stays, "managers": managers, "cycle": cycle(run) if told is None else told, "analyzed": told is not None, "guess": [] if deck is not None else guesses(run),
+        "systems": run["systems"], "message": stays, "managers": managers, "cycle": circle, "circled": circled, "analyzed": told is not None, "guess": [] if deck is not None else guesses(run),
         "desk": [{"system": system, "what": commanded(run, what, event), "event": event} for system, what, event in run["desk"]],
         "lanes": [{"task": task.name, "system": task.system, "ended": task.ended, "code": task.code, "end": task.end, "removed": task.removed,
                    "bars": bars(task, last)} for task in tasks],

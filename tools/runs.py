@@ -4,7 +4,7 @@ The model was written from docs/SERVICE.md and docs/TABLES.md. It isn't proved a
 first compares its report with the program's. Each event answers why it had nothing to do, or None where it did something.
 """
 import decks
-from lists import Lists, Wanted, by_kind, by_name, is_shared, resolve
+from lists import Lists, Wanted, by_kind, by_name, cycle, is_shared, resolve
 
 # how many requests a TURN takes along at most
 TURN_TAKES = 32
@@ -804,3 +804,13 @@ class Says:
         if state.phase == ENDING:
             return "it ends with %s, and was given no further event: %s" % (state.code, event)
         return self.held(task)
+
+
+# A deadlock
+
+def deadlock(run):
+    """Tasks each of which is held for a resource from which the next one keeps it away, and the last the first; or none. Those of
+    removed systems don't count."""
+    return cycle({(number, place): run.lists.keeping_away(run.says.waits_for(state), (number, place))
+                  for number in run.medium.live() for place, state in enumerate(run.nodes[number].tasks)
+                  if state.phase in (HELD_ANSWER, HELD_LINE)})
