@@ -1,10 +1,13 @@
-"""What the scripts share that time complexes of eight systems with 64 tasks each: how long their runs are, and for which
-resources the tasks ask.
+"""What the scripts share that time complexes of eight systems with 64 tasks each: how long their runs are, for which
+resources the tasks ask, and how requests come round a ring.
 """
 SYSTEMS = "ABCDEFGH"
 TASKS = 64
 # the numbers of events
 SIZES = 1000, 10000, 100000
+LAP = [system + " TURN" for system in SYSTEMS]
+# so many requests of a system are put in at a turn
+ADDITIONS = 32
 
 
 # The rname for which a task asks in its pair of lines of this number.
@@ -45,3 +48,30 @@ def pairs_of(name, pairs, control="S"):
             yield "ENQ (Q,%s,%s,SYSTEMS)" % (rname, control)
             yield "DEQ (Q,%s,SYSTEMS)" % rname
     return lines
+
+
+def goes_on(system, task):
+    return "%s TASK J%d.T" % (system, task)
+
+
+def of_all(chosen):
+    """The tasks that are chosen, system by system."""
+    return [(system, task) for system in SYSTEMS for task in range(TASKS) if chosen(system, task)]
+
+
+def laps(tasks):
+    """The events by which one request of each of these tasks is put into the message of a ring and answered."""
+    most = max([0, *(sum(it[0] == system for it in tasks) for system in SYSTEMS)])
+    return [goes_on(*it) for it in tasks] + LAP * (-(-most // ADDITIONS) + 1)
+
+
+def ring(name, events, control="S"):
+    """A ring's events, so many: in a round each system has a turn and one task goes on, each of which has lines for about as many
+    events as it gets."""
+    rounds = events // (len(SYSTEMS) + 1)
+    lines = pairs_of(name, max(1, rounds // (2 * len(SYSTEMS) * TASKS)), control)
+    text = [line for system in SYSTEMS for line in statements(system, lines)] + ["SCHEDULE"]
+    for number in range(rounds):
+        turn, system = divmod(number, len(SYSTEMS))
+        text += [*LAP, goes_on(SYSTEMS[system], turn % TASKS)]
+    return text

@@ -7,8 +7,8 @@ Where an unproved program of the same tables is named, it runs each deck by turn
 same, and the table has ratios: how many times as long the first takes, and how many times as much memory.
 
 A time is that of the processor, the best of five runs; a peak of memory is that of a run of its own. `x` says how
-many times as long a deck takes as the one before it in its family, by each program. Under `run` each program makes events
-of its own, so what is written isn't compared, and the time is that of all processors; no memory is told.
+many times as long a deck takes as the one before it in its family, by each program. What is read is a deck, or under `latch` calls
+of latches. Under `run` each program makes events of its own, so what is written isn't compared, and the time is that of all processors; no memory is told.
 """
 import contextlib
 import math
@@ -64,11 +64,11 @@ def full_pipe():
     return out, full
 
 
-def peak(program, deck):
+def peak(program, deck, word):
     """The peak of memory of a run on a deck, in MB: it is read where the program waits to write its text."""
     out, full = full_pipe()
     said = {"State": ""}
-    with started(program, deck, full) as child:
+    with started(program, deck, full, word) as child:
         os.close(full)
         while said["State"][:1] not in ("S", "Z"):
             with open("/proc/%d/status" % child.pid) as status:
@@ -81,7 +81,7 @@ def peak(program, deck):
 
 def times(deck, word):
     """The least time of each program on a deck."""
-    if len({written(program, deck, word) for program in PROGRAMS}) > 1 and word == "replay":
+    if len({written(program, deck, word) for program in PROGRAMS}) > 1 and word != "run":
         sys.exit("the programs don't write the same")
     best = [math.inf] * len(PROGRAMS)
     for _ in range(ROUNDS):
@@ -107,7 +107,7 @@ def print_table(families, word="replay"):
         before = None
         for name, deck in decks:
             taken = times(deck, word)
-            peaks = [peak(program, deck) if word == "replay" else math.nan for program in PROGRAMS]
+            peaks = [peak(program, deck, word) if word != "run" else math.nan for program in PROGRAMS]
             grown = ["%.2f" % (now / then) for now, then in zip(taken, before)] if before else [""] * len(taken)
             cells = [columns % ("%.1f" % (time * 1000), growth, "%.1f" % memory) for time, growth, memory in zip(taken, grown, peaks)]
             if compared:
