@@ -599,14 +599,14 @@ def deadlock(run, tasks):
 
 
 def held_for(task, queues):
-    """The resource for which a task is held: that of the ENQ of which it wasn't told, or else of the one ECB request that wasn't posted. Of
-    several it isn't in a report for which of them the task stands at a WAIT line."""
-    if task.end != "WAITS":
+    """The resource for which a task is held: that of the ENQ that was answered WAIT and of which it wasn't told, or else, where it waits, of
+    the one ECB request that wasn't posted. Of several it isn't in a report for which of them the task stands at a WAIT line."""
+    if task.end not in ("WAITS", "OPEN"):
         return None
     steps = [step for step in [*task.asked_steps, *task.steps] if step.entries and resource(step.entries[0])]
-    asked = {resource(step.entries[0]) for step in steps if step.told is None}
+    asked = {resource(step.entries[0]) for step in steps if step.told is None and step.entries[0]["answer"] == "WAIT"}
     posted = {resource(step.entries[0]) for step in steps if step.entries[0]["answer"] == "04" and step.entries[0]["ret"] == "ECB" and step.post is None}
-    found = asked or {it for it in posted if any(name == task.name for name, _ in queues.get(it, []))}
+    found = asked or {it for it in posted if task.end == "WAITS" and any(name == task.name for name, _ in queues.get(it, []))}
     return found.pop() if len(found) == 1 else None
 
 

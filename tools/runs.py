@@ -809,8 +809,16 @@ class Says:
 # A deadlock
 
 def deadlock(run):
-    """Tasks each of which is held for a resource from which the next one keeps it away, and the last the first; or none. Those of
-    removed systems don't count."""
-    return cycle({(number, place): run.lists.keeping_away(run.says.waits_for(state), (number, place))
-                  for number in run.medium.live() for place, state in enumerate(run.nodes[number].tasks)
-                  if state.phase in (HELD_ANSWER, HELD_LINE)})
+    """Tasks each of which is held for a resource from which the next one keeps it away, and the last the first; or none. A task is held
+    where its last request was answered WAIT, be that home yet or not, or where it stands at a WAIT line. Those of removed
+    systems don't count."""
+    last = {asked.task: (asked.resource, answer) for _, asked, _, answer in run.history if asked.verb in ("ENQ", "DEQ", "RELEASE", "LOOK")}
+    behind = {}
+    for number in run.medium.live():
+        for place, state in enumerate(run.nodes[number].tasks):
+            resource, answer = last.get((number, place), (None, None))
+            if state.phase == HELD_LINE:
+                resource, answer = state.waits_for, "WAIT"
+            if answer == "WAIT":
+                behind[number, place] = run.lists.keeping_away(resource, (number, place))
+    return cycle(behind)
