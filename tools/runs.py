@@ -800,7 +800,7 @@ class Says:
             return "it has %d %s left, and %s: %s" % (left, "lines" if left > 1 else "line",
                                                        "was given no further event" if state.line else "was given no event", event)
         if state.phase == READY:
-            return "it has no line left, and ends with its next event: %s" % event
+            return "it has no line left; it gives up what it has, and ends: %s" % event
         if state.phase == ENDING:
             return "it ends with %s, and was given no further event: %s" % (state.code, event)
         return self.held(task)
