@@ -9,8 +9,6 @@ mod commands;
 #[cfg(test)]
 mod copies;
 #[cfg(test)]
-mod latches;
-#[cfg(test)]
 mod lists;
 #[cfg(test)]
 mod looks;
@@ -22,5 +20,3 @@ mod medium;
 mod merging;
 #[cfg(test)]
 mod readers;
-#[cfg(test)]
-mod tracks;
