@@ -11,4 +11,5 @@ mod read;
 
 pub use grs_wire::{Choice, Deck, Desk, Event, JobDef, Name, Order, SystemDef, TaskDef};
 pub use laws::{event_lines, one_deck};
+pub use places::{system_at, task_in};
 pub use read::read_deck;

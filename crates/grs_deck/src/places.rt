@@ -91,8 +91,8 @@ pub fn task_count(jobs: &[JobDef]) -> usize
     count
 }
 
-/// The system of this name, and its number.
-fn system_at<'a>(systems: &'a [SystemDef], name: &[u8]) -> Option<(SysId, &'a SystemDef)>
+/// The system of this name, and its number, if there is one: the first where several have it.
+pub fn system_at<'a>(systems: &'a [SystemDef], name: &[u8]) -> Option<(SysId, &'a SystemDef)>
     requires { Fits systems.now }
     ensures at { seen (λ x. (x.0, x.1.now)) result ≡ system_at systems.now name.now }
     ensures within { IfSome result (λ x. IsWithin x.1.now) }
@@ -102,8 +102,8 @@ fn system_at<'a>(systems: &'a [SystemDef], name: &[u8]) -> Option<(SysId, &'a Sy
     Some((SysId(place as u8), found))
 }
 
-/// The task of these names in a system.
-fn task_in(id: SysId, found: &SystemDef, job: &[u8], task: &[u8]) -> Option<TaskId>
+/// The task of a job's name and its own among the tasks of a system, which has this number.
+pub fn task_in(id: SysId, found: &SystemDef, job: &[u8], task: &[u8]) -> Option<TaskId>
     requires { IsWithin found.now }
     ensures { result ≡ task_in id found.now job.now task.now }
 {

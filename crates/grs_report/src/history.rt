@@ -181,9 +181,10 @@ fn put_removal(
     out.push(b'\n')
 }
 
-/// Puts the entry of a number behind a text.
+/// Puts the entry of a number behind a text: its line, and behind that the lines of the rows that a look showed. Where
+/// memory is wanting a part of that may stand there.
 #[tactic(auto, unfolding(crate::specs::History::history_line))]
-fn put_entry(
+pub fn put_entry(
     alloc: Global,
     names: &Names,
     number: u64,

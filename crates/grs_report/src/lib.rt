@@ -14,5 +14,6 @@ mod told_line;
 mod whole;
 
 pub use ends::all_ended;
+pub use history::put_entry;
 pub use laws::printed_events;
 pub use whole::report;
