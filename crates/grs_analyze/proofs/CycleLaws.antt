@@ -238,3 +238,19 @@ cycle_none rows e ts = by (begun rows)
 
 pub cycles_are_reported : (rows : List Row) → CyclesAreReported rows
 cycles_are_reported rows = record { some = cycle_some rows; none = cycle_none rows }
+
+-- where none is reported, no tasks but none at all each depend on one of them
+none-left : (ts : List TaskId) → list_all (is_among []) ts ≡ true → ts ≡ []
+none-left [] h = refl
+none-left (t ∷ ts) h = cc
+
+pub supported-told : (rows : List Row) (ts : List TaskId) → is_supported rows ts ≡ true → reported_cycle rows ≡ []
+    → ts ≡ []
+supported-told rows ts s none = by (begun rows)
+  where
+    by : (greatest rows ≡ []) ⊎ (is_cycle rows (reported_cycle rows) ≡ true) → ts ≡ []
+    by (inl e) =
+        none-left ts (ap (λ (us : List TaskId). list_all (is_among us) ts) (sym e) ∙ greatest_holds rows ts s)
+    by (inr c) =
+        let no : false ≡ true = ap (is_cycle rows) (sym none) ∙ c in
+        cc

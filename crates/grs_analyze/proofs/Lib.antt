@@ -9,4 +9,5 @@ pub mod WaitLemmas
 pub mod RowLaws
 pub mod MarkLemmas
 pub mod DeadlockLaws
+pub mod FoundLaws
 pub mod DeadlockSamples

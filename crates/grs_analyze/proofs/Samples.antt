@@ -69,6 +69,21 @@ who_is_blocked : flat_map blocked_in crossed
     ≡ record { res = res 88; task = task 1; by = task 0 } ∷ record { res = res 89; task = task 0; by = task 1 } ∷ []
 who_is_blocked = refl
 
+-- the walk begins at the least of them, in whichever order the lists stand
+abbrev turned : List Row
+turned = row 88 1 (e_of 1 ∷ e_of 0 ∷ []) ∷ row 89 1 (e_of 0 ∷ e_of 1 ∷ []) ∷ []
+
+greater_is_met_first : greatest turned ≡ task 1 ∷ task 0 ∷ []
+greater_is_met_first = refl
+
+least_still_stands_first : reported_cycle turned ≡ task 0 ∷ task 1 ∷ []
+least_still_stands_first = refl
+
+-- of several that keep a task away the first is told
+first_of_two_is_told : blocked_in (row 88 1 (e_of 2 ∷ e_of 1 ∷ e_of 0 ∷ []))
+    ≡ record { res = res 88; task = task 1; by = task 2 } ∷ record { res = res 88; task = task 0; by = task 2 } ∷ []
+first_of_two_is_told = refl
+
 -- one task waits for the other alone
 abbrev straight : List Row
 straight = row 88 1 (e_of 0 ∷ e_of 1 ∷ []) ∷ []

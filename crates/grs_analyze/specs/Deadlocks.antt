@@ -1,7 +1,8 @@
 -- Tasks that wait for one another, and none of which goes on.
 use Rattle.std.specs.Prelude.{◌≡◌, ◌⊎◌, Bool, true, false, List, [], ◌++◌, IsSomeAnd}
-use Rattle.std.specs.List.{list_any}
+use Rattle.std.specs.List.{list_any, list_all}
 use Rattle.grs_base.specs.Same.{same_res}
+use Rattle.grs_base.specs.Rows.{rows_of}
 use Rattle.grs_base.specs.State.{list_of}
 use Rattle.grs_base.specs.declared.decision.Code.TheVariants.{Wait}
 use Rattle.grs_base.specs.declared.resource.Res.{Res}
@@ -15,7 +16,8 @@ use Rattle.grs_legal.specs.Legal.{entries_of, last_entry, passed_lines, LegalFro
 use Rattle.grs_legal.specs.declared.meaning.Meaning.{Meaning}
 use Rattle.grs_legal.specs.declared.meaning.Meaning.TheVariants as lines
 use Rattle.grs_analyze.specs.Depends.{waits_for}
-use Rattle.grs_analyze.specs.Greatest.{is_among}
+use Rattle.grs_analyze.specs.Greatest.{is_among, greatest}
+use Rattle.grs_analyze.specs.Walk.{reported_cycle}
 
 -- An entry asked for this resource, and was answered WAIT.
 abbrev pub WasLeftWaiting : Res → HistEntry → Type 0
@@ -55,3 +57,14 @@ DeadlocksStay =
     (deck : Deck) (hist hs : List HistEntry) (ts : List TaskId) → IsDeadlock deck hist ts → LegalFrom deck hist hs
     → removes_some ts hs ≡ false
     → IsDeadlock deck (hist ++ hs) ts × ((t : TaskId) → is_among ts t ≡ true → entries_of t hs ≡ [])
+
+-- An analysis of the lists that a history leaves has these tasks in its greatest set, and where it reports no cycle, there
+-- are none.
+pub record AreFound (deck : Deck) (hist : List HistEntry) (ts : List TaskId) : Type 0 where
+  pub found : list_all (is_among (greatest (rows_of (replay deck.limit hist)))) ts ≡ true
+  pub told : reported_cycle (rows_of (replay deck.limit hist)) ≡ [] → ts ≡ []
+
+-- So it is of each deadlock.
+abbrev pub DeadlocksAreFound : Type 0
+DeadlocksAreFound =
+    (deck : Deck) (hist : List HistEntry) (ts : List TaskId) → IsDeadlock deck hist ts → AreFound deck hist ts

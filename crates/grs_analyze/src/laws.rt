@@ -1,5 +1,5 @@
 //! Laws of analyses: each function's contract is one, and there is nothing to run.
-ghost use Rattle.grs_analyze.specs.Deadlocks.{DeadlocksStay};
+ghost use Rattle.grs_analyze.specs.Deadlocks.{DeadlocksStay, DeadlocksAreFound};
 ghost use Rattle.grs_analyze.specs.Depends.{ListsAreApart};
 ghost use Rattle.grs_analyze.specs.Greatest.{GreatestIsGreatest};
 ghost use Rattle.grs_analyze.specs.Waits.{EachWaiterIsTold};
@@ -30,4 +30,10 @@ pub fn lists_are_apart()
 /// anything, whatever comes, unless the system of one is removed.
 pub fn deadlocks_stay()
     ensures { DeadlocksStay }
+{}
+
+/// Tasks each of which is held for a resource for which it waits behind one of them are all among those that an analysis of
+/// the lists leaves in the end, so it reports a cycle: none is reported only where there are no such tasks.
+pub fn deadlocks_are_found()
+    ensures { DeadlocksAreFound }
 {}
