@@ -57,6 +57,19 @@ removed =
 ended_by_a_removal : notices 4096 removed ≡ told 2 Begin shared 1 1 ∷ told 3 Ends shared 1 0 ∷ []
 ended_by_a_removal = refl
 
+-- a removal that ends waits for two resources: they are told as resources are shown, whichever was asked for first
+abbrev behind : Res
+behind = Systems (65 ∷ []) (67 ∷ [])
+
+abbrev removed_from_two : List HistEntry
+removed_from_two =
+    Enq (task 0 0) behind E RetNone C00 ∷ Enq (task 0 0) shared E RetNone C00 ∷ Enq (task 1 0) behind E RetNone Wait
+    ∷ Enq (task 1 1) shared S RetNone Wait ∷ Remove (record { 0 = 1 }) (record { 0 = 0 }) ∷ []
+
+told_as_they_are_shown : notices 4096 removed_from_two
+    ≡ told 3 Begin behind 1 1 ∷ told 4 Begin shared 1 1 ∷ told 5 Ends shared 1 0 ∷ told 5 Ends behind 1 0 ∷ []
+told_as_they_are_shown = refl
+
 -- who waits already and asks again changes nothing, and nobody is told
 nothing_is_told : notices 4096 (Enq (task 0 0) local E RetNone C00 ∷ Enq (task 0 1) local E RetHave Wait
     ∷ Enq (task 0 1) local E RetHave C14 ∷ [])

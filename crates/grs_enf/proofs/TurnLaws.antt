@@ -2,7 +2,7 @@
 use Rattle.std.proofs.Common.{◌≡◌, ℕ, suc, Bool, true, false, cond, T, List, [], ◌∷◌, ◌++◌, map, Option, Some, None}
 use Rattle.std.proofs.Common.{refl, ap, sym, ◌∙◌, arith, append-nil, length, ◌-◌}
 use Rattle.std.specs.Prelude.{filter, if◌then◌else◌}
-use Rattle.std.specs.List.{flat_map}
+use Rattle.std.specs.List.{flat_map, list_any}
 use Rattle.std.specs.declared.cmp.Ordering.{Ordering}
 use Rattle.std.specs.Ordering.{eq_by_cmp}
 use Rattle.std.specs.Cmp.{IsTotalOrder}
@@ -32,7 +32,7 @@ use Rattle.grs_enf.specs.declared.notice.What.TheVariants.{Begin, Change, End as
 use Rattle.grs_enf.specs.Same.{same_ctl, same_elems}
 use Rattle.grs_enf.specs.Notices.{is_contended, what_of, whats, notices_at, resources_of, notices_among, noted, notices_by}
 use Rattle.grs_enf.specs.Notices.{notices}
-use Rattle.grs_enf.specs.Laws.{whats_of, leads, NoticesAlternate}
+use Rattle.grs_enf.specs.Laws.{whats_of, leads, NoticesAlternate, OthersStay}
 
 -- two stretches of notices, one behind the other
 leads-append : (a b c : Bool) (xs ys : List What) → leads a xs b ≡ true → leads b ys c ≡ true → leads a (xs ++ ys) c ≡ true
@@ -308,6 +308,39 @@ module _ (limit : ℕ) (s : State) (by target : SysId) (r : Res) where
           leads-never s after r (filter is_systems (keys (lists_of s)))
           (there (x ∷ xs) e ∙ ap (λ (b : Bool). cond b (r ∷ []) []) k)
           (keeps_other_lists limit s (Remove by target) r k)
+
+-- ---- no other list changes
+none-filtered : (p : Res → Bool) (rs : List Res) → list_any p rs ≡ false → filter p rs ≡ []
+none-filtered p [] none = refl
+none-filtered p (r ∷ rs) none = grind (arith, none, none-filtered p rs)
+
+others-removal : (limit : ℕ) (s : State) (by target : SysId) (r : Res)
+    → filter (same_res r) (filter is_systems (keys (lists_of s))) ≡ []
+    → list_of (step limit s (Remove by target)) r ≡ list_of s r
+others-removal limit s by target r never = by_list (list_of s r) (is_systems r) refl refl
+  where
+    by_list : (es : List Elem) (b : Bool) → list_of s r ≡ es → is_systems r ≡ b
+        → list_of (step limit s (Remove by target)) r ≡ list_of s r
+    by_list es false e k = keeps_other_lists limit s (Remove by target) r k
+    by_list [] true e k =
+        steps_by_lists limit s (Remove by target) r k
+        ∙ ap (λ (xs : List Elem). list_stepped (is_full limit s) xs (Remove by target)) e ∙ sym e
+    by_list (x ∷ xs) true e k =
+        let there : filter (same_res r) (filter is_systems (keys (lists_of s))) ≡ filter is_systems (r ∷ []) =
+        filter-swap (same_res r) is_systems (keys (lists_of s))
+        ∙ ap (filter is_systems) (resource-once s r ∙ ap (λ (ys : List Elem). keys (single r ys)) e) in
+        let once : [] ≡ r ∷ [] = sym never ∙ there ∙ ap (λ (b : Bool). cond b (r ∷ []) []) k in
+        cc
+
+pub others_stay : OthersStay
+others_stay limit s (Enq t q c ret code) r none =
+    keeps_other_lists limit s (Enq t q c ret code) r (grind (arith, none))
+others_stay limit s (Deq t q have code) r none = keeps_other_lists limit s (Deq t q have code) r (grind (arith, none))
+others_stay limit s (Release t q) r none = keeps_other_lists limit s (Release t q) r (grind (arith, none))
+others_stay limit s (Look t place f rows) r none = refl
+others_stay limit s (Remove by target) r none =
+    others-removal limit s by target r
+    (none-filtered (same_res r) (filter is_systems (map (λ e. e.0) (lists_of s))) none)
 
 -- a request for one resource
 leads-request : (limit : ℕ) (s : State) (h : HistEntry) (q r : Res) → (same_res r q ≡ false → may_change h r ≡ false)

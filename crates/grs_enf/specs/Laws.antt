@@ -1,20 +1,27 @@
 -- Laws of notices.
 use Rattle.std.specs.Prelude.{◌≡◌, ℕ, Bool, true, false, not, List, [], ◌∷◌}
+use Rattle.std.specs.List.{list_any}
 use Rattle.grs_base.specs.Same.{same_res}
-use Rattle.grs_base.specs.State.{list_of, pick}
+use Rattle.grs_base.specs.State.{State, list_of, pick}
 use Rattle.grs_base.specs.declared.resource.Res.{Res}
-use Rattle.grs_wire.specs.History.{replay}
+use Rattle.grs_wire.specs.History.{step, replay}
 use Rattle.grs_wire.specs.declared.deck.Deck.{Deck}
 use Rattle.grs_wire.specs.declared.history.HistEntry.{HistEntry}
 use Rattle.grs_legal.specs.Legal.{Legal}
 use Rattle.grs_enf.specs.declared.notice.Noted.{Noted}
 use Rattle.grs_enf.specs.declared.notice.What.{What}
 use Rattle.grs_enf.specs.declared.notice.What.TheVariants.{Begin, Change, End as Ends}
-use Rattle.grs_enf.specs.Notices.{is_contended, notices, told_notices}
+use Rattle.grs_enf.specs.Notices.{is_contended, resources_of, notices, told_notices}
 
 -- The codes of a legal history tell its notices.
 abbrev pub CodesTellNotices : Type 0
 CodesTellNotices = (deck : Deck) (hist : List HistEntry) → Legal deck hist → told_notices hist ≡ notices deck.limit hist
+
+-- An entry changes no list but those of the resources at which is looked, so no change goes unnoticed.
+abbrev pub OthersStay : Type 0
+OthersStay =
+    (limit : ℕ) (s : State) (h : HistEntry) (r : Res) → list_any (same_res r) (resources_of s h) ≡ false
+    → list_of (step limit s h) r ≡ list_of s r
 
 -- what is noticed of a resource, in order
 abbrev pub whats_of : Res → List Noted → List What

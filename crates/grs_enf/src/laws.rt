@@ -1,5 +1,5 @@
 //! Laws of notices: each function's contract is one, and there is nothing to run.
-ghost use Rattle.grs_enf.specs.Laws.{CodesTellNotices, NoticesAlternate};
+ghost use Rattle.grs_enf.specs.Laws.{CodesTellNotices, NoticesAlternate, OthersStay};
 
 /// The codes of a legal history tell its notices.
 pub fn codes_tell_notices()
@@ -10,4 +10,9 @@ pub fn codes_tell_notices()
 /// resource is contended in the end.
 pub fn notices_alternate()
     ensures { NoticesAlternate }
+{}
+
+/// An entry changes no list but those of the resources of which notices may come, so no change goes unnoticed.
+pub fn others_stay()
+    ensures { OthersStay }
 {}
