@@ -1,5 +1,7 @@
 -- The run: what the systems and the message come to together.
 pub mod Each
+pub mod Came
+pub mod Chosen
 pub mod Waits
 pub mod Laps
 pub mod GoesOn

@@ -25,7 +25,8 @@ use Rattle.grs_wire.specs.declared.request.Req.{Req}
 use Rattle.rsa_message.specs.Message.{any_unseen, cleared, dropped, left_by, stamped, turned_open}
 use Rattle.grs_world.proofs.lap.Old.{Search, nobody, search_below, somebody}
 use Rattle.grs_world.proofs.run.Each.{each_run}
-use Rattle.grs_world.proofs.run.InRing.{Came, IsRing, begins_ring, changed, each_came, informed, is_ring, no_such}
+use Rattle.grs_world.proofs.run.InRing.{CameInRing, IsRing, begins_ring, changed, each_in_ring, informed, is_ring}
+use Rattle.grs_world.proofs.run.InRing.{no_such}
 use Rattle.grs_world.proofs.run.InRing.{nothing, removes_one, star-stays, turn, went_on}
 use Rattle.grs_world.proofs.run.Waits.{run_waits}
 use Rattle.grs_world.specs.World.{Turnout, World, first_world, happens, placed, run}
@@ -157,12 +158,12 @@ module _ (deck : Deck) (w : World) (e : Event) (ring : IsRing deck w) (waits : W
   next_held : HeldIn (happens deck w e).medium
   unfolding placed dropped
   next_held =
-      each_came deck w e (λ (x : World). HeldIn x.medium) ring held (λ n o at alive came. by_case n o came)
+      each_in_ring deck w e (λ (x : World). HeldIn x.medium) ring held (λ n o at alive came. by_case n o came)
     where
-      by_case : (n : NodeState) (o : Turnout) → Came deck w e.system n o → HeldIn o.medium
+      by_case : (n : NodeState) (o : Turnout) → CameInRing deck w e.system n o → HeldIn o.medium
       by_case n o (nothing flags) = held
       by_case n o (went_on t may) = held
-      by_case n o informed = held
+      by_case n o (informed known) = held
       by_case n o (no_such target next gone) = held
       by_case n o (removes_one target next there) = dropped_held target there
       by_case n o (turn flags here) = λ star s h. turned_held (take most_additions n.outbox) w.medium.rest s h

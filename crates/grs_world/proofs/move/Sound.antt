@@ -24,7 +24,8 @@ use Rattle.grs_world.proofs.move.Decks.{order-may}
 use Rattle.grs_world.proofs.move.Moved.{changing-counted, event-moved}
 use Rattle.grs_world.proofs.run.Desks.{GoodDesks, desk-agrees, desks-after, desks-counted}
 use Rattle.grs_world.proofs.run.Each.{each_live, each_run}
-use Rattle.grs_world.proofs.run.InRing.{Came, IsRing, changed, count_first, each_came, first_ring, informed, live-there}
+use Rattle.grs_world.proofs.run.InRing.{CameInRing, IsRing, changed, count_first, each_in_ring, first_ring, informed}
+use Rattle.grs_world.proofs.run.InRing.{live-there}
 use Rattle.grs_world.proofs.run.InRing.{no_such, nothing, removes_one, ring-counted, ring-placed, turn, went_on}
 use Rattle.grs_world.proofs.run.Removals.{taken_out}
 use Rattle.grs_world.proofs.run.Runs.{GoodTold, GoodWorld, told-after, told-counted}
@@ -90,7 +91,7 @@ module _ (deck : Deck) (fits : may_be_star deck ≡ true → FitsStar deck) (es 
       home : n.tasks.system ≡ e.system.0
       home = (g.systems c.0 n at here).good.system
 
-      stays_ring : (o : Turnout) → Came deck (run deck es) e.system n o → o.medium.star ≡ false
+      stays_ring : (o : Turnout) → CameInRing deck (run deck es) e.system n o → o.medium.star ≡ false
           → happens deck (run deck es) e ≡ placed (run deck es) e.system n o → Good (placed (run deck es) e.system n o)
       stays_ring o h mode is =
           let tells = came_tells deck es e ring g n at alive o h mode in
@@ -102,12 +103,12 @@ module _ (deck : Deck) (fits : may_be_star deck ≡ true → FitsStar deck) (es 
           (good_came deck es e ring g n at alive o h mode told is)
           (desks-after deck w d c n at o (history (items (w.fixed ++ fixed_by c o.step.fixed))) tells)
 
-      comes : (o : Turnout) → Came deck (run deck es) e.system n o
+      comes : (o : Turnout) → CameInRing deck (run deck es) e.system n o
           → happens deck (run deck es) e ≡ placed (run deck es) e.system n o → Good (placed (run deck es) e.system n o)
       comes o (nothing flags) is = stays_ring _ (nothing flags) ring.mode is
       comes o (went_on t may) is = stays_ring _ (went_on t may) ring.mode is
       comes o (turn flags here) is = stays_ring _ (turn flags here) ring.mode is
-      comes o informed is = stays_ring _ informed ring.mode is
+      comes o (informed known) is = stays_ring _ (informed known) ring.mode is
       comes o (removes_one target next lives) is = stays_ring _ (removes_one target next lives) ring.mode is
       comes o (no_such target next out) is = stays_ring _ (no_such target next out) ring.mode is
       comes o (changed next idle) is =
@@ -118,7 +119,7 @@ module _ (deck : Deck) (fits : may_be_star deck ≡ true → FitsStar deck) (es 
 
     from_ring : Good (happens deck (run deck es) e)
     from_ring =
-        each_came deck w e (λ x. happens deck w e ≡ x → Good x) ring
+        each_in_ring deck w e (λ x. happens deck w e ≡ x → Good x) ring
         (λ is. in_ring begins (ring-counted deck w ring) (good_counted deck es e ring g) (desks-counted deck w d))
         (λ n o at alive h is. comes n at alive o h is) refl
 

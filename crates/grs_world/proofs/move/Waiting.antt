@@ -46,9 +46,8 @@ use Rattle.grs_wire.specs.Masks.{has, lives}
 use Rattle.grs_wire.specs.declared.told.Said.{Said}
 use Rattle.grs_wire.specs.declared.deck.Order.TheVariants as orders
 use Rattle.grs_wire.specs.declared.told.Said.TheVariants as saids
-use Rattle.grs_wire.specs.declared.deck.Choice.TheVariants as choices
-use Rattle.grs_node.specs.Node.{NodeState, Step, change_to_star, desk_told, finish_quiet, may_go, next_order, only}
-use Rattle.grs_node.specs.Node.{read_entries, task_step}
+use Rattle.grs_node.specs.Node.{NodeState, Step, change_to_star, desk_told, may_go, next_order, only, read_entries}
+use Rattle.grs_node.specs.Node.{task_step}
 use Rattle.grs_node.specs.Star.{StarPart}
 use Rattle.grs_node.proofs.Keeping.{Stays, stays-entries, stays-task}
 use Rattle.grs_base.specs.declared.resource.SysId.{SysId}
@@ -270,16 +269,16 @@ module _ (deck : Deck) (w : World) (g : IsChanging deck w) (c : SysId) (n : Node
       flags = record { changing = same-moved n flags h [] refl; news = tells_tasks (still-told refl) refl refl }
 
   -- ---- it is told which systems were removed
-  pub known-moved :
-      IsMoved deck w c n (record { medium = w.medium; step = only (record n { known = w.medium.removed }) })
-  known-moved = record {
+  pub known-moved : (known : ℕ)
+      → IsMoved deck w c n (record { medium = w.medium; step = only (record n { known = known }) })
+  known-moved known = record {
     changing =
-        same-moved (record n { known = w.medium.removed }) w.medium.rest
+        same-moved (record n { known = known }) w.medium.rest
         (record {
           alone = h.alone;
           seen =
               seen-known deck c.0 T (g.before c.0) (g.due c.0 ++ g.since) (own_requests c.0 (g.due c.0)) n
-              w.medium.removed h.seen;
+              known h.seen;
           away = h.away;
         })
         [] refl;
@@ -316,8 +315,7 @@ module _ (deck : Deck) (w : World) (g : IsChanging deck w) (c : SysId) (n : Node
 
   -- ---- a task goes on
   pub task-moved : (t : TaskId) → may_go deck n t ≡ true
-      → IsMoved deck w c n (record { medium = w.medium; step = finish_quiet deck n (choices.Task t) })
-  unfolding finish_quiet
+      → IsMoved deck w c n (record { medium = w.medium; step = task_step deck.limit n t (lines_of deck t) })
   task-moved t may =
       by_step (quiet deck c.0 c T (g.before c.0) (g.due c.0 ++ g.since) (own_requests c.0 (g.due c.0)) n t g.whole.right
       h.seen may)
@@ -508,4 +506,4 @@ module _ (deck : Deck) (w : World) (g : IsChanging deck w) (c : SysId) (n : Node
   waits-moved alive o (turn_late flags here) = turn-moved flags alive
   waits-moved alive o (desk_late next) = desk-moved next
   waits-moved alive o (vary_late target next) = vary-moved target next
-  waits-moved alive o informed_late = known-moved
+  waits-moved alive o (informed_late known) = known-moved known

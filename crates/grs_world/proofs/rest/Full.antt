@@ -12,36 +12,28 @@ use Rattle.grs_base.specs.declared.resource.Res.{Res}
 use Rattle.grs_base.specs.declared.resource.SysId.{SysId}
 use Rattle.grs_base.specs.declared.resource.TaskId.{TaskId}
 use Rattle.grs_legal.specs.Asks.{lines_of, scripts_of}
-use Rattle.grs_medium.specs.Apply.{reply_to}
 use Rattle.grs_medium.specs.Medium.{MediumState}
-use Rattle.grs_node.proofs.Fits.{by-reply}
-use Rattle.grs_node.specs.Star.{StarPart, answer_for, begin_at, begun, decide_own, entry_asked, first_held, fixing_none}
-use Rattle.grs_node.specs.Star.{leave_step, own_step, owners_by, rank_of, request_of, send_step, sent_to, serves}
-use Rattle.grs_node.specs.Star.{settle_step, settled_by, settled_first, tell_step, took_mail}
-use Rattle.grs_node.specs.declared.prepared.Prepared.{Prepared}
-use Rattle.grs_node.specs.declared.prepared.Prepared.TheVariants.{Call, Nothing, Quiet}
+use Rattle.grs_node.specs.Star.{StarPart, answer_for, begun, decide_own, fixing_none, own_step, owners_by, rank_of}
+use Rattle.grs_node.specs.Star.{request_of, took_mail}
+use Rattle.grs_node.specs.declared.prepared.Prepared.TheVariants.{Nothing}
 use Rattle.grs_wire.specs.declared.deck.Choice.{Choice}
-use Rattle.grs_wire.specs.declared.deck.Choice.TheVariants as choices
 use Rattle.grs_wire.specs.declared.deck.Event.{Event}
 use Rattle.grs_wire.specs.declared.medium.Mail.{Mail}
 use Rattle.grs_wire.specs.declared.medium.Mail.TheVariants.{Request as RequestMail, Answered as AnsweredMail, Granted}
-use Rattle.grs_wire.specs.declared.medium.Reply.{Reply}
-use Rattle.grs_wire.specs.declared.medium.Reply.TheVariants as replies
 use Rattle.grs_wire.specs.declared.told.Said.{Said}
 use Rattle.grs_wire.specs.declared.told.Said.TheVariants as saids
 use Rattle.grs_world.proofs.rest.RingRun.{first_of}
-use Rattle.grs_world.proofs.run.Each.{each_event, each_run}
+use Rattle.grs_world.proofs.run.Each.{each_run}
 use Rattle.grs_world.proofs.run.Runs.{by_node}
-use Rattle.grs_world.specs.World.{Turnout, World, carry_out, chosen, placed, run}
+use Rattle.grs_world.specs.World.{Turnout, World, placed, run}
 use Rattle.grs_legal.specs.declared.meaning.Display.{Display}
 use Rattle.grs_legal.specs.declared.meaning.Meaning.{Meaning}
 use Rattle.grs_legal.specs.declared.meaning.Meaning.TheVariants as lines
 use Rattle.grs_node.specs.Change.{one_by_one, with_first_look, with_list_ranks, with_rank_by, with_ranks}
-use Rattle.grs_node.specs.Node.{NodeState, Step, all_sent, ask, change_to_star, decide, desk_told, end_step, finish}
-use Rattle.grs_node.specs.Node.{finish_call, finish_quiet, finish_star, first_node, is_for_deck, is_of_deck, phase_step}
-use Rattle.grs_node.specs.Node.{look_around, look_home, show}
-use Rattle.grs_node.specs.Node.{post, prepare, put_in, read_entries, read_entry, ready_step, send_own, star_step}
-use Rattle.grs_node.specs.Node.{switched, take_line, take_step, task_step, turned, wait, with_side, with_tasks, purged}
+use Rattle.grs_node.specs.Node.{NodeState, Step, all_sent, ask, change_to_star, decide, desk_told, end_step, first_node}
+use Rattle.grs_node.specs.Node.{is_for_deck, is_of_deck, phase_step, look_around, look_home, show, post, put_in}
+use Rattle.grs_node.specs.Node.{read_entries, read_entry, ready_step, switched, take_line, task_step, wait, with_side}
+use Rattle.grs_node.specs.Node.{with_tasks, purged, take_mail}
 use Rattle.grs_wire.specs.Wants.{answer_to, new_owners, res_wanted}
 use Rattle.grs_wire.specs.declared.deck.Deck.{Deck}
 use Rattle.grs_wire.specs.declared.medium.RingBody.{RingBody}
@@ -61,12 +53,11 @@ use Rattle.ring_mode.specs.Ring.{answer_own, is_for_all, process, process_entry,
 use Rattle.star_client.specs.Client.{after_mail, has_effect, tell_answer_any_ranked, tell_answer_ranked, unrecorded}
 use Rattle.star_client.specs.Client.{with_rank_of}
 use Rattle.task_state.specs.Replies.{after_code, answered, goes_on_looking, looked, is_granted, is_held_for, is_leaving}
-use Rattle.task_state.specs.Replies.{passes_wait, phase_after}
-use Rattle.task_state.specs.Replies.{recalled, record_enq, replied, tell_all, tell_answer, tell_answer_any, tell_code}
-use Rattle.task_state.specs.Replies.{tell_control, tell_line, tell_new, tell_rows, tell_untold}
-use Rattle.task_state.specs.View.{with_outstanding}
-use Rattle.task_state.specs.View.{TasksView, is_task, new_tasks, record_of, state_of, telling, with_line, with_phase}
-use Rattle.task_state.specs.View.{with_rank, with_rows, with_told, without_record, without_rows}
+use Rattle.task_state.specs.Replies.{passes_wait, phase_after, recalled, record_enq, replied, tell_all, tell_answer}
+use Rattle.task_state.specs.Replies.{tell_answer_any, tell_code, tell_control, tell_line, tell_new, tell_rows}
+use Rattle.task_state.specs.Replies.{tell_untold}
+use Rattle.task_state.specs.View.{with_outstanding, TasksView, is_task, new_tasks, record_of, state_of, telling}
+use Rattle.task_state.specs.View.{with_line, with_phase, with_rank, with_rows, with_told, without_record, without_rows}
 use Rattle.task_state.specs.declared.state.Showing.{Showing}
 use Rattle.task_state.specs.declared.state.Asked.{Asked}
 use Rattle.task_state.specs.declared.state.Phase.{Phase}
@@ -80,6 +71,12 @@ use Rattle.task_state.proofs.Stays.{system-told, system-without}
 use Rattle.grs_base.specs.Rows.{rows_of}
 use Rattle.grs_base.specs.declared.resource.Row.{Row}
 use Rattle.system_purge.specs.Purge.{freed, tell_freed}
+use Rattle.grs_world.proofs.run.Came.{Acts, Came, acted, already, began, changed, decided, informed, last_turn, left}
+use Rattle.grs_world.proofs.run.Came.{rejoined, no_such, nothing, refused, removes_one, sent, settled, took, turn}
+use Rattle.grs_world.proofs.run.Came.{went_on, told as told_one, Result}
+use Rattle.grs_base.specs.Limits.{most_additions}
+use Rattle.grs_wire.specs.Unseen.{unseen}
+use Rattle.grs_world.proofs.run.Chosen.{each_came}
 
 -- whose they are, and how many
 abbrev pub size : TasksView → ℕ × ℕ
@@ -205,7 +202,7 @@ size-looking : (v : TasksView) (t : TaskId) (a : Asked) (verb : Verb) (left : �
     → size (goes_on_looking v t a verb left) ≡ size v
 unfolding goes_on_looking
 size-looking v t a verb zero = size-rows v t verb
-size-looking v t a verb (suc left) =
+size-looking v t a verb (suc more) =
     same-outstanding (with_phase v t phases.ToSend) t _ ∙ same-phase v t phases.ToSend
 
 size-answered : (v : TasksView) (t : TaskId) (a : Asked) (answer : Answer) → size (answered v t a answer) ≡ size v
@@ -401,14 +398,6 @@ pub size-put : (n : NodeState) (taken : ℕ) → size (put_in n taken).node.task
 unfolding put_in
 size-put n taken = size-sent (take taken n.outbox) n.tasks
 
-pub size-turned : (deck : Deck) (n : NodeState) (es : List RingEntry) (taken : ℕ) (closed : Bool)
-    → size (turned deck n es taken closed).node.tasks ≡ size n.tasks
-unfolding turned
-size-turned deck n es taken closed = step_both _ _ (put_in (read_entries deck n es) taken) (size n.tasks)
-    (size-changed deck (put_in (read_entries deck n es) taken).node
-    ∙ (size-put (read_entries deck n es) taken ∙ size-entries deck es n))
-    (size-put (read_entries deck n es) taken ∙ size-entries deck es n)
-
 pub size-desk : (n : NodeState) (said : Said) → size (desk_told n said).tasks ≡ size n.tasks
 unfolding desk_told
 size-desk n said = same-telling n.tasks _
@@ -431,29 +420,9 @@ size-own_step v p t (Some a) =
     (res_wanted a.req.want) (owners_by p (request_of t a))
     ∙ size-ranked v t a (answer_for p (request_of t a)) (rank_of p (request_of t a))
 
-size-begin : (v : TasksView) (p : StarPart) (t : TaskId) (asked : Option Asked) (o : Option ℕ)
-    → size (begin_at v p t asked o).tasks ≡ size v
-size-begin v p t asked None = refl
-size-begin v p t asked (Some e) = size-own_step v (begun p e) t asked
-
-size-to : (v : TasksView) (p : StarPart) (t : TaskId) (o : Option ℕ) → size (sent_to v p t o).tasks ≡ size v
-size-to v p t None = refl
-size-to v p t (Some e) = same-phase v t phases.Sent
-
-size-send : (v : TasksView) (p : StarPart) (t : TaskId) (r : Reply) → size (send_step v p t r).tasks ≡ size v
-size-send v p t =
-    by-reply (λ r. size (send_step v p t r).tasks ≡ size v)
-    (λ es k b. refl) (λ h. refl) (λ k. refl) refl refl
-    (size-begin v p t (state_of v t).outstanding (entry_asked p (state_of v t).outstanding))
-    (size-to v p t (entry_asked p (state_of v t).outstanding))
-    (λ m. refl) refl refl refl refl (λ m. refl) refl refl refl refl refl (λ k. refl) refl
-
-size-took : (deck : Deck) (v : TasksView) (p : StarPart) (r : Reply) → size (take_step deck v p r).tasks ≡ size v
+size-took : (deck : Deck) (v : TasksView) (p : StarPart) (m : Mail) → size (take_mail deck v p m).tasks ≡ size v
 unfolding took_mail
-size-took deck v p =
-    by-reply (λ r. size (take_step deck v p r).tasks ≡ size v)
-    (λ es k b. refl) (λ h. refl) (λ k. refl) refl refl refl refl
-    (λ m. go (is_for_deck deck m) m) refl refl refl refl (λ m. refl) refl refl refl refl refl (λ k. refl) refl
+size-took deck v p m = go (is_for_deck deck m) m
   where
     go : (b : Bool) (m : Mail) → size (cond b (took_mail v p m) (fixing_none v p)).tasks ≡ size v
     go false m = refl
@@ -461,111 +430,37 @@ size-took deck v p =
     go true (AnsweredMail t answer rank) = size-mail v (AnsweredMail t answer rank)
     go true (Granted t r) = size-mail v (Granted t r)
 
-size-settle : (v : TasksView) (p : StarPart) (r : Reply) → size (settle_step v p r).tasks ≡ size v
-size-settle v p =
-    by-reply (λ r. size (settle_step v p r).tasks ≡ size v)
-    (λ es k b. refl) (λ h. refl) (λ k. refl) refl refl refl refl
-    (λ m. refl) refl (go (first_held p)) refl refl (λ m. refl) refl refl refl refl refl (λ k. refl) refl
-  where
-    go : (o : Option Req) → size (settled_by v p o).tasks ≡ size v
-    go None = refl
-    go (Some q) = by_serves (serves p q)
-      where
-        by_serves : (b : Bool) → size (cond b (settled_first v p q) (fixing_none v p)).tasks ≡ size v
-        by_serves true = size-new v (res_wanted q.want) (owners_by p q)
-        by_serves false = refl
-
-size-tell : (v : TasksView) (p : StarPart) (e : ℕ) (r : Reply) → size (tell_step v p e r).tasks ≡ size v
-size-tell v p e =
-    by-reply (λ r. size (tell_step v p e r).tasks ≡ size v)
-    (λ es k b. refl) (λ h. refl) (λ k. refl) refl refl refl refl
-    (λ m. refl) refl refl refl refl (λ m. refl) refl refl refl refl refl (λ k. refl) refl
-
-size-leave : (v : TasksView) (p : StarPart) (e : ℕ) (r : Reply) → size (leave_step v p e r).tasks ≡ size v
-size-leave v p e =
-    by-reply (λ r. size (leave_step v p e r).tasks ≡ size v)
-    (λ es k b. refl) (λ h. refl) (λ k. refl) refl refl refl refl
-    (λ m. refl) refl refl refl refl (λ m. refl) refl refl refl refl refl (λ k. refl) refl
-
-pub size-starred : (deck : Deck) (v : TasksView) (p : StarPart) (choice : Choice) (r : Reply)
-    → size (star_step deck v p choice r).tasks ≡ size v
-size-starred deck v p (choices.Send t) r = size-send v p t r
-size-starred deck v p choices.Take r = size-took deck v p r
-size-starred deck v p choices.Settle r = size-settle v p r
-size-starred deck v p (choices.Tell e) r = size-tell v p e r
-size-starred deck v p (choices.Leave e) r = size-leave v p e r
-size-starred deck v p (choices.Task t) r = refl
-size-starred deck v p choices.Turn r = refl
-size-starred deck v p choices.Rest r = refl
-size-starred deck v p choices.Switch r = refl
-size-starred deck v p (choices.Purge target) r = refl
-
-size-star : (deck : Deck) (n : NodeState) (o : Option StarPart) (choice : Choice) (r : Reply)
-    → size (finish_star deck n o choice r).node.tasks ≡ size n.tasks
-unfolding finish_star
-size-star deck n None choice r = refl
-size-star deck n (Some p) choice r = size-starred deck n.tasks p choice r
+pub size-acts :
+    (deck : Deck) (m : MediumState) (s : SysId) (n : NodeState) (p : StarPart) (choice : Choice) (b : Result)
+    (o : Turnout)
+    → Acts deck m s n p choice b o → size o.step.node.tasks ≡ size n.tasks
+size-acts deck m s n p choice b o (decided t a x asked mine) = size-own_step n.tasks p t (Some a)
+size-acts deck m s n p choice b o (began t a x asked other none) = size-own_step n.tasks (begun p x) t (Some a)
+size-acts deck m s n p choice b o (rejoined t a x asked other to at same) = size-own_step n.tasks (begun p x) t (Some a)
+size-acts deck m s n p choice b o (sent t a x asked other to at apart) = same-phase n.tasks t phases.Sent
+size-acts deck m s n p choice b o (took mail rest at) = size-took deck n.tasks p mail
+size-acts deck m s n p choice b o (settled q first serving) = size-new n.tasks (res_wanted q.want) (owners_by p q)
+size-acts deck m s n p choice b o (told_one e x first) = refl
+size-acts deck m s n p choice b o (left x flags free by) = refl
 
 -- ---- any event
-size-call : (deck : Deck) (n : NodeState) (choice : Choice) (r : Reply)
-    → size (finish_call deck n choice r).node.tasks ≡ size n.tasks
-unfolding finish_call purged
-size-call deck n choice (replies.Turned es taken closed) = size-turned deck n es taken closed
-size-call deck n choice (replies.Stale set) = refl
-size-call deck n choice replies.Switched = size-switched deck n
-size-call deck n choice replies.Already = size-desk n saids.StarAlready
-size-call deck n choice (replies.NotYours holder) = size-star deck n n.star choice (replies.NotYours holder)
-size-call deck n choice (replies.Behind first) = size-star deck n n.star choice (replies.Behind first)
-size-call deck n choice replies.Sole = size-star deck n n.star choice replies.Sole
-size-call deck n choice replies.Sent = size-star deck n n.star choice replies.Sent
-size-call deck n choice (replies.Taken mail) = size-star deck n n.star choice (replies.Taken mail)
-size-call deck n choice replies.Empty = size-star deck n n.star choice replies.Empty
-size-call deck n choice replies.Settled = size-star deck n n.star choice replies.Settled
-size-call deck n choice replies.Told = size-star deck n n.star choice replies.Told
-size-call deck n choice replies.Left = size-star deck n n.star choice replies.Left
-size-call deck n choice (replies.Kept mask) = size-star deck n n.star choice (replies.Kept mask)
-size-call deck n choice replies.Purged = size-desk n saids.VaryDone
-size-call deck n choice replies.NoSuch = size-desk n saids.VaryNoSuch
-size-call deck n choice replies.InStar = size-desk n saids.VaryInStar
-size-call deck n choice replies.Resting = size-star deck n n.star choice replies.Resting
-size-call deck n choice replies.Over = size-star deck n n.star choice replies.Over
-size-call deck n choice replies.Removed = size-star deck n n.star choice replies.Removed
-
-size-send_own : (n : NodeState) (t : TaskId) (o : Option StarPart) → size (send_own n t o).node.tasks ≡ size n.tasks
-size-send_own n t None = refl
-size-send_own n t (Some p) = size-own_step n.tasks p t (state_of n.tasks t).outstanding
-
-size-quiet : (deck : Deck) (n : NodeState) (choice : Choice)
-    → size (finish_quiet deck n choice).node.tasks ≡ size n.tasks
-unfolding finish_quiet
-size-quiet deck n (choices.Task t) = size-step deck.limit n t (lines_of deck t)
-size-quiet deck n (choices.Send t) = size-send_own n t n.star
-size-quiet deck n choices.Turn = refl
-size-quiet deck n choices.Rest = refl
-size-quiet deck n choices.Take = refl
-size-quiet deck n choices.Settle = refl
-size-quiet deck n (choices.Tell e) = refl
-size-quiet deck n (choices.Leave e) = refl
-size-quiet deck n choices.Switch = refl
-size-quiet deck n (choices.Purge target) = refl
-
-pub size-finish : (deck : Deck) (n : NodeState) (choice : Choice) (o : Option Reply)
-    → size (finish deck n choice o).node.tasks ≡ size n.tasks
-unfolding finish
-size-finish deck n choice None = size-quiet deck n choice
-size-finish deck n choice (Some r) = size-call deck n choice r
-
-size-carry : (deck : Deck) (m : MediumState) (s : SysId) (n : NodeState) (choice : Choice) (p : Prepared)
-    → size (carry_out deck m s n choice p).step.node.tasks ≡ size n.tasks
-unfolding carry_out
-size-carry deck m s n choice Nothing = refl
-size-carry deck m s n choice Quiet = size-finish deck n choice None
-size-carry deck m s n choice (Call call) = size-finish deck n choice (Some (reply_to m s call))
-
-pub size-chosen : (deck : Deck) (m : MediumState) (s : SysId) (n : NodeState) (choice : Choice)
-    → size (chosen deck m s n choice).step.node.tasks ≡ size n.tasks
-unfolding chosen
-size-chosen deck m s n choice = size-carry deck m s n choice (prepare deck n choice)
+size-came : (deck : Deck) (m : MediumState) (s : SysId) (n : NodeState) (choice : Choice) (b : Result) (o : Turnout)
+    → Came deck m s n choice b o → size o.step.node.tasks ≡ size n.tasks
+unfolding purged
+size-came deck m s n choice b o (nothing k r silent flags) = refl
+size-came deck m s n choice b o (informed k known) = refl
+size-came deck m s n choice b o (went_on t may) = size-step deck.limit n t (lines_of deck t)
+size-came deck m s n choice b o (turn flags alone unclosed here) =
+    let es = unseen s m.message.entries in
+    size-put (read_entries deck n es) (length (take most_additions n.outbox)) ∙ size-entries deck es n
+size-came deck m s n choice b o (last_turn flags alone shut here) =
+    let es = unseen s m.message.entries in size-changed deck (read_entries deck n es) ∙ size-entries deck es n
+size-came deck m s n choice b o (changed ring next seen) = size-switched deck n
+size-came deck m s n choice b o (already mode next) = size-desk n saids.StarAlready
+size-came deck m s n choice b o (removes_one target ring next lives) = size-desk n saids.VaryDone
+size-came deck m s n choice b o (no_such target ring next gone) = size-desk n saids.VaryNoSuch
+size-came deck m s n choice b o (refused target mode next) = size-desk n saids.VaryInStar
+size-came deck m s n choice b o (acted p is k r x acts) = size-acts deck m s n p k r x acts
 
 -- ---- so in every run
 abbrev pub AreFull : Deck → World → Type 0
@@ -593,7 +488,7 @@ full_run deck =
     each_run deck (λ es (w : World). AreFull deck w)
     (λ s n at. ap (λ (k : NodeState). length k.tasks.tasks) (first_of deck s n at) ∙ first-size deck s)
     (λ es e h.
-    each_event deck (run deck es) e (AreFull deck) (λ s n at. h s n at)
-    (λ n at.
-    full-placed deck (run deck es) e.system n at (chosen deck (run deck es).medium e.system n e.choice)
-    (size-chosen deck (run deck es).medium e.system n e.choice) h))
+    each_came deck (run deck es) e (AreFull deck) (λ s n at. h s n at)
+    (λ n b o at alive came.
+    full-placed deck (run deck es) e.system n at o
+    (size-came deck (run deck es).medium e.system n e.choice b o came) h))

@@ -69,7 +69,7 @@ module _ (deck : Deck) (fits : may_be_star deck ≡ true → FitsStar deck) wher
     homes-event : happens deck (run deck es) e
         ≡ placed (run deck es) e.system n (chosen deck (run deck es).medium e.system n e.choice)
         → AreHomes (placed (run deck es) e.system n (chosen deck (run deck es).medium e.system n e.choice))
-    homes-event is = by_removal (what_removes deck w.medium e.system n e.choice)
+    homes-event is = by_removal (what_removes deck w.medium e.system n alive e.choice)
       where
         by_removal :
             Removes deck (run deck es).medium e.system n e.choice (chosen deck (run deck es).medium e.system n e.choice)

@@ -1,7 +1,7 @@
 -- Each system stays up to date in each event, whatever the event is and whatever the medium replies: so it is in every
 -- run, of a system that was removed too.
 use Rattle.std.proofs.Common.{◌≡◌, ℕ, zero, suc, Bool, true, false, cond, List, [], ◌∷◌, ◌++◌, take, Option, Some, None}
-use Rattle.std.proofs.Common.{refl, ap, sym, ◌∙◌, subst, take-append-drop}
+use Rattle.std.proofs.Common.{refl, ap, sym, ◌∙◌, subst, take-append-drop, length}
 use Rattle.std.specs.Prelude.{◌&&◌, drop, is_none, is_some, slice_get}
 use Rattle.std.specs.List.{list_all}
 use Rattle.std.proofs.lemmas.Bool.{and_from, and_parts}
@@ -13,35 +13,20 @@ use Rattle.grs_legal.specs.Asks.{lines_of}
 use Rattle.grs_legal.specs.declared.meaning.Display.{Display}
 use Rattle.grs_legal.specs.declared.meaning.Meaning.{Meaning}
 use Rattle.grs_legal.specs.declared.meaning.Meaning.TheVariants as lines
-use Rattle.grs_medium.specs.Apply.{reply_to}
 use Rattle.grs_medium.specs.Medium.{MediumState}
 use Rattle.grs_node.specs.Change.{one_by_one}
-use Rattle.grs_node.specs.Node.{NodeState, Step, ask, change_to_star, decide, desk_told, end_step, finish, finish_call}
-use Rattle.grs_node.specs.Node.{finish_quiet, finish_star, first_node, is_for_deck, is_of_deck, is_to_send}
-use Rattle.grs_node.specs.Node.{look_around, look_home, names_of_deck}
-use Rattle.grs_node.specs.Node.{looks_asked, may_go, may_send, phase_step, post, posted, prepare, prepared_by}
-use Rattle.grs_node.specs.Node.{purged, put_in, read_entries, read_entry, ready_step, send_own, show, star_call}
-use Rattle.grs_node.specs.Node.{star_step}
-use Rattle.grs_node.specs.Node.{switched, take_line, take_step, task_step, turned, wait, with_side, with_tasks}
-use Rattle.grs_node.specs.Star.{StarPart, StarStep, begin_at, begun, decide_own, entry_asked, first_held, fixing_none}
-use Rattle.grs_node.specs.Star.{leave_step}
-use Rattle.grs_node.specs.Star.{own_step, owners_by, rank_of, request_of, send_of, send_step, sent_to, serves}
-use Rattle.grs_node.specs.Star.{lists_for, settle_step, settled_by, settled_first, tell_step, took_mail}
-use Rattle.grs_node.specs.declared.prepared.Prepared.{Prepared}
-use Rattle.grs_node.specs.declared.prepared.Prepared.TheVariants.{Quiet, Call, Nothing}
-use Rattle.grs_node.specs.declared.star.Need.{Need}
-use Rattle.grs_node.specs.declared.star.Need.TheVariants.{Idle}
+use Rattle.grs_node.specs.Node.{NodeState, Step, ask, change_to_star, decide, desk_told, end_step, first_node}
+use Rattle.grs_node.specs.Node.{is_for_deck, is_of_deck, is_to_send, look_around, look_home, names_of_deck, looks_asked}
+use Rattle.grs_node.specs.Node.{may_go, may_send, phase_step, post, posted, purged, put_in, read_entries, ready_step}
+use Rattle.grs_node.specs.Node.{show, switched, take_line, task_step, with_tasks, take_mail}
+use Rattle.grs_node.specs.Star.{StarPart, StarStep, begun, decide_own, fixing_none, owners_by, rank_of, request_of}
+use Rattle.grs_node.specs.Star.{lists_for, took_mail}
 use Rattle.grs_wire.specs.Wants.{answer_to, res_wanted}
 use Rattle.grs_wire.specs.declared.deck.Choice.{Choice}
-use Rattle.grs_wire.specs.declared.deck.Choice.TheVariants as choices
 use Rattle.grs_wire.specs.declared.deck.Deck.{Deck}
 use Rattle.grs_wire.specs.declared.deck.Event.{Event}
 use Rattle.grs_wire.specs.declared.medium.Mail.{Mail}
 use Rattle.grs_wire.specs.declared.medium.Mail.TheVariants.{Request as RequestMail, Answered as AnsweredMail, Granted}
-use Rattle.grs_wire.specs.declared.medium.Reply.{Reply}
-use Rattle.grs_wire.specs.declared.medium.Reply.TheVariants as replies
-use Rattle.grs_wire.specs.declared.medium.RingBody.{RingBody}
-use Rattle.grs_wire.specs.declared.medium.RingBody.TheVariants.{Request, Remove}
 use Rattle.grs_wire.specs.declared.medium.RingEntry.{RingEntry}
 use Rattle.grs_wire.specs.declared.request.Req.{Req}
 use Rattle.grs_wire.specs.declared.request.Want.{Want}
@@ -50,7 +35,7 @@ use Rattle.grs_wire.specs.declared.told.Said.{Said}
 use Rattle.grs_wire.specs.declared.told.Said.TheVariants as saids
 use Rattle.grs_wire.proofs.WantLaws.{by_test}
 use Rattle.mode_migrate.specs.Migrate.{ranked_by}
-use Rattle.ring_mode.specs.Ring.{is_for_all, process_entry, side_of}
+use Rattle.ring_mode.specs.Ring.{is_for_all}
 use Rattle.star_client.specs.Client.{after_mail, tell_answer_ranked}
 use Rattle.task_state.specs.View.{TasksView, is_task, state_of, with_line, with_phase}
 use Rattle.task_state.specs.declared.state.Asked.{Asked}
@@ -59,16 +44,21 @@ use Rattle.task_state.specs.declared.state.Phase.TheVariants as phases
 use Rattle.task_state.specs.declared.state.Rec.{Rec}
 use Rattle.grs_world.proofs.rest.Answers.{lists-answer}
 use Rattle.grs_world.proofs.rest.Events.{date-any, date-entries, date-all_sent, date-one_by_one, date-ranked}
-use Rattle.grs_world.proofs.rest.Events.{date-ranks}
-use Rattle.grs_world.proofs.rest.Events.{date-sent, date-telling, here-all}
-use Rattle.grs_world.proofs.rest.Full.{here-of, size, size-desk, size-entries, size-own_step, size-put, size-step}
-use Rattle.grs_world.proofs.rest.Full.{size-starred}
+use Rattle.grs_world.proofs.rest.Events.{date-ranks, date-sent, date-telling, here-all}
+use Rattle.grs_world.proofs.rest.Full.{here-of, size, size-desk, size-entries, size-put, size-step, size-acts}
 use Rattle.grs_world.proofs.rest.RingRun.{first-read, first_of}
 use Rattle.grs_world.proofs.rest.Steps.{AllDate, date-control, date-new, date-task, going-ours}
 use Rattle.grs_world.proofs.rest.StarTasks.{keeps-mail}
-use Rattle.grs_world.proofs.run.Each.{each_event, each_run}
+use Rattle.grs_world.proofs.run.Each.{each_run}
 use Rattle.grs_world.proofs.run.Runs.{by_node}
-use Rattle.grs_world.specs.World.{Turnout, World, carry_out, chosen, placed, run}
+use Rattle.grs_world.specs.World.{Turnout, World, placed, run}
+use Rattle.grs_world.proofs.run.Came.{told, Result, Acts, Came, acted, already, began, changed, decided, informed}
+use Rattle.grs_world.proofs.run.Came.{last_turn, left, rejoined, no_such, nothing, refused, removes_one, sent, settled}
+use Rattle.grs_world.proofs.run.Came.{took, turn, went_on}
+use Rattle.grs_base.specs.Limits.{most_additions}
+use Rattle.grs_wire.specs.Unseen.{unseen}
+use Rattle.grs_world.proofs.run.Fixing.{outbox-entries}
+use Rattle.grs_world.proofs.run.Chosen.{each_came}
 
 -- A system whose tasks are up to date, and whose requests that wait to be put in are of its tasks.
 abbrev pub IsBoxed : TasksView → List Req → Type 0
@@ -161,17 +151,6 @@ kept-task deck n t may h =
     })
 
 -- ---- a Turn
-outbox-entry : (deck : Deck) (n : NodeState) (b : RingBody) → (read_entry deck n b).outbox ≡ n.outbox
-outbox-entry deck n (Remove target) = refl
-outbox-entry deck n (Request q) =
-    by_test (λ (k : NodeState). k.outbox ≡ n.outbox) (is_of_deck deck q.task)
-    (with_side n (process_entry (side_of n.tasks n.shared) q)) n (λ e. refl) (λ e. refl)
-
-outbox-entries : (deck : Deck) (es : List RingEntry) (n : NodeState) → (read_entries deck n es).outbox ≡ n.outbox
-unfolding read_entries
-outbox-entries deck [] n = refl
-outbox-entries deck (e ∷ es) n = outbox-entries deck es (read_entry deck n e.body) ∙ outbox-entry deck n e.body
-
 kept-entries : (deck : Deck) (es : List RingEntry) (n : NodeState) → IsKeptUp deck n
     → IsKeptUp deck (read_entries deck n es)
 kept-entries deck es n h = record {
@@ -204,16 +183,6 @@ kept-changed deck n h = record {
   box = refl;
 }
 
-kept-turned : (deck : Deck) (n : NodeState) (es : List RingEntry) (taken : ℕ) (closed : Bool) → IsKeptUp deck n
-    → IsKeptUp deck (turned deck n es taken closed).node
-unfolding turned
-kept-turned deck n es taken closed h =
-    let put : IsKeptUp deck (put_in (read_entries deck n es) taken).node =
-    kept-put deck (read_entries deck n es) taken (kept-entries deck es n h) in
-    by_test (λ (s : Step). IsKeptUp deck s.node)
-    (closed && is_none (put_in (read_entries deck n es) taken).node.star) _ (put_in (read_entries deck n es) taken)
-    (λ e. kept-changed deck (put_in (read_entries deck n es) taken).node put) (λ e. put)
-
 -- ---- its desk
 kept-desk : (deck : Deck) (n : NodeState) (said : Said) → IsKeptUp deck n → IsKeptUp deck (desk_told n said)
 unfolding desk_told
@@ -229,12 +198,6 @@ kept-switched deck n h =
     (λ e. kept-changed deck (desk_told n saids.StarDone) (kept-desk deck n saids.StarDone h)) (λ e. h)
 
 -- ---- star mode
--- what has to hold of a choice that is carried out: its task has something to do
-abbrev pub IsPrepared : Deck → NodeState → Choice → Type 0
-IsPrepared deck n (choices.Task t) = may_go deck n t ≡ true
-IsPrepared deck n (choices.Send t) = may_send deck n t ≡ true
-IsPrepared deck n _ = Unit {0}
-
 sending : (deck : Deck) (n : NodeState) (t : TaskId) → may_send deck n t ≡ true
     → (is_task n.tasks t ≡ true) × (is_of_deck deck t ≡ true)
 unfolding may_send
@@ -242,52 +205,15 @@ sending deck n t may =
     let both = and_parts (is_task n.tasks t) (is_of_deck deck t && is_to_send (state_of n.tasks t).phase) may in
     (both.0, (and_parts (is_of_deck deck t) (is_to_send (state_of n.tasks t).phase) both.1).0)
 
-date-own_step : (deck : Deck) (v : TasksView) (p : StarPart) (t : TaskId) (o : Option Asked)
-    → (state_of v t).outstanding ≡ o → is_task v t ≡ true → is_of_deck deck t ≡ true → AllDate false deck v
-    → AllDate false deck (own_step v p t o).tasks
+date-own : (deck : Deck) (v : TasksView) (p : StarPart) (t : TaskId) (a : Asked)
+    → (state_of v t).outstanding ≡ Some a → is_task v t ≡ true → is_of_deck deck t ≡ true → AllDate false deck v
+    → AllDate false deck (decide_own v p t a).tasks
 unfolding decide_own
-date-own_step deck v p t None e here of_deck h = h
-date-own_step deck v p t (Some a) e here of_deck h =
+date-own deck v p t a e here of_deck h =
     date-new false deck (res_wanted a.req.want) (owners_by p (request_of t a))
     (tell_answer_ranked v t a (answer_to (lists_for p a.req.want) t a.req.want) (rank_of p (request_of t a)))
     (date-ranked false deck v t a (answer_to (lists_for p a.req.want) t a.req.want) (rank_of p (request_of t a)) h
     of_deck here e (lists-answer (lists_for p a.req.want) t a.req.want))
-
-date-begin : (deck : Deck) (v : TasksView) (p : StarPart) (t : TaskId) (o : Option ℕ) → is_task v t ≡ true
-    → is_of_deck deck t ≡ true → AllDate false deck v
-    → AllDate false deck (begin_at v p t (state_of v t).outstanding o).tasks
-date-begin deck v p t None here of_deck h = h
-date-begin deck v p t (Some e) here of_deck h =
-    date-own_step deck v (begun p e) t (state_of v t).outstanding refl here of_deck h
-
-date-to : (deck : Deck) (v : TasksView) (p : StarPart) (t : TaskId) (o : Option ℕ) → is_task v t ≡ true
-    → AllDate false deck v → AllDate false deck (sent_to v p t o).tasks
-date-to deck v p t None here h = h
-date-to deck v p t (Some e) here h = date-sent false deck v t h here
-
-date-send : (deck : Deck) (v : TasksView) (p : StarPart) (t : TaskId) (r : Reply) → is_task v t ≡ true
-    → is_of_deck deck t ≡ true → AllDate false deck v → AllDate false deck (send_step v p t r).tasks
-date-send deck v p t (replies.Turned es taken closed) here of_deck h = h
-date-send deck v p t (replies.Stale set) here of_deck h = h
-date-send deck v p t replies.Switched here of_deck h = h
-date-send deck v p t replies.Already here of_deck h = h
-date-send deck v p t (replies.NotYours holder) here of_deck h = h
-date-send deck v p t (replies.Behind first) here of_deck h = h
-date-send deck v p t replies.Sole here of_deck h =
-    date-begin deck v p t (entry_asked p (state_of v t).outstanding) here of_deck h
-date-send deck v p t replies.Sent here of_deck h = date-to deck v p t (entry_asked p (state_of v t).outstanding) here h
-date-send deck v p t (replies.Taken mail) here of_deck h = h
-date-send deck v p t replies.Empty here of_deck h = h
-date-send deck v p t replies.Settled here of_deck h = h
-date-send deck v p t replies.Told here of_deck h = h
-date-send deck v p t replies.Left here of_deck h = h
-date-send deck v p t (replies.Kept mask) here of_deck h = h
-date-send deck v p t replies.Purged here of_deck h = h
-date-send deck v p t replies.NoSuch here of_deck h = h
-date-send deck v p t replies.InStar here of_deck h = h
-date-send deck v p t replies.Resting here of_deck h = h
-date-send deck v p t replies.Over here of_deck h = h
-date-send deck v p t replies.Removed here of_deck h = h
 
 date-granted : (deck : Deck) (v : TasksView) (t : TaskId) (r : Res) → AllDate false deck v
     → AllDate false deck (after_mail v (Granted t r))
@@ -303,236 +229,70 @@ date-mail deck v p (AnsweredMail t answer rank) h for_deck =
 date-mail deck v p (Granted t r) h for_deck = date-granted deck v t r h
 
 date-taken : (deck : Deck) (v : TasksView) (p : StarPart) (m : Mail) → AllDate false deck v
-    → AllDate false deck (cond (is_for_deck deck m) (took_mail v p m) (fixing_none v p)).tasks
+    → AllDate false deck (take_mail deck v p m).tasks
 date-taken deck v p m h =
     by_test (λ (s : StarStep). AllDate false deck s.tasks) (is_for_deck deck m) (took_mail v p m) (fixing_none v p)
     (λ e. date-mail deck v p m h e) (λ e. h)
 
-date-take : (deck : Deck) (v : TasksView) (p : StarPart) (r : Reply) → AllDate false deck v
-    → AllDate false deck (take_step deck v p r).tasks
-date-take deck v p (replies.Turned es taken closed) h = h
-date-take deck v p (replies.Stale set) h = h
-date-take deck v p replies.Switched h = h
-date-take deck v p replies.Already h = h
-date-take deck v p (replies.NotYours holder) h = h
-date-take deck v p (replies.Behind first) h = h
-date-take deck v p replies.Sole h = h
-date-take deck v p replies.Sent h = h
-date-take deck v p (replies.Taken mail) h = date-taken deck v p mail h
-date-take deck v p replies.Empty h = h
-date-take deck v p replies.Settled h = h
-date-take deck v p replies.Told h = h
-date-take deck v p replies.Left h = h
-date-take deck v p (replies.Kept mask) h = h
-date-take deck v p replies.Purged h = h
-date-take deck v p replies.NoSuch h = h
-date-take deck v p replies.InStar h = h
-date-take deck v p replies.Resting h = h
-date-take deck v p replies.Over h = h
-date-take deck v p replies.Removed h = h
+date-acts :
+    (deck : Deck) (m : MediumState) (s : SysId) (n : NodeState) (p : StarPart) (choice : Choice) (b : Result)
+    (o : Turnout)
+    → Acts deck m s n p choice b o → AllDate false deck n.tasks → AllDate false deck o.step.node.tasks
+date-acts deck m s n p choice b o (decided t a x asked mine) h =
+    let here = sending deck n t asked.may in date-own deck n.tasks p t a asked.asks here.0 here.1 h
+date-acts deck m s n p choice b o (began t a x asked other none) h =
+    let here = sending deck n t asked.may in date-own deck n.tasks (begun p x) t a asked.asks here.0 here.1 h
+date-acts deck m s n p choice b o (rejoined t a x asked other to at same) h =
+    let here = sending deck n t asked.may in date-own deck n.tasks (begun p x) t a asked.asks here.0 here.1 h
+date-acts deck m s n p choice b o (sent t a x asked other to at apart) h =
+    date-sent false deck n.tasks t h (sending deck n t asked.may).0
+date-acts deck m s n p choice b o (took mail rest at) h = date-taken deck n.tasks p mail h
+date-acts deck m s n p choice b o (settled q first serving) h =
+    date-new false deck (res_wanted q.want) (owners_by p q) n.tasks h
+date-acts deck m s n p choice b o (told e x first) h = h
+date-acts deck m s n p choice b o (left x flags free by) h = h
 
-date-settled : (deck : Deck) (v : TasksView) (p : StarPart) (o : Option Req) → AllDate false deck v
-    → AllDate false deck (settled_by v p o).tasks
-date-settled deck v p None h = h
-date-settled deck v p (Some q) h =
-    by_test (λ (s : StarStep). AllDate false deck s.tasks) (serves p q) (settled_first v p q) (fixing_none v p)
-    (λ e. date-new false deck (res_wanted q.want) (owners_by p q) v h) (λ e. h)
-
-date-settle : (deck : Deck) (v : TasksView) (p : StarPart) (r : Reply) → AllDate false deck v
-    → AllDate false deck (settle_step v p r).tasks
-date-settle deck v p (replies.Turned es taken closed) h = h
-date-settle deck v p (replies.Stale set) h = h
-date-settle deck v p replies.Switched h = h
-date-settle deck v p replies.Already h = h
-date-settle deck v p (replies.NotYours holder) h = h
-date-settle deck v p (replies.Behind first) h = h
-date-settle deck v p replies.Sole h = h
-date-settle deck v p replies.Sent h = h
-date-settle deck v p (replies.Taken mail) h = h
-date-settle deck v p replies.Empty h = h
-date-settle deck v p replies.Settled h = date-settled deck v p (first_held p) h
-date-settle deck v p replies.Told h = h
-date-settle deck v p replies.Left h = h
-date-settle deck v p (replies.Kept mask) h = h
-date-settle deck v p replies.Purged h = h
-date-settle deck v p replies.NoSuch h = h
-date-settle deck v p replies.InStar h = h
-date-settle deck v p replies.Resting h = h
-date-settle deck v p replies.Over h = h
-date-settle deck v p replies.Removed h = h
-
-date-tell : (deck : Deck) (v : TasksView) (p : StarPart) (e : ℕ) (r : Reply) → AllDate false deck v
-    → AllDate false deck (tell_step v p e r).tasks
-date-tell deck v p e (replies.Turned es taken closed) h = h
-date-tell deck v p e (replies.Stale set) h = h
-date-tell deck v p e replies.Switched h = h
-date-tell deck v p e replies.Already h = h
-date-tell deck v p e (replies.NotYours holder) h = h
-date-tell deck v p e (replies.Behind first) h = h
-date-tell deck v p e replies.Sole h = h
-date-tell deck v p e replies.Sent h = h
-date-tell deck v p e (replies.Taken mail) h = h
-date-tell deck v p e replies.Empty h = h
-date-tell deck v p e replies.Settled h = h
-date-tell deck v p e replies.Told h = h
-date-tell deck v p e replies.Left h = h
-date-tell deck v p e (replies.Kept mask) h = h
-date-tell deck v p e replies.Purged h = h
-date-tell deck v p e replies.NoSuch h = h
-date-tell deck v p e replies.InStar h = h
-date-tell deck v p e replies.Resting h = h
-date-tell deck v p e replies.Over h = h
-date-tell deck v p e replies.Removed h = h
-
-date-leave : (deck : Deck) (v : TasksView) (p : StarPart) (e : ℕ) (r : Reply) → AllDate false deck v
-    → AllDate false deck (leave_step v p e r).tasks
-date-leave deck v p e (replies.Turned es taken closed) h = h
-date-leave deck v p e (replies.Stale set) h = h
-date-leave deck v p e replies.Switched h = h
-date-leave deck v p e replies.Already h = h
-date-leave deck v p e (replies.NotYours holder) h = h
-date-leave deck v p e (replies.Behind first) h = h
-date-leave deck v p e replies.Sole h = h
-date-leave deck v p e replies.Sent h = h
-date-leave deck v p e (replies.Taken mail) h = h
-date-leave deck v p e replies.Empty h = h
-date-leave deck v p e replies.Settled h = h
-date-leave deck v p e replies.Told h = h
-date-leave deck v p e replies.Left h = h
-date-leave deck v p e (replies.Kept mask) h = h
-date-leave deck v p e replies.Purged h = h
-date-leave deck v p e replies.NoSuch h = h
-date-leave deck v p e replies.InStar h = h
-date-leave deck v p e replies.Resting h = h
-date-leave deck v p e replies.Over h = h
-date-leave deck v p e replies.Removed h = h
-
-date-starred : (deck : Deck) (n : NodeState) (p : StarPart) (choice : Choice) (r : Reply) → IsPrepared deck n choice
-    → AllDate false deck n.tasks → AllDate false deck (star_step deck n.tasks p choice r).tasks
-date-starred deck n p (choices.Send t) r may h =
-    let here = sending deck n t may in date-send deck n.tasks p t r here.0 here.1 h
-date-starred deck n p choices.Take r may h = date-take deck n.tasks p r h
-date-starred deck n p choices.Settle r may h = date-settle deck n.tasks p r h
-date-starred deck n p (choices.Tell e) r may h = date-tell deck n.tasks p e r h
-date-starred deck n p (choices.Leave e) r may h = date-leave deck n.tasks p e r h
-date-starred deck n p (choices.Task t) r may h = h
-date-starred deck n p choices.Turn r may h = h
-date-starred deck n p choices.Rest r may h = h
-date-starred deck n p choices.Switch r may h = h
-date-starred deck n p (choices.Purge target) r may h = h
-
-kept-star : (deck : Deck) (n : NodeState) (o : Option StarPart) (choice : Choice) (r : Reply)
-    → IsPrepared deck n choice → IsKeptUp deck n → IsKeptUp deck (finish_star deck n o choice r).node
-unfolding finish_star
-kept-star deck n None choice r may h = h
-kept-star deck n (Some p) choice r may h = record {
-  date = date-starred deck n p choice r may h.date;
-  box =
-      boxed-as n.tasks (star_step deck n.tasks p choice r).tasks n.outbox (size-starred deck n.tasks p choice r) h.box;
-}
+-- no act puts anything into the outbox
+box-acts :
+    (deck : Deck) (m : MediumState) (s : SysId) (n : NodeState) (p : StarPart) (choice : Choice) (b : Result)
+    (o : Turnout)
+    → Acts deck m s n p choice b o → o.step.node.outbox ≡ n.outbox
+box-acts deck m s n p choice b o (decided t a x asked mine) = refl
+box-acts deck m s n p choice b o (began t a x asked other none) = refl
+box-acts deck m s n p choice b o (rejoined t a x asked other to at same) = refl
+box-acts deck m s n p choice b o (sent t a x asked other to at apart) = refl
+box-acts deck m s n p choice b o (took mail rest at) = refl
+box-acts deck m s n p choice b o (settled q first serving) = refl
+box-acts deck m s n p choice b o (told e x first) = refl
+box-acts deck m s n p choice b o (left x flags free by) = refl
 
 -- ---- any event
 kept-known : (deck : Deck) (n : NodeState) (known : ℕ) → IsKeptUp deck n → IsKeptUp deck (record n { known = known })
 kept-known deck n known h = record { date = h.date; box = h.box }
 
-kept-call : (deck : Deck) (n : NodeState) (choice : Choice) (r : Reply) → IsPrepared deck n choice → IsKeptUp deck n
-    → IsKeptUp deck (finish_call deck n choice r).node
-unfolding finish_call purged
-kept-call deck n choice (replies.Turned es taken closed) may h = kept-turned deck n es taken closed h
-kept-call deck n choice (replies.Stale set) may h = kept-known deck n set h
-kept-call deck n choice replies.Switched may h = kept-switched deck n h
-kept-call deck n choice replies.Already may h = kept-desk deck n saids.StarAlready h
-kept-call deck n choice replies.Purged may h =
+kept-came : (deck : Deck) (m : MediumState) (s : SysId) (n : NodeState) (choice : Choice) (b : Result) (o : Turnout)
+    → Came deck m s n choice b o → IsKeptUp deck n → IsKeptUp deck o.step.node
+unfolding purged
+kept-came deck m s n choice b o (nothing k r silent flags) h = h
+kept-came deck m s n choice b o (informed k known) h = kept-known deck n known h
+kept-came deck m s n choice b o (went_on t may) h = kept-task deck n t may h
+kept-came deck m s n choice b o (turn flags alone unclosed here) h =
+    let es = unseen s m.message.entries in
+    kept-put deck (read_entries deck n es) (length (take most_additions n.outbox)) (kept-entries deck es n h)
+kept-came deck m s n choice b o (last_turn flags alone shut here) h =
+    let es = unseen s m.message.entries in kept-changed deck (read_entries deck n es) (kept-entries deck es n h)
+kept-came deck m s n choice b o (changed ring next seen) h = kept-switched deck n h
+kept-came deck m s n choice b o (already mode next) h = kept-desk deck n saids.StarAlready h
+kept-came deck m s n choice b o (removes_one target ring next lives) h =
     kept-known deck (desk_told n saids.VaryDone) _ (kept-desk deck n saids.VaryDone h)
-kept-call deck n choice replies.NoSuch may h = kept-desk deck n saids.VaryNoSuch h
-kept-call deck n choice replies.InStar may h = kept-desk deck n saids.VaryInStar h
-kept-call deck n choice (replies.NotYours holder) may h = kept-star deck n n.star choice (replies.NotYours holder) may h
-kept-call deck n choice (replies.Behind first) may h = kept-star deck n n.star choice (replies.Behind first) may h
-kept-call deck n choice replies.Sole may h = kept-star deck n n.star choice replies.Sole may h
-kept-call deck n choice replies.Sent may h = kept-star deck n n.star choice replies.Sent may h
-kept-call deck n choice (replies.Taken mail) may h = kept-star deck n n.star choice (replies.Taken mail) may h
-kept-call deck n choice replies.Empty may h = kept-star deck n n.star choice replies.Empty may h
-kept-call deck n choice replies.Settled may h = kept-star deck n n.star choice replies.Settled may h
-kept-call deck n choice replies.Told may h = kept-star deck n n.star choice replies.Told may h
-kept-call deck n choice replies.Left may h = kept-star deck n n.star choice replies.Left may h
-kept-call deck n choice (replies.Kept mask) may h = kept-star deck n n.star choice (replies.Kept mask) may h
-kept-call deck n choice replies.Resting may h = kept-star deck n n.star choice replies.Resting may h
-kept-call deck n choice replies.Over may h = kept-star deck n n.star choice replies.Over may h
-kept-call deck n choice replies.Removed may h = kept-star deck n n.star choice replies.Removed may h
-
-kept-own : (deck : Deck) (n : NodeState) (t : TaskId) (o : Option StarPart) → may_send deck n t ≡ true
-    → IsKeptUp deck n → IsKeptUp deck (send_own n t o).node
-kept-own deck n t None may h = h
-kept-own deck n t (Some p) may h = let here = sending deck n t may in
-    record {
-      date = date-own_step deck n.tasks p t (state_of n.tasks t).outstanding refl here.0 here.1 h.date;
-      box =
-          boxed-as n.tasks (own_step n.tasks p t (state_of n.tasks t).outstanding).tasks n.outbox
-          (size-own_step n.tasks p t (state_of n.tasks t).outstanding) h.box;
-    }
-
-kept-quiet : (deck : Deck) (n : NodeState) (choice : Choice) → IsPrepared deck n choice → IsKeptUp deck n
-    → IsKeptUp deck (finish_quiet deck n choice).node
-unfolding finish_quiet
-kept-quiet deck n (choices.Task t) may h = kept-task deck n t may h
-kept-quiet deck n (choices.Send t) may h = kept-own deck n t n.star may h
-kept-quiet deck n choices.Turn may h = h
-kept-quiet deck n choices.Rest may h = h
-kept-quiet deck n choices.Take may h = h
-kept-quiet deck n choices.Settle may h = h
-kept-quiet deck n (choices.Tell e) may h = h
-kept-quiet deck n (choices.Leave e) may h = h
-kept-quiet deck n choices.Switch may h = h
-kept-quiet deck n (choices.Purge target) may h = h
-
-kept-finish : (deck : Deck) (n : NodeState) (choice : Choice) (o : Option Reply) → IsPrepared deck n choice
-    → IsKeptUp deck n → IsKeptUp deck (finish deck n choice o).node
-unfolding finish
-kept-finish deck n choice None may h = kept-quiet deck n choice may h
-kept-finish deck n choice (Some r) may h = kept-call deck n choice r may h
-
--- what is carried out was prepared
-each_choice : (deck : Deck) (n : NodeState) (P : Prepared → Type 0) → P Nothing → (choice : Choice)
-    → ((p : Prepared) → IsPrepared deck n choice → P p) → P (prepare deck n choice)
-unfolding prepare star_call
-each_choice deck n P idle (choices.Task t) goes =
-    by_test P (may_go deck n t) Quiet Nothing (λ may. goes Quiet may) (λ e. idle)
-each_choice deck n P idle (choices.Send t) goes = go n.star
-  where
-    go : (o : Option StarPart) → P (star_call deck n o (choices.Send t))
-    go None = idle
-    go (Some p) = by_test (λ (need : Need). P (prepared_by n.known need)) (may_send deck n t)
-        (send_of p t (state_of n.tasks t).outstanding) Idle (λ may. goes _ may) (λ e. idle)
-each_choice deck n P idle choices.Turn goes = goes _ tt
-each_choice deck n P idle choices.Rest goes = goes _ tt
-each_choice deck n P idle choices.Take goes = goes _ tt
-each_choice deck n P idle choices.Settle goes = goes _ tt
-each_choice deck n P idle (choices.Tell e) goes = goes _ tt
-each_choice deck n P idle (choices.Leave e) goes = goes _ tt
-each_choice deck n P idle choices.Switch goes = goes _ tt
-each_choice deck n P idle (choices.Purge target) goes = goes _ tt
-
--- what is prepared and asks for something
-abbrev Needs : Prepared → Type 0
-Needs Nothing = ⊥
-Needs Quiet = Unit {0}
-Needs (Call call) = Unit {0}
-
-kept-carried : (deck : Deck) (m : MediumState) (s : SysId) (n : NodeState) (choice : Choice) (p : Prepared)
-    → (Needs p → IsPrepared deck n choice) → IsKeptUp deck n → IsKeptUp deck (carry_out deck m s n choice p).step.node
-unfolding carry_out
-kept-carried deck m s n choice Nothing may h = h
-kept-carried deck m s n choice Quiet may h = kept-finish deck n choice None (may tt) h
-kept-carried deck m s n choice (Call call) may h =
-    kept-finish deck n choice (Some (reply_to m s call)) (may tt) h
-
-kept-chosen : (deck : Deck) (m : MediumState) (s : SysId) (n : NodeState) (choice : Choice) → IsKeptUp deck n
-    → IsKeptUp deck (chosen deck m s n choice).step.node
-unfolding chosen
-kept-chosen deck m s n choice h =
-    each_choice deck n (λ p. IsKeptUp deck (carry_out deck m s n choice p).step.node)
-    (kept-carried deck m s n choice Nothing (λ e. absurd e) h) choice
-    (λ p may. kept-carried deck m s n choice p (λ e. may) h)
+kept-came deck m s n choice b o (no_such target ring next gone) h = kept-desk deck n saids.VaryNoSuch h
+kept-came deck m s n choice b o (refused target mode next) h = kept-desk deck n saids.VaryInStar h
+kept-came deck m s n choice b o (acted p is k r x acts) h = record {
+  date = date-acts deck m s n p k r x acts h.date;
+  box =
+      subst (IsBoxed o.step.node.tasks) (sym (box-acts deck m s n p k r x acts))
+      (boxed-as n.tasks o.step.node.tasks n.outbox (size-acts deck m s n p k r x acts) h.box);
+}
 
 -- ---- so in every run
 abbrev pub AreKeptUp : Deck → World → Type 0
@@ -559,7 +319,7 @@ kept_run deck =
     each_run deck (λ es (w : World). AreKeptUp deck w)
     (λ s n at. subst (IsKeptUp deck) (sym (first_of deck s n at)) (first-kept deck s))
     (λ es e h.
-    each_event deck (run deck es) e (AreKeptUp deck) (λ s n at. h s n at)
-    (λ n at.
-    kept-placed deck (run deck es) e.system n at (chosen deck (run deck es).medium e.system n e.choice)
-    (kept-chosen deck (run deck es).medium e.system n e.choice (h e.system.0 n at)) h))
+    each_came deck (run deck es) e (AreKeptUp deck) (λ s n at. h s n at)
+    (λ n b o at alive came.
+    kept-placed deck (run deck es) e.system n at o
+    (kept-came deck (run deck es).medium e.system n e.choice b o came (h e.system.0 n at)) h))

@@ -9,8 +9,8 @@ use Rattle.grs_base.specs.Limits.{most_additions}
 use Rattle.grs_base.specs.declared.resource.SysId.{SysId}
 use Rattle.grs_base.specs.declared.resource.TaskId.{TaskId}
 use Rattle.grs_medium.specs.Medium.{live, MediumState}
-use Rattle.grs_node.specs.Node.{NodeState, finish_quiet, first_node, is_to_send, may_go, put_in, read_entries}
-use Rattle.grs_node.specs.Node.{desk_told, purged}
+use Rattle.grs_node.specs.Node.{NodeState, first_node, is_to_send, may_go, put_in, read_entries, desk_told, purged}
+use Rattle.grs_node.specs.Node.{task_step}
 use Rattle.grs_wire.specs.Masks.{has, with_also}
 use Rattle.grs_wire.specs.Unseen.{unseen}
 use Rattle.grs_wire.specs.declared.deck.Choice.TheVariants as choices
@@ -36,8 +36,8 @@ use Rattle.grs_world.proofs.rest.Unseen.{own-among, requests_of, waits-elsewhere
 use Rattle.grs_world.proofs.rest.UpToDate.{IsUpToDate}
 use Rattle.grs_world.proofs.run.Each.{each_run}
 use Rattle.grs_world.proofs.run.Growing.{asks-rounds, fixeds}
-use Rattle.grs_world.proofs.run.InRing.{Came, changed, each_came, nothing, star-stays, turn, went_on, IsRing, informed}
-use Rattle.grs_world.proofs.run.InRing.{live-there, no_such, removes_one}
+use Rattle.grs_world.proofs.run.InRing.{CameInRing, changed, each_in_ring, nothing, star-stays, turn, went_on, IsRing}
+use Rattle.grs_world.proofs.run.InRing.{informed, live-there, no_such, removes_one}
 use Rattle.grs_world.proofs.run.Messages.{given-later}
 use Rattle.grs_world.proofs.run.Reading.{ReadTo, all-rounds, read-entries, read_all, reading}
 use Rattle.grs_world.proofs.run.Runs.{GoodWorld, by_node}
@@ -50,6 +50,7 @@ use Rattle.grs_wire.proofs.MaskLaws.{has-with_other, has-with_same}
 use Rattle.grs_wire.specs.declared.medium.RingBody.TheVariants.{Remove}
 use Rattle.grs_wire.specs.declared.told.Said.TheVariants as saids
 use Rattle.grs_known.proofs.lists.Truths.{no_truth}
+use Rattle.grs_legal.specs.Asks.{lines_of}
 
 -- the requests that a system has still to process
 abbrev pub still_of : ℕ → List RingEntry → List Req
@@ -98,8 +99,7 @@ module _ (deck : Deck) (es : List Event) (w : World) (ring : IsRing deck w) (g :
 
   -- a task goes on
   goes-read : (t : TaskId) → may_go deck n t ≡ true
-      → IsRead deck c.0 (finish_quiet deck n (choices.Task t)).node (still_of c.0 w.medium.message.entries)
-  unfolding finish_quiet
+      → IsRead deck c.0 (task_step deck.limit n t (lines_of deck t)).node (still_of c.0 w.medium.message.entries)
   goes-read t may =
       read-task deck c.0 n (still_of c.0 w.medium.message.entries) alone seen.good.system
       (distinct-at deck c.0 P (g.before c.0) (g.later c.0) (own_requests c.0 (g.later c.0)) n seen) t may
@@ -222,11 +222,11 @@ module _ (deck : Deck) (es : List Event) (w : World) (ring : IsRing deck w) (g :
         (λ t home e. dropped-on c.0 (was-there c.0 l).0 t e)
         (desk-read deck c.0 n saids.VaryDone (still_of c.0 w.medium.message.entries) (h c.0 n at alive))))
 
-  pub read-came : (o : Turnout) → Came deck w c n o → o.medium.star ≡ false → AllRead deck (placed w c n o)
+  pub read-came : (o : Turnout) → CameInRing deck w c n o → o.medium.star ≡ false → AllRead deck (placed w c n o)
   unfolding placed
   read-came o (nothing flags) mode = same-read flags n (h c.0 n at alive)
   read-came o (went_on t may) mode =
-      same-read w.medium.rest (finish_quiet deck n (choices.Task t)).node (goes-read t may)
+      same-read w.medium.rest (task_step deck.limit n t (lines_of deck t)).node (goes-read t may)
   read-came o (turn flags here) mode =
       others-read (record w.medium
       { message = turned_open w.medium.message c out (live w.medium) w.medium.rest; rest = flags })
@@ -239,9 +239,9 @@ module _ (deck : Deck) (es : List Event) (w : World) (ring : IsRing deck w) (g :
       ))
       (λ l. read-turn)
   read-came o (changed next idle) mode = absurd (cc)
-  read-came o informed mode =
-      same-read w.medium.rest (record n { known = w.medium.removed })
-      (known-read deck c.0 n w.medium.removed (still_of c.0 w.medium.message.entries) (h c.0 n at alive))
+  read-came o (informed known) mode =
+      same-read w.medium.rest (record n { known = known })
+      (known-read deck c.0 n known (still_of c.0 w.medium.message.entries) (h c.0 n at alive))
   read-came o (removes_one target next there) mode = removed-read target
   read-came o (no_such target next gone) mode =
       same-read w.medium.rest (desk_told n saids.VaryNoSuch)
@@ -314,14 +314,14 @@ ring_read deck fits = each_run deck (λ es (w : World). w.medium.star ≡ false 
         go true at good = absurd (let both : true ≡ false = sym (star-stays deck w e at) ∙ mode in cc)
         go false at (in_star f g told d) = absurd (let both : true ≡ false = sym g.whole.roles.mode ∙ at in cc)
         go false at (in_ring begins ring g d) =
-            each_came deck w e (λ x. x.medium.star ≡ false → AllRead deck x) ring (λ z. counted-read (more at))
+            each_in_ring deck w e (λ x. x.medium.star ≡ false → AllRead deck x) ring (λ z. counted-read (more at))
             (λ n o there alive came z. by_placed n o there alive came z) mode
           where
             counted-read : AllRead deck (run deck es) → AllRead deck (counted (run deck es))
             counted-read k = k
 
             by_placed : (n : NodeState) (o : Turnout) → slice_get (run deck es).nodes e.system.0 ≡ Some n
-                → has (run deck es).medium.removed e.system.0 ≡ false → Came deck (run deck es) e.system n o
+                → has (run deck es).medium.removed e.system.0 ≡ false → CameInRing deck (run deck es) e.system n o
                 → (placed (run deck es) e.system n o).medium.star ≡ false
                 → AllRead deck (placed (run deck es) e.system n o)
             by_placed n o there alive came z =

@@ -34,7 +34,7 @@ use Rattle.grs_world.proofs.rest.Switching.{restful-begun}
 use Rattle.grs_world.proofs.rest.View.{node-of, shown-star, shown_at}
 use Rattle.grs_world.proofs.rest.Waiting.{restful-late}
 use Rattle.grs_world.proofs.run.Each.{each_run, run-push, each_live}
-use Rattle.grs_world.proofs.run.InRing.{Came, changed, each_came, nothing, turn, went_on, informed, no_such}
+use Rattle.grs_world.proofs.run.InRing.{CameInRing, changed, each_in_ring, nothing, turn, went_on, informed, no_such}
 use Rattle.grs_world.proofs.run.InRing.{removes_one}
 use Rattle.grs_world.proofs.star.Heard.{AreAddressed, sent_by}
 use Rattle.grs_world.proofs.star.Sound.{first_inbox}
@@ -209,7 +209,7 @@ restful_run deck is_deck = each_run deck (λ es (w : World). w.medium.star ≡ t
             is_deck)
             refl
         go (in_ring begins ring g d) =
-            each_came deck (run deck es) e (λ x. x.medium.star ≡ true → IsRestful deck x) ring
+            each_in_ring deck (run deck es) e (λ x. x.medium.star ≡ true → IsRestful deck x) ring
             (λ z. absurd (let no : true ≡ false = sym z ∙ ring.mode in cc)) by_came mode
           where
             ring-mode : (n : NodeState) (o : Turnout) → o.medium.star ≡ false
@@ -219,7 +219,7 @@ restful_run deck is_deck = each_run deck (λ es (w : World). w.medium.star ≡ t
                 absurd (let no : true ≡ false = sym z ∙ (star-placed (run deck es) e.system n o ∙ flat) in cc)
 
             by_came : (n : NodeState) (o : Turnout) → slice_get (run deck es).nodes e.system.0 ≡ Some n
-                → has (run deck es).medium.removed e.system.0 ≡ false → Came deck (run deck es) e.system n o
+                → has (run deck es).medium.removed e.system.0 ≡ false → CameInRing deck (run deck es) e.system n o
                 → (placed (run deck es) e.system n o).medium.star ≡ true
                 → IsRestful deck (placed (run deck es) e.system n o)
             by_came n o at alive (nothing flags) z = ring-mode n _ ring.mode z
@@ -228,6 +228,6 @@ restful_run deck is_deck = each_run deck (λ es (w : World). w.medium.star ≡ t
             by_came n o at alive (changed next idle) z =
                 restful-begun deck some is_deck.fits.few es (run deck es) ring g (ring_read deck fits es ring.mode)
                 e.system n at alive idle
-            by_came n o at alive informed z = ring-mode n _ ring.mode z
+            by_came n o at alive (informed known) z = ring-mode n _ ring.mode z
             by_came n o at alive (removes_one target next there) z = ring-mode n _ ring.mode z
             by_came n o at alive (no_such target next gone) z = ring-mode n _ ring.mode z

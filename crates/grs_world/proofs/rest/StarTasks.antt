@@ -1,8 +1,7 @@
 -- The tasks of a system of star mode: they stay up to date in each event, and what the system has on record goes on
 -- with its own lists.
 use Rattle.std.proofs.Common.{◌≡◌, ℕ, zero, suc, Bool, true, false, cond, not, List, [], ◌∷◌, ◌++◌, Option, Some, None}
-use Rattle.std.proofs.Common.{refl, ap}
-use Rattle.std.proofs.Common.{sym, ◌∙◌, subst}
+use Rattle.std.proofs.Common.{refl, ap, sym, ◌∙◌, subst}
 use Rattle.std.specs.Prelude.{◌==◌, get_or, slice_get}
 use Rattle.std.proofs.lemmas.Bool.{and_parts, eqb-true, eqb-false}
 use Rattle.grs_base.specs.Lists.{has_task, owns}
@@ -21,11 +20,10 @@ use Rattle.grs_base.proofs.SameLaws.{same_res-exact, same_task-exact}
 use Rattle.grs_legal.specs.Asks.{lines_of}
 use Rattle.grs_legal.specs.declared.meaning.Meaning.{Meaning}
 use Rattle.grs_legal.specs.declared.meaning.Meaning.TheVariants as lines
-use Rattle.grs_node.specs.Node.{NodeState, Step, ask, decide, end_step, finish_quiet, has_most, is_of_deck, may_go}
-use Rattle.grs_node.specs.Node.{look_around, look_home, looks_asked, phase_step, post, posted, ready_step, show}
-use Rattle.grs_node.specs.Node.{take_line, task_step, wait, with_tasks}
+use Rattle.grs_node.specs.Node.{NodeState, Step, ask, decide, end_step, has_most, is_of_deck, may_go, look_around}
+use Rattle.grs_node.specs.Node.{look_home, looks_asked, phase_step, post, posted, ready_step, show, take_line}
+use Rattle.grs_node.specs.Node.{task_step, wait, with_tasks}
 use Rattle.grs_wire.specs.Wants.{after_want, answer_to, new_owners, res_wanted}
-use Rattle.grs_wire.specs.declared.deck.Choice.TheVariants as choices
 use Rattle.grs_wire.specs.declared.deck.Deck.{Deck}
 use Rattle.grs_wire.specs.declared.medium.Mail.TheVariants.{Answered as AnsweredMail}
 use Rattle.grs_wire.specs.declared.request.Answer.{Answer}
@@ -494,8 +492,7 @@ module _ (deck : Deck) (s : ℕ) (n : NodeState) (h : AreLocal deck s n) (u : Ta
 pub dated-task : (deck : Deck) (s : ℕ) (n : NodeState) → n.tasks.system ≡ s
     → ((t : TaskId) (ls : List Meaning) → IsOurs deck s n.tasks t ls → is_distinct (state_of n.tasks t).records ≡ true)
     → (t : TaskId) → may_go deck n t ≡ true → IsDated deck s n
-    → IsDated deck s (finish_quiet deck n (choices.Task t)).node
-unfolding finish_quiet
+    → IsDated deck s (task_step deck.limit n t (lines_of deck t)).node
 dated-task deck s n system distinct t may h =
     let ours = going-ours deck s n system t may in
     subst (λ o. IsDated deck s (task_step deck.limit n t o).node) (sym ours.1.lines) (record {

@@ -8,8 +8,7 @@ use Rattle.grs_base.specs.declared.resource.SysId.{SysId}
 use Rattle.grs_base.specs.declared.resource.TaskId.{TaskId}
 use Rattle.grs_legal.specs.Asks.{lines_of}
 use Rattle.grs_node.proofs.Keeping.{Stays, stays-task}
-use Rattle.grs_node.specs.Node.{NodeState, desk_told, finish_quiet, may_go, task_step, only}
-use Rattle.grs_wire.specs.declared.deck.Choice.TheVariants as choices
+use Rattle.grs_node.specs.Node.{NodeState, desk_told, may_go, task_step, only}
 use Rattle.grs_wire.specs.declared.deck.Deck.{Deck}
 use Rattle.grs_wire.specs.declared.request.Fixed.{Fixed}
 use Rattle.grs_wire.specs.declared.request.Fixed.TheVariants as fixing
@@ -77,8 +76,7 @@ module _ (deck : Deck) (w : World) (g : IsChanging deck w) (h : IsRestful deck w
 
   -- ---- a task goes on
   task-restful : (t : TaskId) → may_go deck n t ≡ true
-      → IsRestful deck (placed w c n (record { medium = w.medium; step = finish_quiet deck n (choices.Task t) }))
-  unfolding finish_quiet
+      → IsRestful deck (placed w c n (record { medium = w.medium; step = task_step deck.limit n t (lines_of deck t) }))
   task-restful t may =
       by_step (quiet deck c.0 c T (g.before c.0) (g.due c.0 ++ g.since) (own_requests c.0 (g.due c.0)) n t
       g.whole.right seen may)
@@ -135,6 +133,6 @@ module _ (deck : Deck) (w : World) (g : IsChanging deck w) (h : IsRestful deck w
   restful-late o (turn_late flags here) = restful-turned deck w g h c n at alive alone flags
   restful-late o (desk_late next) = desk-restful saids.StarAlready
   restful-late o (vary_late target next) = desk-restful saids.VaryInStar
-  restful-late o informed_late =
-      still-restful (record n { known = w.medium.removed }) w.medium.rest [] refl alone refl
-      (known-read deck c.0 n w.medium.removed (still_of c.0 w.medium.message.entries) rd)
+  restful-late o (informed_late known) =
+      still-restful (record n { known = known }) w.medium.rest [] refl alone refl
+      (known-read deck c.0 n known (still_of c.0 w.medium.message.entries) rd)

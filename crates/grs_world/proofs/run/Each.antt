@@ -1,31 +1,20 @@
--- The cases of a call, of a choice and of an event, each once, and every list of events.
-use Rattle.std.proofs.Common.{◌≡◌, ℕ, true, false, List, [], ◌∷◌, ◌++◌, take, Option, Some, None, refl, ap, sym, ◌∙◌}
-use Rattle.std.proofs.Common.{subst, append-nil, append_assoc}
+-- The cases of a call and of an event, each once, and every list of events.
+use Rattle.std.proofs.Common.{◌≡◌, false, List, [], ◌∷◌, ◌++◌, Option, Some, None, refl, sym, subst, append-nil}
+use Rattle.std.proofs.Common.{append_assoc}
 use Rattle.std.specs.Prelude.{slice_get, ◌==◌}
-use Rattle.std.proofs.lemmas.Bool.{eqb-true}
 use Rattle.grs_base.specs.declared.resource.SysId.{SysId}
-use Rattle.grs_base.specs.declared.resource.TaskId.{TaskId}
 use Rattle.grs_medium.specs.Apply.{row, apply}
 use Rattle.grs_medium.specs.Medium.{MediumState}
-use Rattle.grs_node.proofs.InRing.{ring_prepare, prepare-ring}
-use Rattle.grs_node.specs.Node.{NodeState, may_go, is_pending, prepare, next_order, own_words, switch_call, purge_call}
-use Rattle.grs_base.specs.Limits.{most_additions}
-use Rattle.grs_node.specs.declared.prepared.Prepared.{Prepared}
-use Rattle.grs_node.specs.declared.prepared.Prepared.TheVariants.{Quiet, Call, Nothing}
+use Rattle.grs_node.specs.Node.{NodeState}
 use Rattle.grs_wire.specs.Masks.{has}
-use Rattle.grs_wire.specs.declared.deck.Choice.{Choice}
-use Rattle.grs_wire.specs.declared.deck.Choice.TheVariants as choices
 use Rattle.grs_wire.specs.declared.deck.Deck.{Deck}
 use Rattle.grs_wire.specs.declared.deck.Event.{Event}
-use Rattle.grs_wire.specs.declared.medium.Act.TheVariants as acts
 use Rattle.grs_wire.specs.declared.medium.Call.{Call as CallOfMedium}
 use Rattle.grs_wire.specs.declared.medium.Reply.{Reply}
 use Rattle.grs_wire.specs.declared.medium.Reply.TheVariants as replies
 use Rattle.grs_wire.proofs.WantLaws.{by_test}
 use Rattle.grs_known.proofs.lists.Truths.{no_truth}
 use Rattle.grs_world.specs.World.{World, first_world, chosen, placed, counted, happens_at, happens, run_from, run}
-use Rattle.grs_wire.specs.declared.deck.Order.{Order}
-use Rattle.grs_wire.specs.declared.deck.Order.TheVariants as orders
 
 -- What holds of each answer to a call, with the medium that it leaves, holds of the call.
 pub each_answer : (m : MediumState) (c : SysId) (call : CallOfMedium) (P : Reply × MediumState → Type 0)
@@ -42,52 +31,6 @@ unfolding apply
 each_heard m c call P live stale here =
     by_test P (has m.removed c.0) (replies.Removed, m) _ (λ r. no_truth (has m.removed c.0) r live)
     (λ r. by_test P (call.known == m.removed) (row m c call.act) (replies.Stale m.removed, m) (λ k. here) (λ k. stale))
-
--- What holds of each thing that a system of the ring can prepare holds of what it prepares.
-pub each_prepared : (deck : Deck) (n : NodeState) (P : Choice → Prepared → Type 0) → n.star ≡ None →
-    ((t : TaskId) → may_go deck n t ≡ true → P (choices.Task t) Quiet) →
-    P choices.Turn (Call (record { known = n.known; act = acts.Turn (take most_additions n.outbox) })) →
-    P choices.Rest (Call (record { known = n.known; act = acts.Rest })) →
-    (next_order deck n ≡ Some orders.Star
-    → P choices.Switch (Call (record { known = n.known; act = acts.Switch (own_words deck n) })))
-    →
-    ((t : SysId) → next_order deck n ≡ Some (orders.Vary t)
-    → P (choices.Purge t) (Call (record { known = n.known; act = acts.Purge t })))
-    →
-    ((choice : Choice) → P choice Nothing) →
-    (choice : Choice) → P choice (prepare deck n choice)
-each_prepared deck n P alone task turn rest switch purge nothing choice =
-    subst (P choice) (sym (prepare-ring deck n choice alone)) (go choice)
-  where
-    by_order : (o : Option Order) → next_order deck n ≡ o → P choices.Switch (switch_call deck n o)
-    by_order None e = nothing choices.Switch
-    by_order (Some orders.Star) e = switch e
-    by_order (Some (orders.Vary t)) e = nothing choices.Switch
-
-    by_target : (t : SysId) (o : Option Order) → next_order deck n ≡ o → P (choices.Purge t) (purge_call n t o)
-    by_target t None e = nothing (choices.Purge t)
-    by_target t (Some orders.Star) e = nothing (choices.Purge t)
-    by_target t (Some (orders.Vary named)) e =
-        by_test (P (choices.Purge t)) (named.0 == t.0) (Call (record { known = n.known; act = acts.Purge t })) Nothing
-        (λ same.
-        purge t (e
-        ∙ ap (λ (k : ℕ). let z : SysId = record { 0 = k } in Some (orders.Vary z)) (eqb-true named.0 t.0 same)))
-        (λ away. nothing (choices.Purge t))
-
-    go : (c : Choice) → P c (ring_prepare deck n c)
-    go (choices.Task t) =
-        by_test (P (choices.Task t)) (may_go deck n t) Quiet Nothing (λ m. task t m) (λ m. nothing (choices.Task t))
-    go choices.Turn = turn
-    go choices.Rest =
-        by_test (P choices.Rest) (is_pending deck n) Nothing (Call (record { known = n.known; act = acts.Rest }))
-        (λ p. nothing choices.Rest) (λ p. rest)
-    go (choices.Send t) = nothing (choices.Send t)
-    go choices.Take = nothing choices.Take
-    go choices.Settle = nothing choices.Settle
-    go (choices.Tell e) = nothing (choices.Tell e)
-    go (choices.Leave e) = nothing (choices.Leave e)
-    go choices.Switch = by_order (next_order deck n) refl
-    go (choices.Purge t) = by_target t (next_order deck n) refl
 
 -- What holds where an event is only counted, and where a live system made its choice, holds behind the event.
 pub each_live : (deck : Deck) (w : World) (e : Event) (P : World → Type 0) → P (counted w) →

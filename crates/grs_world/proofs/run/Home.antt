@@ -20,7 +20,8 @@ use Rattle.rsa_message.specs.Message.{Message, stands_at, opened, never_opened, 
 use Rattle.rsa_message.specs.Message.{closed_by, turned, turned_closed}
 use Rattle.grs_known.proofs.lists.Facts.{all-behind, take-none}
 use Rattle.grs_world.specs.World.{World, Turnout, placed, happens, run, first_world}
-use Rattle.grs_world.proofs.run.InRing.{Came, IsRing, changed, each_came, each_in_star, informed, live-there, no_such}
+use Rattle.grs_world.proofs.run.InRing.{CameInRing, IsRing, changed, each_in_ring, each_in_star, informed, live-there}
+use Rattle.grs_world.proofs.run.InRing.{no_such}
 use Rattle.grs_world.proofs.run.InRing.{nothing, removes_one, turn, went_on}
 use Rattle.grs_world.proofs.run.Laps.{turned_shut}
 use Rattle.grs_world.proofs.move.Changing.{IsChanging}
@@ -72,10 +73,10 @@ module _ (deck : Deck) (fits : may_be_star deck ≡ true → FitsStar deck) wher
         → AllHome (happens deck (run deck es) e).medium.message.entries
     unfolding placed closed_by dropped
     in_ring_next ring g =
-        each_came deck (run deck es) e (λ (x : World). AllHome x.medium.message.entries) ring h by_case
+        each_in_ring deck (run deck es) e (λ (x : World). AllHome x.medium.message.entries) ring h by_case
       where
         by_case : (n : NodeState) (o : Turnout) → slice_get (run deck es).nodes e.system.0 ≡ Some n
-            → has (run deck es).medium.removed e.system.0 ≡ false → Came deck (run deck es) e.system n o
+            → has (run deck es).medium.removed e.system.0 ≡ false → CameInRing deck (run deck es) e.system n o
             → AllHome o.medium.message.entries
         by_case n o at alive (nothing flags) = h
         by_case n o at alive (went_on t m) = h
@@ -88,7 +89,7 @@ module _ (deck : Deck) (fits : may_be_star deck ≡ true → FitsStar deck) wher
             (all-behind (λ q. is_home_at deck e.system.0 q.task) (own_requests e.system.0 (g.later e.system.0)) n.outbox
             (g.systems e.system.0 n at (live-there deck (run deck es) ring e.system.0 n at alive)).homes))
         by_case n o at alive (changed next idle) = h
-        by_case n o at alive informed = h
+        by_case n o at alive (informed known) = h
         by_case n o at alive (removes_one target next there) =
             home_append (cleared target (run deck es).medium.message.entries) _
             (home_cleared target (run deck es).medium.message.entries h) (tt, tt)

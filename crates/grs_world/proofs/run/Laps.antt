@@ -43,7 +43,8 @@ use Rattle.lock_structure.specs.declared.word.Route.{Route}
 use Rattle.lock_structure.specs.declared.word.Route.TheVariants as routes
 use Rattle.grs_node.specs.declared.prepared.Prepared.{Prepared}
 use Rattle.grs_node.specs.declared.prepared.Prepared.TheVariants.{Call, Nothing, Quiet}
-use Rattle.grs_world.proofs.run.InRing.{Came, IsRing, changed, each_came, each_in_star, informed, is_ring, live-there}
+use Rattle.grs_world.proofs.run.InRing.{CameInRing, IsRing, changed, each_in_ring, each_in_star, informed, is_ring}
+use Rattle.grs_world.proofs.run.InRing.{live-there}
 use Rattle.grs_world.proofs.run.InRing.{no_such, nothing, removes_one, star-stays, turn, went_on}
 use Rattle.grs_world.proofs.run.Purges.{star_keeps}
 
@@ -121,7 +122,7 @@ ring_goes : (deck : Deck) (w : World) (e : Event) → IsRing deck w → WaitsFor
     → Goes (length deck.systems) w.medium → Goes (length deck.systems) (happens deck w e).medium
 unfolding placed closed_by dropped
 ring_goes deck w e ring waits g =
-    each_came deck w e (λ (x : World). Goes (length deck.systems) x.medium) ring
+    each_in_ring deck w e (λ (x : World). Goes (length deck.systems) x.medium) ring
     (record { round = g.round; closed = g.closed; around = g.around })
     (λ n o at alive came. by_case n o (live-there deck w ring e.system.0 n at alive) came)
   where
@@ -151,11 +152,11 @@ ring_goes deck w e ring waits g =
           around = g.around;
         }
 
-    by_case : (n : NodeState) (o : Turnout) → has (live w.medium) e.system.0 ≡ true → Came deck w e.system n o
+    by_case : (n : NodeState) (o : Turnout) → has (live w.medium) e.system.0 ≡ true → CameInRing deck w e.system n o
         → Goes (length deck.systems) o.medium
     by_case n o alive (nothing flags) = record { round = g.round; closed = g.closed; around = g.around }
     by_case n o alive (went_on t may) = g
-    by_case n o alive informed = g
+    by_case n o alive (informed known) = g
     by_case n o alive (no_such target next gone) = g
     by_case n o alive (removes_one target next there) = without_one target there
     by_case n o alive (turn flags here) = record {

@@ -70,7 +70,8 @@ use Rattle.grs_wire.specs.declared.told.Said.{Said}
 use Rattle.grs_wire.specs.declared.told.Said.TheVariants as saids
 use Rattle.grs_wire.specs.declared.told.Told.{Told}
 use Rattle.std.proofs.lemmas.Option.{slice_get_within}
-use Rattle.grs_world.proofs.run.InRing.{Came, IsRing, changed, each_came, informed, live-there, no_such, nothing}
+use Rattle.grs_world.proofs.run.InRing.{CameInRing, IsRing, changed, each_in_ring, informed, live-there, no_such}
+use Rattle.grs_world.proofs.run.InRing.{nothing}
 use Rattle.grs_world.proofs.run.InRing.{removes_one, turn, went_on}
 use Rattle.grs_world.proofs.run.Removals.{taken_out}
 use Rattle.grs_world.proofs.run.Sound.{removed-told}
@@ -295,10 +296,10 @@ module _ (deck : Deck) (begins : deck.star ≡ false) (fits : may_be_star deck �
     given : Bodies (fixeds (g.later e.system.0)) (unseen e.system w.medium.message.entries)
     given = given-later w.medium e.system g.before (g.later s) (items w.fixed) (g.whole s) alive_here g.message
 
-    right : (o : Turnout) → Came deck w e.system n o → Right (placed w e.system n o)
+    right : (o : Turnout) → CameInRing deck w e.system n o → Right (placed w e.system n o)
     unfolding placed
     right o (nothing flags) = by_nothing n alive_here (g.later s) given o refl
-    right o informed = by_nothing n alive_here (g.later s) given o refl
+    right o (informed known) = by_nothing n alive_here (g.later s) given o refl
     right o (removes_one target next lives) =
         by_desk n alive_here (g.later s) given o (n.done + 1) saids.VaryDone (removed-told n target)
     right o (no_such target next gone) =
@@ -363,7 +364,7 @@ module _ (deck : Deck) (begins : deck.star ≡ false) (fits : may_be_star deck �
           → Right (placed w e.system n o)
       late_right n at h o (nothing_late flags) tells =
           by_nothing n (lives_at n at) (g.due s) (given_star (lives_at n at)) o refl
-      late_right n at h o informed_late tells =
+      late_right n at h o (informed_late known) tells =
           by_nothing n (lives_at n at) (g.due s) (given_star (lives_at n at)) o refl
       late_right n at h o (task_late task may) tells =
           by_quiet n (lives_at n at) (g.due s) (given_star (lives_at n at)) (items w.fixed) (g.before s)
@@ -424,7 +425,8 @@ module _ (deck : Deck) (begins : deck.star ≡ false) (fits : may_be_star deck �
           cc)
 
       by_run : GoodRun deck es w → Right (happens deck w e)
-      by_run (in_ring z ring g d) = each_came deck w e Right ring idle (λ n o at alive c. right ring g n at alive o c)
+      by_run (in_ring z ring g d) =
+          each_in_ring deck w e Right ring idle (λ n o at alive c. right ring g n at alive o c)
       by_run (in_star f g told d) = each_live deck w e Right idle (λ n at alive. star_right f g alive n at)
 
 pub answered_last : (deck : Deck) → deck.star ≡ false → (may_be_star deck ≡ true → FitsStar deck)

@@ -71,7 +71,7 @@ module _ (deck : Deck) where
   taken_next : (w : World) (e : Event) → AreTakenOut w → AreTakenOut (happens deck w e)
   unfolding placed purged
   taken_next w e g =
-      each_event deck w e AreTakenOut g (λ n at. by_event n (what_removes deck w.medium e.system n e.choice))
+      each_live deck w e AreTakenOut g (λ n at alive. by_event n (what_removes deck w.medium e.system n alive e.choice))
     where
       grown : (o : Turnout) (s : SysId)
           → takes_out s (w.fixed ++ fixed_by e.system o.step.fixed)
@@ -238,7 +238,7 @@ module _ (deck : Deck) where
         (λ h. absurd (let none : false ≡ true = ap (purges s target) (sym (dropped-all w.fixed)) ∙ h in cc))
         (λ n at alive.
         by_event n at alive (chosen deck w.medium e.system n e.choice)
-        (what_removes deck w.medium e.system n e.choice)))
+        (what_removes deck w.medium e.system n alive e.choice)))
 
   pub removals_told : ((vs : List Event) → AreHome vs) → (es : List Event) (e : ℕ)
       → RemovalsTold deck e (fixed_in deck es e) (run deck es).told

@@ -8,12 +8,11 @@ use Rattle.grs_base.specs.Lists.{owns}
 use Rattle.grs_base.specs.State.{State, list_of, is_of_other, is_systems, remove_state}
 use Rattle.grs_base.specs.declared.resource.SysId.{SysId}
 use Rattle.grs_medium.specs.Apply.{reply_to}
-use Rattle.grs_node.specs.Node.{NodeState, Step, finish, finish_call, prepare, purged}
+use Rattle.grs_node.specs.Node.{NodeState, prepare}
 use Rattle.grs_node.specs.declared.prepared.Prepared.{Prepared}
 use Rattle.grs_node.specs.declared.prepared.Prepared.TheVariants.{Quiet, Call, Nothing}
 use Rattle.grs_wire.specs.History.{replay, answered}
 use Rattle.grs_wire.specs.Masks.{has}
-use Rattle.grs_wire.specs.declared.deck.Choice.TheVariants as choices
 use Rattle.grs_wire.specs.declared.deck.Deck.{Deck}
 use Rattle.grs_wire.specs.declared.deck.Event.{Event}
 use Rattle.grs_wire.specs.declared.history.HistEntry.TheVariants.{Remove}
@@ -28,9 +27,9 @@ use Rattle.grs_known.specs.Items.{history, items, items_from, lists}
 use Rattle.grs_world.specs.Removing.{IsAnswered, OthersStay, RemovalsAreEntries, RemovalsKeepOthers, call_at, call_in}
 use Rattle.grs_world.specs.Removing.{reply_by}
 use Rattle.grs_world.specs.Running.{is_live}
-use Rattle.grs_world.specs.World.{World, Turnout, carry_out, chosen, counted, fixed_by, first_world, happens}
-use Rattle.grs_world.specs.World.{happens_at, hist, placed, run}
-use Rattle.grs_world.proofs.run.Each.{run-push}
+use Rattle.grs_world.specs.World.{World, fixed_by, hist, run}
+use Rattle.grs_world.specs.Fixing.{fixed_by_event, fixed_by_reply, fixed_more, when_purged}
+use Rattle.grs_world.proofs.run.Fixing.{event_fixes}
 
 -- ---- an event that is answered that a system was removed
 module _ (deck : Deck) (es : List Event) (e : Event) (target : SysId)
@@ -38,40 +37,33 @@ module _ (deck : Deck) (es : List Event) (e : Event) (target : SysId)
   abbrev w : World
   w = run deck es
 
-  step_is : (n : NodeState) (p : Prepared) → reply_by w.medium e.system (call_in p) ≡ Some replies.Purged
-      → (carry_out deck w.medium e.system n e.choice p).step ≡ purged n (choices.Purge target)
-  unfolding carry_out finish finish_call
-  step_is n Quiet h = absurd (cc)
-  step_is n Nothing h = absurd (cc)
-  step_is n (Call call) h =
-      ap (λ r. finish deck n e.choice (Some r)) (same_Some (reply_to w.medium e.system call) replies.Purged h)
-      ∙ ap (purged n) is.0
-
-  fixed_one : (n : NodeState) (o : Turnout) → o.step ≡ purged n (choices.Purge target)
-      → (placed w e.system n o).fixed ≡ w.fixed ++ fixed_by e.system (Purged target ∷ [])
-  unfolding placed purged
-  fixed_one n o step = ap (λ (st : Step). w.fixed ++ fixed_by e.system st.fixed) step
+  by_prepared : (n : NodeState) (p : Prepared) → reply_by w.medium e.system (call_in p) ≡ Some replies.Purged
+      → fixed_by_event deck w.medium e.system n e.choice p ≡ Purged target ∷ []
+  by_prepared n Quiet h = absurd (cc)
+  by_prepared n Nothing h = absurd (cc)
+  by_prepared n (Call call) h =
+      ap (fixed_by_reply n e.choice) (same_Some (reply_to w.medium e.system call) replies.Purged h)
+      ∙ ap when_purged is.0
 
   by_node : (o : Option NodeState) → reply_by w.medium e.system (call_at deck w e o) ≡ Some replies.Purged
-      → (happens_at deck w e o).fixed ≡ w.fixed ++ fixed_by e.system (Purged target ∷ [])
-  unfolding happens_at chosen
+      → fixed_more deck w e (cond (has w.medium.removed e.system.0) None o) ≡ fixed_by e.system (Purged target ∷ [])
   by_node None h = absurd (cc)
   by_node (Some n) h = go (is_live w e.system) refl h
     where
       go : (b : Bool) → is_live w e.system ≡ b
           → reply_by w.medium e.system (cond b (call_in (prepare deck n e.choice)) None) ≡ Some replies.Purged
-          → (happens_at deck w e (Some n)).fixed ≡ w.fixed ++ fixed_by e.system (Purged target ∷ [])
+          → fixed_more deck w e (cond (has w.medium.removed e.system.0) None (Some n))
+          ≡ fixed_by e.system (Purged target ∷ [])
       go false live k = absurd (cc)
       go true live k =
           let there : has w.medium.removed e.system.0 ≡ false =
           not-true _ (and_parts (nat_lt e.system.0 (length w.nodes)) (not (has w.medium.removed e.system.0)) live).1 in
-          ap (λ b. (cond b (counted w) (placed w e.system n (chosen deck w.medium e.system n e.choice))).fixed) there
-          ∙ fixed_one n (chosen deck w.medium e.system n e.choice) (step_is n (prepare deck n e.choice) k)
+          ap (λ b. fixed_more deck w e (cond b None (Some n))) there
+          ∙ ap (fixed_by e.system) (by_prepared n (prepare deck n e.choice) k)
 
   fixed_now : (run deck (es ++ e ∷ [])).fixed ≡ w.fixed ++ fixed_by e.system (Purged target ∷ [])
-  unfolding happens
   fixed_now =
-      ap (λ (x : World). x.fixed) (run-push deck es (first_world deck) e) ∙ by_node (slice_get w.nodes e.system.0) is.1
+      event_fixes deck es e ∙ ap (λ fs. w.fixed ++ fs) (by_node (slice_get w.nodes e.system.0) is.1)
 
   pub entry_now : hist deck (es ++ e ∷ []) ≡ hist deck es ++ Remove e.system target ∷ []
   entry_now =

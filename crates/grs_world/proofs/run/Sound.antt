@@ -10,8 +10,8 @@ use Rattle.grs_base.specs.declared.resource.TaskId.{TaskId}
 use Rattle.grs_legal.specs.Legal.{Legal}
 use Rattle.grs_medium.specs.Apply.{is_live}
 use Rattle.grs_medium.specs.Medium.{MediumState, live, first_medium}
-use Rattle.grs_node.specs.Node.{NodeState, Step, desk_told, finish_quiet, purged, read_entries, put_in, may_go}
-use Rattle.grs_node.specs.Node.{first_node, only}
+use Rattle.grs_node.specs.Node.{NodeState, Step, desk_told, purged, read_entries, put_in, may_go, first_node, only}
+use Rattle.grs_node.specs.Node.{task_step}
 use Rattle.grs_base.specs.Limits.{most_additions}
 use Rattle.grs_wire.specs.Masks.{has}
 use Rattle.grs_wire.specs.declared.deck.Deck.{Deck}
@@ -49,8 +49,8 @@ use Rattle.grs_known.proofs.system.Says.{own_requests, is_line_of}
 use Rattle.grs_legal.specs.Asks.{lines_of}
 use Rattle.grs_node.proofs.Keeping.{stays-task, stays-turned}
 use Rattle.grs_wire.specs.declared.request.Fixed.{Fixed}
-use Rattle.grs_world.proofs.run.InRing.{Came, IsRing, changed, informed, live-there, no_such, nothing, removes_one}
-use Rattle.grs_world.proofs.run.InRing.{turn, went_on}
+use Rattle.grs_world.proofs.run.InRing.{CameInRing, IsRing, changed, informed, live-there, no_such, nothing}
+use Rattle.grs_world.proofs.run.InRing.{removes_one, turn, went_on}
 use Rattle.grs_world.proofs.run.Desks.{EventTells, tells_no_such, tells_removed, tells_tasks}
 use Rattle.grs_world.proofs.run.Growing.{fixeds, grows-items}
 use Rattle.grs_known.proofs.told.News.{ToldNews}
@@ -132,14 +132,15 @@ module _ (deck : Deck) (es : List Event) (e : Event) (ring : IsRing deck (run de
     nothing_outcome = still_outcome deck c P (g.before s) (g.later s) g.history (g.whole s) n n refl seen
 
     task_outcome : (t : TaskId) → may_go deck n t ≡ true
-        → Outcome deck e.system P n (g.before e.system.0) (g.later e.system.0) [] (finish_quiet deck n (choices.Task t))
+        → Outcome deck e.system P n (g.before e.system.0) (g.later e.system.0) []
+        (task_step deck.limit n t (lines_of deck t))
     task_outcome t may =
-        quiet_outcome deck c P (g.before s) (g.later s) g.history (g.whole s) n (finish_quiet deck n (choices.Task t))
+        quiet_outcome deck c P (g.before s) (g.later s) g.history (g.whole s) n
+        (task_step deck.limit n t (lines_of deck t))
         (quiet deck s c P (g.before s) (g.later s) (own_requests s (g.later s)) n t g.history seen
         may)
 
-    task_done : (t : TaskId) → (finish_quiet deck n (choices.Task t)).node.done ≡ n.done
-    unfolding finish_quiet
+    task_done : (t : TaskId) → (task_step deck.limit n t (lines_of deck t)).node.done ≡ n.done
     task_done t = (stays-task deck.limit n t (lines_of deck t)).done
 
     given : Bodies (fixeds (g.later e.system.0)) (unseen e.system (run deck es).medium.message.entries)
@@ -180,24 +181,23 @@ module _ (deck : Deck) (es : List Event) (e : Event) (ring : IsRing deck (run de
         (message-turned w.medium m c out w.medium.rest g.before g.later P g.whole refl refl g.message))
 
     -- it is told which systems were removed
-    informed_outcome :
-        Outcome deck e.system P n (g.before e.system.0) (g.later e.system.0) []
-        (only (record n { known = (run deck es).medium.removed }))
-    informed_outcome =
-        still_outcome deck c P (g.before s) (g.later s) g.history (g.whole s) n (record n { known = w.medium.removed })
-        refl (seen-known deck s P (g.before s) (g.later s) (own_requests s (g.later s)) n w.medium.removed seen)
+    informed_outcome : (known : ℕ) →
+        Outcome deck e.system P n (g.before e.system.0) (g.later e.system.0) [] (only (record n { known = known }))
+    informed_outcome known =
+        still_outcome deck c P (g.before s) (g.later s) g.history (g.whole s) n (record n { known = known }) refl
+        (seen-known deck s P (g.before s) (g.later s) (own_requests s (g.later s)) n known seen)
 
     -- whatever came of it, but the change to star mode
-    pub good_came : (o : Turnout) → Came deck (run deck es) e.system n o → o.medium.star ≡ false
+    pub good_came : (o : Turnout) → CameInRing deck (run deck es) e.system n o → o.medium.star ≡ false
         → GoodTold deck (es ++ e ∷ []) (placed (run deck es) e.system n o) → Leads o
     good_came o (nothing flags) mode told =
         quiet_push (record w.medium { rest = flags }) (only n) refl refl nothing_outcome
     good_came o (went_on t may) mode told =
-        quiet_push w.medium (finish_quiet deck n (choices.Task t)) refl refl (task_outcome t may)
+        quiet_push w.medium (task_step deck.limit n t (lines_of deck t)) refl refl (task_outcome t may)
     good_came o (turn flags here) mode told = good_turn flags
     good_came o (changed next idle) mode told = absurd (cc)
-    good_came o informed mode told =
-        quiet_push w.medium (only (record n { known = w.medium.removed })) refl refl informed_outcome
+    good_came o (informed known) mode told =
+        quiet_push w.medium (only (record n { known = known })) refl refl (informed_outcome known)
     good_came o (removes_one target next there) mode
         told = λ is. removed_world deck es e ring g n at alive target next there told
     good_came o (no_such target next gone) mode
@@ -213,22 +213,22 @@ module _ (deck : Deck) (es : List Event) (e : Event) (ring : IsRing deck (run de
         (sym (grows-items w.fixed o.grows)) o.news)
         done mode
 
-    pub came_tells : (o : Turnout) → Came deck (run deck es) e.system n o → o.medium.star ≡ false
+    pub came_tells : (o : Turnout) → CameInRing deck (run deck es) e.system n o → o.medium.star ≡ false
         → EventTells deck e.system (history (items ((run deck es).fixed ++ fixed_by e.system o.step.fixed)))
         o.step.fixed n o.step.node (run deck es).medium.star o.medium.star
     came_tells o (nothing flags) mode =
         tells (record w.medium { rest = flags }) (only n) (g.before s) (g.later s) [] refl refl nothing_outcome
     came_tells o (went_on t may) mode =
-        tells w.medium (finish_quiet deck n (choices.Task t)) (g.before s) (g.later s) [] refl (task_done t)
+        tells w.medium (task_step deck.limit n t (lines_of deck t)) (g.before s) (g.later s) [] refl (task_done t)
         (task_outcome t may)
     came_tells o (turn flags here) mode =
         tells o.medium o.step (rounds P) puts_new (map Asked (take (length (take most_additions n.outbox)) n.outbox))
         refl (stays-turned deck n (unseen c w.medium.message.entries) (length (take most_additions n.outbox))).done
         turned_outcome
     came_tells o (changed next idle) mode = absurd (cc)
-    came_tells o informed mode =
-        tells w.medium (only (record n { known = w.medium.removed })) (g.before s) (g.later s) [] refl refl
-        informed_outcome
+    came_tells o (informed known) mode =
+        tells w.medium (only (record n { known = known })) (g.before s) (g.later s) [] refl refl
+        (informed_outcome known)
     came_tells o (removes_one target next there) mode =
         tells_removed target next (removed-told n target) (removed-done n target) refl (removed-fixed n target)
     came_tells o (no_such target next gone) mode =

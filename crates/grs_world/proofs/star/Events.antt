@@ -1,10 +1,10 @@
 -- Each event of a system in star mode keeps what is said of words, roles and lists.
 use Rattle.std.proofs.Common.{◌≡◌, ◌≢◌, ◌<◌, ℕ, Bool, true, false, cond, not, ◌&&◌, ◌||◌, List, [], ◌∷◌, ◌++◌, length}
 use Rattle.std.proofs.Common.{Option, Some, None, refl, ap, sym, ◌∙◌, subst, arith}
-use Rattle.std.specs.Prelude.{drop, ◌==◌, is_some, slice_get, slice_set, unwrap_or}
+use Rattle.std.specs.Prelude.{drop, ◌==◌, is_some, slice_get, unwrap_or}
 use Rattle.std.specs.List.{list_any}
 use Rattle.std.proofs.lemmas.Bool.{and_parts, eqb-true, eq-eqb, ne_eqb}
-use Rattle.std.proofs.lemmas.List.{length-set, set-get_or}
+use Rattle.std.proofs.lemmas.List.{length-set}
 use Rattle.std.proofs.Math.Bool.{or-false, and-true, and-false, or-true}
 use Rattle.contention_mgr.specs.Manager.{Ranked, plain, items_of, no_elements, entry_wanted, managed_at, kept_for}
 use Rattle.contention_mgr.specs.Manager.{after_request}
@@ -15,64 +15,48 @@ use Rattle.grs_base.specs.declared.resource.Res.{Res}
 use Rattle.grs_base.specs.declared.resource.SysId.{SysId}
 use Rattle.grs_base.specs.declared.resource.TaskId.{TaskId}
 use Rattle.grs_legal.specs.Asks.{lines_of}
-use Rattle.grs_medium.specs.Apply.{row, is_live, purge_row, without_system, submit_row, submit_on, joined, take_row}
-use Rattle.grs_medium.specs.Apply.{take_from, mail_row, leave_row, rest_row, resting, manages as manages_word}
-use Rattle.grs_medium.specs.Apply.{switch_ring, switch_row}
 use Rattle.grs_medium.specs.Inboxes.{with_mail, without_first}
-use Rattle.grs_medium.specs.Medium.{MediumState, inbox, awake, all_rest, medium_at_end}
-use Rattle.grs_node.specs.Node.{NodeState, only, purge_call, prepare, prepared_by, star_call, star_need, may_go}
-use Rattle.grs_node.specs.Node.{may_send, is_pending, finish, finish_quiet, finish_call, finish_star, with_star}
-use Rattle.grs_node.specs.Node.{send_own, turn_call, is_for_deck, desk_told, next_order, own_words, switch_call}
-use Rattle.grs_node.specs.Star.{StarPart, StarStep, request_of, entry_for, entry_asked, manages, has_interest}
-use Rattle.grs_node.specs.Star.{with_interest, serves, answer_for, rank_of, to_tell, first_held, may_leave, is_busy_in}
-use Rattle.grs_node.specs.Star.{is_done_with, send_to, send_of, settle_by, tell_by, fixing_none, decide_own, own_step}
-use Rattle.grs_node.specs.Star.{begun, begin_at, sent_to, with_held, took_mail, settled_first, settled_by, told_by}
-use Rattle.grs_node.specs.Star.{left_at}
+use Rattle.grs_medium.specs.Medium.{MediumState, awake}
+use Rattle.grs_node.specs.Node.{NodeState, only, with_star, is_for_deck, desk_told, take_mail, task_step}
+use Rattle.grs_node.specs.Star.{StarPart, StarStep, request_of, entry_for, manages, has_interest, with_interest, serves}
+use Rattle.grs_node.specs.Star.{answer_for, rank_of, may_leave, is_busy_in, is_done_with, fixing_none, decide_own}
+use Rattle.grs_node.specs.Star.{begun, with_held, took_mail, settled_first, told_by, left_at}
 use Rattle.lock_structure.specs.Entries.{is_entry}
-use Rattle.grs_node.specs.declared.star.Need.{Need}
-use Rattle.grs_node.specs.declared.star.Need.TheVariants.{Alone, Asks, Idle}
-use Rattle.grs_node.specs.declared.prepared.Prepared.TheVariants.{Quiet, Call, Nothing}
-use Rattle.grs_wire.specs.LockWords.{manager, is_manager, lock_word, epoch, leave_reply, is_kept, leave_changes}
-use Rattle.grs_wire.specs.LockWords.{left_word, interest}
-use Rattle.grs_wire.specs.Masks.{has, without}
+use Rattle.grs_wire.specs.LockWords.{manager, is_manager, leave_reply, interest}
+use Rattle.grs_wire.specs.Masks.{has}
 use Rattle.grs_wire.specs.Wants.{after_want}
 use Rattle.grs_wire.specs.declared.deck.Choice.{Choice}
-use Rattle.grs_wire.specs.declared.deck.Choice.TheVariants as choices
 use Rattle.grs_wire.specs.declared.deck.Deck.{Deck}
-use Rattle.grs_wire.specs.declared.medium.Act.{Act}
-use Rattle.grs_wire.specs.declared.medium.Act.TheVariants as acts
 use Rattle.grs_wire.specs.declared.medium.Mail.{Mail}
 use Rattle.grs_wire.specs.declared.medium.Mail.TheVariants as mails
-use Rattle.grs_wire.specs.declared.medium.Reply.{Reply}
 use Rattle.grs_wire.specs.declared.medium.Reply.TheVariants as replies
 use Rattle.grs_wire.specs.declared.request.Fixed.{Fixed}
 use Rattle.grs_wire.specs.declared.request.Fixed.TheVariants as fixes
 use Rattle.grs_wire.specs.declared.request.Req.{Req}
 use Rattle.grs_wire.proofs.WantLaws.{by_test}
 use Rattle.lock_structure.specs.Laws.{is_interested, manager_at}
-use Rattle.lock_structure.specs.Words.{word_at, route, route_by, submitted_words, left_words}
-use Rattle.lock_structure.specs.declared.word.Route.TheVariants as routes
+use Rattle.lock_structure.specs.Words.{word_at, submitted_words, left_words}
 use Rattle.lock_structure.proofs.LawProofs.{submit_keeps_all_managed, leave_keeps_all_managed, submit_joins}
-use Rattle.lock_structure.proofs.LawProofs.{submit_manages, leave_parts, leave_manages, kept_changes_nothing}
-use Rattle.task_state.specs.View.{TasksView, state_of, with_phase}
+use Rattle.lock_structure.proofs.LawProofs.{submit_manages, leave_parts, leave_manages}
+use Rattle.task_state.specs.View.{TasksView, with_phase}
 use Rattle.task_state.specs.declared.state.Phase.TheVariants as phases
 use Rattle.task_state.specs.declared.state.Asked.{Asked}
 use Rattle.grs_known.proofs.lists.Truths.{no_truth}
-use Rattle.grs_world.specs.World.{World, Turnout, idle, carry_out, chosen}
+use Rattle.grs_world.specs.World.{World, Turnout, chosen}
 use Rattle.grs_world.proofs.star.Members.{IsPart, IsMember, IsStar, IsStep, Moves, has_manager, all_lists, lists_after}
 use Rattle.grs_world.proofs.star.Members.{stays}
 use Rattle.grs_world.proofs.star.Roles.{part-settled, part-told, part-held, part-interest, part-place, part-left}
 use Rattle.grs_world.proofs.star.Roles.{want-within, interest-within}
 use Rattle.grs_world.proofs.star.Tasks.{task-quiet}
 use Rattle.grs_world.proofs.star.Under.{under, under-other}
-use Rattle.grs_wire.specs.declared.deck.Order.TheVariants as orders
-use Rattle.grs_wire.specs.declared.deck.Order.{Order}
 use Rattle.grs_known.proofs.lists.Alike.{Alike, alike-itself, alike-none}
-use Rattle.grs_world.proofs.run.Each.{each_heard}
 use Rattle.grs_wire.specs.declared.told.Said.{Said}
 use Rattle.grs_wire.specs.declared.told.Said.TheVariants as saids
-use Rattle.rsa_message.specs.Message.{first_number}
-use Rattle.grs_wire.specs.Unseen.{unseen}
+use Rattle.grs_world.proofs.run.Came.{Acts, Came, acted, already, began, changed, decided, informed, last_turn, left}
+use Rattle.grs_world.proofs.run.Came.{rejoined, no_part, no_such, nothing, refused, removes_one, sent, settled, told}
+use Rattle.grs_world.proofs.run.Came.{took, turn, went_on, Result}
+use Rattle.std.proofs.lemmas.Option.{same_Some}
+use Rattle.grs_world.proofs.run.Chosen.{came}
 
 module _ (deck : Deck) (some : 0 < deck.entries) (w : World) (c : SysId) (few : c.0 < most_systems) (n : NodeState)
     (at : slice_get w.nodes c.0 ≡ Some n) (alive : has w.medium.removed c.0 ≡ false) (g : IsStar deck w)
@@ -114,8 +98,9 @@ module _ (deck : Deck) (some : 0 < deck.entries) (w : World) (c : SysId) (few : 
       Leads (record { medium = med w.medium.words boxes flags; step = with_star n (fixing_none v q) })
   still boxes flags v q same k = step words boxes flags v q [] same (stays deck w c.0 g) k
 
-  good_idle : Leads (idle w.medium n)
-  good_idle = record {
+  -- ---- nothing but a flag of rest, or it is told which systems were removed
+  good_nothing : (flags : ℕ) → Leads (record { medium = record w.medium { rest = flags }; step = only n })
+  good_nothing flags = record {
     mode = g.mode;
     removed = refl;
     inboxes = refl;
@@ -124,21 +109,8 @@ module _ (deck : Deck) (some : 0 < deck.entries) (w : World) (c : SysId) (few : 
     member = me;
   }
 
-  -- what an event comes to by what it needs
-  abbrev Needs : Choice → Need → Type 0
-  Needs choice need = Leads (carry_out deck w.medium c n choice (prepared_by n.known need))
-
-  abbrev LeadsBy : Choice → Reply × MediumState → Type 0
-  LeadsBy choice a = Leads (record { medium = a.1; step = finish deck n choice (Some a.0) })
-
-  good_none : (choice : Choice) → Needs choice Idle
-  unfolding carry_out
-  good_none choice = good_idle
-
-  -- a system is told which were removed
-  good_known : (choice : Choice) → LeadsBy choice (replies.Stale w.medium.removed, w.medium)
-  unfolding finish finish_call
-  good_known choice = record {
+  good_known : (known : ℕ) → Leads (record { medium = w.medium; step = only (record n { known = known }) })
+  good_known known = record {
     mode = g.mode;
     removed = refl;
     inboxes = refl;
@@ -147,38 +119,11 @@ module _ (deck : Deck) (some : 0 < deck.entries) (w : World) (c : SysId) (few : 
     member = record { part = me.part; star = me.star; outbox = me.outbox; fits = me.fits };
   }
 
-  called : (choice : Choice) (act : Act) → LeadsBy choice (row w.medium c act)
-      → Leads (carry_out deck w.medium c n choice (Call (record { known = n.known; act = act })))
-  unfolding carry_out
-  called choice act h =
-      each_heard w.medium c (record { known = n.known; act = act }) (LeadsBy choice) alive (good_known choice) h
-
-  -- the reply to a call is finished by the system's part
-  finished : (m : MediumState) (choice : Choice) (reply : Reply)
-      → Leads (record { medium = m; step = finish_star deck n (Some me.part) choice reply })
-      → Leads (record { medium = m; step = finish_star deck n n.star choice reply })
-  finished m choice reply h =
-      subst (λ o. Leads (record { medium = m; step = finish_star deck n o choice reply })) (sym me.star) h
-
-  -- ---- Rest
-  good_rest : LeadsBy choices.Rest (row w.medium c acts.Rest)
-  unfolding row rest_row finish finish_call finish_star
-  good_rest =
-      by_test (λ r. LeadsBy choices.Rest (r, resting w.medium c))
-      (all_rest (resting w.medium c) && medium_at_end (resting w.medium c)) replies.Over replies.Resting
-      (λ h.
-      finished (resting w.medium c) choices.Rest replies.Over
-      (still w.medium.inboxes (resting w.medium c).rest n.tasks p refl me.fits))
-      (λ h.
-      finished (resting w.medium c) choices.Rest replies.Resting
-      (still w.medium.inboxes (resting w.medium c).rest n.tasks p refl me.fits))
-
   -- ---- a task goes on
-  good_task : (t : TaskId) → Leads (record { medium = w.medium; step = finish deck n (choices.Task t) None })
-  unfolding finish finish_quiet
+  good_task : (t : TaskId) → Leads (record { medium = w.medium; step = task_step deck.limit n t (lines_of deck t) })
   good_task t =
       let k = task-quiet p n me.star deck.limit t (lines_of deck t) in
-      let st = finish_quiet deck n (choices.Task t) in
+      let st = task_step deck.limit n t (lines_of deck t) in
       record {
         mode = g.mode;
         removed = refl;
@@ -251,55 +196,45 @@ module _ (deck : Deck) (some : 0 < deck.entries) (w : World) (c : SysId) (few : 
   within q x f = want-within deck.entries q.want x some (at_entries q x f)
 
   -- ---- Settle
-  good_settle : (o : Option Req) → first_held me.part ≡ o → Needs choices.Settle (settle_by me.part o)
-  unfolding row mail_row finish finish_call finish_star
-  good_settle None e = good_none choices.Settle
-  good_settle (Some q) e =
-      by_test (Needs choices.Settle) (serves p q)
-      (Asks (acts.Settle q.task.system (mails.Answered q.task (answer_for p q) (rank_of p q)))) Idle
-      (λ h. called choices.Settle _ (settled h)) (λ h. good_none choices.Settle)
-    where
-      mail : Mail
-      mail = mails.Answered q.task (answer_for me.part q) (rank_of me.part q)
-
-      settled : serves me.part q ≡ true
-          → LeadsBy choices.Settle (row w.medium c
-          (acts.Settle q.task.system (mails.Answered q.task (answer_for me.part q) (rank_of me.part q))))
-      settled h =
-          let s = served q h in
-          let mine : has_manager words s.0 c.0 ≡ true = sym (me.fits.roles s.0) ∙ s.2 in
-          let boxes = with_mail w.medium.inboxes q.task.system.0 mail in
-          let m = med words boxes (awake w.medium c) in
-          finished m choices.Settle replies.Settled
-          (subst (λ zs. Leads (record { medium = m; step = with_star n (settled_by n.tasks p zs) })) (sym e)
-          (subst (λ b.
-          Leads (record {
-            medium = m;
-            step = with_star n (cond b (settled_first n.tasks p q) (fixing_none n.tasks p));
-          }))
-          (sym h)
-          (step words boxes (awake w.medium c) (settled_first n.tasks p q).tasks
-          (record p { manager = after_request p.manager q.task q.want; held = drop 1 p.held }) (fixes.Asked q ∷ [])
-          (length-set w.medium.inboxes q.task.system.0 _) (decides s.0 q s.1 mine)
-          (part-settled deck words L c.0 p q.task q.want s.0 (drop 1 p.held) me.fits s.1 s.2))))
+  settles : (q : Req) → serves me.part q ≡ true →
+      Leads (record {
+        medium =
+            med w.medium.words
+            (with_mail w.medium.inboxes q.task.system.0
+            (mails.Answered q.task (answer_for me.part q) (rank_of me.part q))) (awake w.medium c);
+        step = with_star n (settled_first n.tasks me.part q);
+      })
+  settles q h =
+      let s = served q h in
+      let mine : has_manager words s.0 c.0 ≡ true = sym (me.fits.roles s.0) ∙ s.2 in
+      step words _ (awake w.medium c) (settled_first n.tasks p q).tasks
+      (record p { manager = after_request p.manager q.task q.want; held = drop 1 p.held }) (fixes.Asked q ∷ [])
+      (length-set w.medium.inboxes q.task.system.0 _) (decides s.0 q s.1 mine)
+      (part-settled deck words L c.0 p q.task q.want s.0 (drop 1 p.held) me.fits s.1 s.2)
 
   -- ---- Tell
-  good_tell : (e : ℕ) (o : Option (TaskId × Res)) → Needs (choices.Tell e) (tell_by o)
-  unfolding row mail_row finish finish_call finish_star
-  good_tell e None = good_none (choices.Tell e)
-  good_tell e (Some x) = called (choices.Tell e) _ tells
-    where
-      tells : LeadsBy (choices.Tell e) (row w.medium c (acts.Tell x.0.system (mails.Granted x.0 x.1)))
-      tells =
-          let boxes = with_mail w.medium.inboxes x.0.system.0 (mails.Granted x.0 x.1) in
-          finished (med words boxes (awake w.medium c)) (choices.Tell e) replies.Told
-          (still boxes (awake w.medium c) n.tasks (told_by p (to_tell p e)) (length-set w.medium.inboxes x.0.system.0 _)
-          (part-told deck words L c.0 p (to_tell p e) me.fits))
+  tells : (x : TaskId × Res) →
+      Leads (record {
+        medium =
+            med w.medium.words (with_mail w.medium.inboxes x.0.system.0 (mails.Granted x.0 x.1)) (awake w.medium c);
+        step = with_star n (fixing_none n.tasks (told_by me.part (Some x)));
+      })
+  tells x =
+      still _ (awake w.medium c) n.tasks (told_by p (Some x)) (length-set w.medium.inboxes x.0.system.0 _)
+      (part-told deck words L c.0 p (Some x) me.fits)
 
   -- ---- Take
-  good_take : LeadsBy choices.Take (row w.medium c acts.Take)
-  unfolding row take_row finish finish_call finish_star took_mail
-  good_take = go (inbox w.medium c.0) refl
+  takes : (mail : Mail) →
+      Leads (record {
+        medium = med w.medium.words (without_first w.medium.inboxes c.0) (awake w.medium c);
+        step = with_star n (take_mail deck n.tasks me.part mail);
+      })
+  unfolding took_mail
+  takes mail =
+      by_test (λ (st : StarStep).
+      Leads (record { medium = med words boxes (awake w.medium c); step = with_star n st }))
+      (is_for_deck deck mail) (took_mail n.tasks p mail) (fixing_none n.tasks p) (λ h. by_mail mail)
+      (λ h. still boxes (awake w.medium c) n.tasks p (length-set w.medium.inboxes c.0 _) me.fits)
     where
       boxes : List (List Mail)
       boxes = without_first w.medium.inboxes c.0
@@ -310,35 +245,16 @@ module _ (deck : Deck) (some : 0 < deck.entries) (w : World) (c : SysId) (few : 
           (record p { held = p.held ++ q ∷ [] }) p (λ h. part-held deck words L c.0 p (p.held ++ q ∷ []) me.fits)
           (λ h. me.fits)
 
-      took : (mail : Mail)
+      by_mail : (mail : Mail)
           → Leads (record {
             medium = med w.medium.words (without_first w.medium.inboxes c.0) (awake w.medium c);
             step = with_star n (took_mail n.tasks me.part mail);
           })
-      took (mails.Request e from q) =
+      by_mail (mails.Request e from q) =
           still boxes (awake w.medium c) n.tasks (with_held p e q) (length-set w.medium.inboxes c.0 _) (takes_held e q)
-      took (mails.Answered t answer rank) =
+      by_mail (mails.Answered t answer rank) =
           still boxes (awake w.medium c) _ p (length-set w.medium.inboxes c.0 _) me.fits
-      took (mails.Granted t r) = still boxes (awake w.medium c) _ p (length-set w.medium.inboxes c.0 _) me.fits
-
-      taken : (mail : Mail)
-          → Leads (record {
-            medium = med w.medium.words (without_first w.medium.inboxes c.0) (awake w.medium c);
-            step = finish_star deck n (Some me.part) choices.Take (replies.Taken mail);
-          })
-      taken mail =
-          by_test (λ (st : StarStep).
-          Leads (record { medium = med words boxes (awake w.medium c); step = with_star n st }))
-          (is_for_deck deck mail) (took_mail n.tasks p mail) (fixing_none n.tasks p)
-          (λ h. took mail)
-          (λ h. still boxes (awake w.medium c) n.tasks p (length-set w.medium.inboxes c.0 _) me.fits)
-
-      empty : Leads (record { medium = w.medium; step = finish_star deck n (Some me.part) choices.Take replies.Empty })
-      empty = still w.medium.inboxes w.medium.rest n.tasks p refl me.fits
-
-      go : (ms : List Mail) → inbox w.medium c.0 ≡ ms → LeadsBy choices.Take (take_from w.medium c ms)
-      go [] e = finished w.medium choices.Take replies.Empty empty
-      go (mail ∷ rest) e = finished (med words boxes (awake w.medium c)) choices.Take (replies.Taken mail) (taken mail)
+      by_mail (mails.Granted t r) = still boxes (awake w.medium c) _ p (length-set w.medium.inboxes c.0 _) me.fits
 
   -- ---- Send
   -- the words after a request of an entry that this system doesn't manage
@@ -356,10 +272,6 @@ module _ (deck : Deck) (some : 0 < deck.entries) (w : World) (c : SysId) (few : 
         → manager_at joined_words e
         ≡ cond (e == x) (Some (unwrap_or (manager_at w.medium.words x) c)) (manager_at w.medium.words e)
     manages_now = submit_manages words x c there few
-
-    joined-is : manages_word w.medium c x ≡ false
-        → joined w.medium c x ≡ med joined_words w.medium.inboxes (awake w.medium c)
-    joined-is h = ap (λ b. cond b w.medium (med joined_words w.medium.inboxes (awake w.medium c))) h
 
     -- whatever the lists become that this system manages
     submits : (L' : State)
@@ -445,125 +357,48 @@ module _ (deck : Deck) (some : 0 < deck.entries) (w : World) (c : SysId) (few : 
         (entries_are_well_kept p.manager x me.fits.well).0
 
     -- the entry is managed by another system, to which the request goes
-    sends_away : (t : TaskId) (a : Asked) → (state_of n.tasks t).outstanding ≡ Some a
-        → entry_for me.part a.req.want ≡ Some x → (s : SysId) → manager_at w.medium.words x ≡ Some s →
+    sends_away : (t : TaskId) (a : Asked) (s : SysId) → manager_at w.medium.words x ≡ Some s →
         Leads (record {
           medium =
               med joined_words (with_mail w.medium.inboxes s.0 (mails.Request x c (request_of t a))) (awake w.medium c);
-          step = finish_star deck n (Some me.part) (choices.Send t) replies.Sent;
+          step = with_star n (fixing_none (with_phase n.tasks t phases.Sent) (with_interest me.part x true));
         })
-    unfolding finish_star
-    sends_away t a opened f s is =
-        let boxes = with_mail w.medium.inboxes s.0 (mails.Request x c (request_of t a)) in
-        subst (λ o.
-        Leads (record {
-          medium = med joined_words boxes (awake w.medium c);
-          step = with_star n (sent_to n.tasks p t o);
-        }))
-        (sym (ap (entry_asked p) opened ∙ f))
-        (step joined_words boxes (awake w.medium c) (with_phase n.tasks t phases.Sent) (with_interest p x true) []
-        (length-set w.medium.inboxes s.0 _) (submits L (λ e h. refl)) (sent_part s is))
+    sends_away t a s is =
+        step joined_words _ (awake w.medium c) (with_phase n.tasks t phases.Sent) (with_interest p x true) []
+        (length-set w.medium.inboxes s.0 _) (submits L (λ e h. refl)) (sent_part s is)
 
     -- nobody manages it: this system does from now on, and decides the request
-    sends_sole : (t : TaskId) (a : Asked) → (state_of n.tasks t).outstanding ≡ Some a
-        → entry_for me.part a.req.want ≡ Some x → manager_at w.medium.words x ≡ None →
+    begins : (t : TaskId) (a : Asked) → entry_for me.part a.req.want ≡ Some x → manager_at w.medium.words x ≡ None →
         Leads (record {
           medium = med joined_words w.medium.inboxes (awake w.medium c);
-          step = finish_star deck n (Some me.part) (choices.Send t) replies.Sole;
+          step = with_star n (decide_own n.tasks (begun me.part x) t a);
         })
-    unfolding finish_star decide_own
-    sends_sole t a opened f is =
+    unfolding decide_own
+    begins t a f is =
         let q : StarPart = begun p x in
-        let L' : State = after_want L t a.req.want in
         let here : entry_wanted deck.entries a.req.want ≡ Some x = at_entries (request_of t a) x f in
         let managing : manages q x ≡ true =
         (begun_part is).roles x
         ∙ (role_gained is x ∙ ap (λ b. cond b true (has_manager words x c.0)) (eq-eqb x x refl)) in
-        subst (λ o.
-        Leads (record {
-          medium = med joined_words w.medium.inboxes (awake w.medium c);
-          step = with_star n (begin_at n.tasks p t o (entry_asked p o));
-        }))
-        (sym opened)
-        (subst (λ o.
-        Leads (record {
-          medium = med joined_words w.medium.inboxes (awake w.medium c);
-          step = with_star n (begin_at n.tasks p t (Some a) o);
-        }))
-        (sym f)
-        (step joined_words w.medium.inboxes (awake w.medium c) (decide_own n.tasks q t a).tasks
+        step joined_words w.medium.inboxes (awake w.medium c) (decide_own n.tasks q t a).tasks
         (decide_own n.tasks q t a).part (fixes.Asked (request_of t a) ∷ []) refl
-        (submits L' (λ e h.
+        (submits (after_want L t a.req.want) (λ e h.
         under-other deck.entries e L t a.req.want (ap (is_entry e) here
         ∙ ne_eqb x e (λ same.
         no_truth (has_manager joined_words e c.0)
         (ap (λ i. has_manager joined_words i c.0) (sym same) ∙ (sym ((begun_part is).roles x) ∙ managing)) h))))
-        (part-settled deck joined_words L c.0 q t a.req.want x q.held (begun_part is) here managing)))
-
-    by_route : (t : TaskId) (a : Asked) → (state_of n.tasks t).outstanding ≡ Some a
-        → entry_for me.part a.req.want ≡ Some x → manages me.part x ≡ false → (o : Option SysId)
-        → manager_at w.medium.words x ≡ o →
-        LeadsBy (choices.Send t) (submit_on w.medium c x (request_of t a) (route_by o c))
-    unfolding finish finish_call
-    by_route t a opened f not_mine None is =
-        subst (λ (m : MediumState).
-        Leads (record { medium = m; step = finish deck n (choices.Send t) (Some replies.Sole) }))
-        (sym (joined-is (ap (λ o. is_manager o c) is)))
-        (finished (med joined_words w.medium.inboxes (awake w.medium c)) (choices.Send t) replies.Sole
-        (sends_sole t a opened f is))
-    by_route t a opened f not_mine (Some s) is =
-        let apart : (s.0 == c.0) ≡ false =
-        sym (ap (λ o. is_manager o (record { 0 = c.0 })) is) ∙ (sym (me.fits.roles x) ∙ not_mine) in
-        subst (λ (b : Bool).
-        LeadsBy (choices.Send t) (submit_on w.medium c x (request_of t a) (cond b routes.Sole (routes.To s))))
-        (sym apart)
-        (subst (λ (m : MediumState).
-        Leads (record {
-          medium = record m { inboxes = with_mail w.medium.inboxes s.0 (mails.Request x c (request_of t a)) };
-          step = finish deck n (choices.Send t) (Some replies.Sent);
-        }))
-        (sym (joined-is (ap (λ o. is_manager o c) is ∙ apart)))
-        (finished (med joined_words (with_mail w.medium.inboxes s.0 (mails.Request x c (request_of t a)))
-        (awake w.medium c))
-        (choices.Send t) replies.Sent (sends_away t a opened f s is)))
-
-    submitted : (t : TaskId) (a : Asked) → (state_of n.tasks t).outstanding ≡ Some a
-        → entry_for me.part a.req.want ≡ Some x → manages me.part x ≡ false
-        → LeadsBy (choices.Send t) (row w.medium c (acts.Submit x (request_of t a)))
-    unfolding row submit_row route
-    submitted t a opened f not_mine = by_route t a opened f not_mine (manager_at words x) refl
+        (part-settled deck joined_words L c.0 q t a.req.want x q.held (begun_part is) here managing)
 
   -- a request of an entry that the system manages itself
-  sends_own : (t : TaskId) (a : Asked) (x : ℕ) → (state_of n.tasks t).outstanding ≡ Some a
-      → entry_for me.part a.req.want ≡ Some x → manages me.part x ≡ true
-      → Leads (record { medium = w.medium; step = finish deck n (choices.Send t) None })
-  unfolding finish finish_quiet decide_own
-  sends_own t a x opened f mine =
+  decides_own : (t : TaskId) (a : Asked) (x : ℕ) → entry_for me.part a.req.want ≡ Some x → manages me.part x ≡ true
+      → Leads (record { medium = w.medium; step = with_star n (decide_own n.tasks me.part t a) })
+  unfolding decide_own
+  decides_own t a x f mine =
       let here : entry_wanted deck.entries a.req.want ≡ Some x = at_entries (request_of t a) x f in
       let named : has_manager words x c.0 ≡ true = sym (me.fits.roles x) ∙ mine in
-      subst (λ o. Leads (record { medium = w.medium; step = send_own n t o })) (sym me.star)
-      (subst (λ o. Leads (record { medium = w.medium; step = with_star n (own_step n.tasks p t o) })) (sym opened)
-      (step words w.medium.inboxes w.medium.rest (decide_own n.tasks p t a).tasks (decide_own n.tasks p t a).part
+      step words w.medium.inboxes w.medium.rest (decide_own n.tasks p t a).tasks (decide_own n.tasks p t a).part
       (fixes.Asked (request_of t a) ∷ []) refl (decides x (request_of t a) here named)
-      (part-settled deck words L c.0 p t a.req.want x p.held me.fits here mine)))
-
-  good_send : (t : TaskId) (o : Option Asked) → (state_of n.tasks t).outstanding ≡ o
-      → Needs (choices.Send t) (send_of me.part t o)
-  unfolding carry_out
-  good_send t None e = good_none (choices.Send t)
-  good_send t (Some a) e = by_entry (entry_for p a.req.want) refl
-    where
-      alone : (x : ℕ) → entry_for me.part a.req.want ≡ Some x → manages me.part x ≡ true → Needs (choices.Send t) Alone
-      alone x f mine = sends_own t a x e f mine
-
-      by_entry : (o : Option ℕ) → entry_for me.part a.req.want ≡ o
-          → Needs (choices.Send t) (send_to me.part (request_of t a) o)
-      by_entry None f = good_none (choices.Send t)
-      by_entry (Some x) f =
-          by_test (Needs (choices.Send t)) (manages p x) Alone (Asks (acts.Submit x (request_of t a)))
-          (λ h. alone x f h) (λ h.
-          called (choices.Send t) (acts.Submit x (request_of t a))
-          (submitted x (within (request_of t a) x f) t a e f h))
+      (part-settled deck words L c.0 p t a.req.want x p.held me.fits here mine)
 
   -- ---- Leave
   module _ (x : ℕ) (free : may_leave me.part n.tasks x ≡ true) where
@@ -586,8 +421,8 @@ module _ (deck : Deck) (some : 0 < deck.entries) (w : World) (c : SysId) (few : 
     words_left = left_words w.medium.words x c
 
     -- nothing stands in the lists of an entry that it manages
-    nothing : has_manager w.medium.words x c.0 ≡ true → under deck.entries x (all_lists w) ≡ []
-    nothing mine =
+    none_listed : has_manager w.medium.words x c.0 ≡ true → under deck.entries x (all_lists w) ≡ []
+    none_listed mine =
         alike-none (under deck.entries x L) (subst (λ zs. Alike (plain zs) (under deck.entries x L))
         (no_items (items_of (managed_at p.manager x))
         (and_parts (length (items_of (managed_at p.manager x)) == 0) _ done).0)
@@ -596,31 +431,6 @@ module _ (deck : Deck) (some : 0 < deck.entries) (w : World) (c : SysId) (few : 
         no_items : (xs : List Ranked) → (length xs == 0) ≡ true → xs ≡ []
         no_items [] h = refl
         no_items (y ∷ ys) h = absurd (omega (arith, eqb-true (length (y ∷ ys)) 0 h))
-
-    -- what the medium is after a Leave
-    pub left-is :
-        cond (leave_changes (word_at w.medium.words x) c) (med words_left w.medium.inboxes (awake w.medium c)) w.medium
-        ≡ med words_left w.medium.inboxes
-        (cond (leave_changes (word_at w.medium.words x) c) (awake w.medium c) w.medium.rest)
-    unfolding left_word
-    left-is = go (leave_changes (word_at words x) c) refl
-      where
-        go : (b : Bool) → leave_changes (word_at w.medium.words x) c ≡ b
-            → cond b (med words_left w.medium.inboxes (awake w.medium c)) w.medium
-            ≡ med words_left w.medium.inboxes (cond b (awake w.medium c) w.medium.rest)
-        go true h = refl
-        go false h = ap (λ ws. med ws w.medium.inboxes w.medium.rest) (sym (same h))
-          where
-            same : leave_changes (word_at w.medium.words x) c ≡ false → left_words w.medium.words x c ≡ w.medium.words
-            same k =
-                ap (λ b.
-                slice_set words x (cond b (cond (is_manager (manager (word_at words x)) c)
-                (lock_word 0 None (epoch (word_at words x)))
-                (lock_word (without (interest (word_at words x)) c.0) (manager (word_at words x))
-                (epoch (word_at words x))))
-                (word_at words x)))
-                k
-                ∙ set-get_or words x 0
 
     -- it is answered Left
     module _ (is : leave_reply (word_at w.medium.words x) c ≡ replies.Left) where
@@ -665,7 +475,7 @@ module _ (deck : Deck) (some : 0 < deck.entries) (w : World) (c : SysId) (few : 
           frees e true f true h none =
               let same : e ≡ x = eqb-true e x f in
               ap (λ i. under deck.entries i L) same
-              ∙ nothing (ap (λ i. is_manager (manager_at words i) c) (sym same) ∙ h)
+              ∙ none_listed (ap (λ i. is_manager (manager_at words i) c) (sym same) ∙ h)
 
       left_part : IsPart deck words_left (all_lists w) c.0 (left_at me.part x)
       left_part = part-left deck words words_left L c.0 p x me.fits inside_leave
@@ -692,99 +502,14 @@ module _ (deck : Deck) (some : 0 < deck.entries) (w : World) (c : SysId) (few : 
           interest_left e true = and-false (is_interested words e c.0)
           interest_left e false = and-true (is_interested words e c.0)
 
-      good_left :
+      leaves_it : (flags : ℕ) →
           Leads (record {
-            medium =
-                cond (leave_changes (word_at w.medium.words x) c) (med words_left w.medium.inboxes (awake w.medium c))
-                w.medium;
-            step = finish_star deck n (Some me.part) (choices.Leave x) replies.Left;
+            medium = med words_left w.medium.inboxes flags;
+            step = with_star n (fixing_none n.tasks (left_at me.part x));
           })
-      unfolding finish_star
-      good_left =
-          subst (λ (m : MediumState).
-          Leads (record { medium = m; step = with_star n (fixing_none n.tasks (left_at p x)) }))
-          (sym left-is)
-          (step words_left w.medium.inboxes _ n.tasks (left_at p x) [] refl leaves left_part)
+      leaves_it flags = step words_left w.medium.inboxes flags n.tasks (left_at p x) [] refl leaves left_part
 
-    -- it is answered Kept
-    good_kept : (mask : ℕ) → leave_reply (word_at w.medium.words x) c ≡ replies.Kept mask
-        → Leads (record {
-          medium =
-              cond (leave_changes (word_at w.medium.words x) c) (med words_left w.medium.inboxes (awake w.medium c))
-              w.medium;
-          step = finish_star deck n (Some me.part) (choices.Leave x) (replies.Kept mask);
-        })
-    unfolding finish_star
-    good_kept mask is =
-        subst (λ (m : MediumState). Leads (record { medium = m; step = with_star n (fixing_none n.tasks p) }))
-        (sym left-is)
-        (subst (λ ws.
-        Leads (record {
-          medium = med ws w.medium.inboxes (cond (leave_changes (word_at words x) c) (awake w.medium c) w.medium.rest);
-          step = with_star n (fixing_none n.tasks p);
-        }))
-        (sym (kept_changes_nothing words x c mask is))
-        (still w.medium.inboxes _ n.tasks p refl me.fits))
-
-    good_leave : LeadsBy (choices.Leave x) (row w.medium c (acts.Leave x))
-    unfolding row leave_row leave_reply finish finish_call
-    good_leave = go (is_kept (word_at words x) c) refl
-      where
-        -- the reply is one of the two
-        reply_is : (b : Bool) → is_kept (word_at w.medium.words x) c ≡ b
-            → leave_reply (word_at w.medium.words x) c
-            ≡ cond b (replies.Kept (interest (word_at w.medium.words x))) replies.Left
-        reply_is b e = ap (λ d. cond d (replies.Kept (interest (word_at words x))) replies.Left) e
-
-        go : (b : Bool) → is_kept (word_at w.medium.words x) c ≡ b → Leads (record {
-          medium =
-              cond (leave_changes (word_at w.medium.words x) c) (med words_left w.medium.inboxes (awake w.medium c))
-              w.medium;
-          step =
-              finish deck n (choices.Leave x) (Some (cond (is_kept (word_at w.medium.words x) c)
-              (replies.Kept (interest (word_at w.medium.words x))) replies.Left));
-        })
-        go true e =
-            subst (λ (d : Bool).
-            Leads (record {
-              medium =
-                  cond (leave_changes (word_at words x) c) (med words_left w.medium.inboxes (awake w.medium c))
-                  w.medium;
-              step =
-                  finish deck n (choices.Leave x)
-                  (Some (cond d (replies.Kept (interest (word_at words x))) replies.Left));
-            }))
-            (sym e)
-            (finished _ (choices.Leave x) (replies.Kept (interest (word_at words x)))
-            (good_kept (interest (word_at words x)) (reply_is true e)))
-        go false e =
-            subst (λ (d : Bool).
-            Leads (record {
-              medium =
-                  cond (leave_changes (word_at words x) c) (med words_left w.medium.inboxes (awake w.medium c))
-                  w.medium;
-              step =
-                  finish deck n (choices.Leave x)
-                  (Some (cond d (replies.Kept (interest (word_at words x))) replies.Left));
-            }))
-            (sym e)
-            (finished _ (choices.Leave x) replies.Left (good_left (reply_is false e)))
-
-  -- ---- each choice
-  by_need : (choice : Choice) → Needs choice (star_need deck n me.part choice)
-      → Leads (carry_out deck w.medium c n choice (star_call deck n n.star choice))
-  unfolding star_call
-  by_need choice h = subst (λ o. Leads (carry_out deck w.medium c n choice (star_call deck n o choice))) (sym me.star) h
-
-  quietly : (t : TaskId) → Leads (carry_out deck w.medium c n (choices.Task t) Quiet)
-  unfolding carry_out
-  quietly t = good_task t
-
-  nothing_done : (choice : Choice) → Leads (carry_out deck w.medium c n choice Nothing)
-  unfolding carry_out
-  nothing_done choice = good_idle
-
-  -- a line of the system's desk: the complex changed before, or is in star mode, where nobody is removed
+  -- ---- its desk is told that the complex changed before, or is in star mode, where nobody is removed
   good_desk : (said : Said) → Leads (record { medium = w.medium; step = only (desk_told n said) })
   unfolding desk_told
   good_desk said = record {
@@ -796,66 +521,34 @@ module _ (deck : Deck) (some : 0 < deck.entries) (w : World) (c : SysId) (few : 
     member = record { part = me.part; star = me.star; outbox = me.outbox; fits = me.fits };
   }
 
-  good_told : LeadsBy choices.Switch (replies.Already, w.medium)
-  unfolding finish finish_call
-  good_told = good_desk saids.StarAlready
+  -- ---- whatever came of it
+  good_acts : (choice : Choice) (b : Result) (o : Turnout) → Acts deck w.medium c n me.part choice b o → Leads o
+  good_acts choice b o (decided t a x asked mine) = decides_own t a x asked.entry mine
+  good_acts choice b o (began t a x asked other none) =
+      begins x (within (request_of t a) x asked.entry) t a asked.entry none
+  good_acts choice b o (rejoined t a x asked other to at same) =
+      no_truth (manages p x) (me.fits.roles x ∙ (ap (λ z. is_manager z (record { 0 = c.0 })) at ∙ same)) other
+  good_acts choice b o (sent t a x asked other to at apart) =
+      sends_away x (within (request_of t a) x asked.entry) t a to at
+  good_acts choice b o (took mail rest at) = takes mail
+  good_acts choice b o (settled q first serving) = settles q serving
+  good_acts choice b o (told e x first) = tells x
+  good_acts choice b o (left x flags free by) = leaves_it x free by flags
 
-  good_in_star : (target : SysId) → LeadsBy (choices.Purge target) (replies.InStar, w.medium)
-  unfolding finish finish_call
-  good_in_star target = good_desk saids.VaryInStar
-
-  good_purge : (target : SysId) → LeadsBy (choices.Purge target) (row w.medium c (acts.Purge target))
-  unfolding row purge_row
-  good_purge target =
-      subst (λ b.
-      LeadsBy (choices.Purge target) (cond b (replies.InStar, w.medium)
-      (cond (is_live w.medium target) (replies.Purged, without_system w.medium c target) (replies.NoSuch, w.medium))))
-      (sym g.mode) (good_in_star target)
-
-  good_already : LeadsBy choices.Switch (row w.medium c (acts.Switch (own_words deck n)))
-  unfolding row switch_row
-  good_already =
-      subst (λ b.
-      LeadsBy choices.Switch (cond b (replies.Already, w.medium)
-      (switch_ring w.medium c (own_words deck n) (first_number (unseen c w.medium.message.entries)))))
-      (sym g.mode) good_told
-
-  good_switch : (o : Option Order) → Leads (carry_out deck w.medium c n choices.Switch (switch_call deck n o))
-  good_switch None = nothing_done choices.Switch
-  good_switch (Some orders.Star) = called choices.Switch (acts.Switch (own_words deck n)) good_already
-  good_switch (Some (orders.Vary t)) = nothing_done choices.Switch
-
-  good_target : (target : SysId) (o : Option Order)
-      → Leads (carry_out deck w.medium c n (choices.Purge target) (purge_call n target o))
-  good_target target None = nothing_done (choices.Purge target)
-  good_target target (Some orders.Star) = nothing_done (choices.Purge target)
-  good_target target (Some (orders.Vary named)) =
-      by_test (λ q. Leads (carry_out deck w.medium c n (choices.Purge target) q)) (named.0 == target.0)
-      (Call (record { known = n.known; act = acts.Purge target })) Nothing
-      (λ h. called (choices.Purge target) (acts.Purge target) (good_purge target))
-      (λ h. nothing_done (choices.Purge target))
+  pub good_came : (choice : Choice) (b : Result) (o : Turnout) → Came deck w.medium c n choice b o → IsStep deck w c n o
+  good_came choice b o (nothing k r silent flags) = good_nothing flags
+  good_came choice b o (informed k known) = good_known known
+  good_came choice b o (went_on t may) = good_task t
+  good_came choice b o (turn flags alone unclosed here) = no_part n me.part me.star alone
+  good_came choice b o (last_turn flags alone shut here) = no_part n me.part me.star alone
+  good_came choice b o (changed ring next seen) = no_truth w.medium.star g.mode ring
+  good_came choice b o (already mode next) = good_desk saids.StarAlready
+  good_came choice b o (removes_one target ring next lives) = no_truth w.medium.star g.mode ring
+  good_came choice b o (no_such target ring next gone) = no_truth w.medium.star g.mode ring
+  good_came choice b o (refused target mode next) = good_desk saids.VaryInStar
+  good_came choice b o (acted q is k r x acts) =
+      good_acts choice b o
+      (subst (λ z. Acts deck w.medium c n z choice b o) (same_Some q me.part (sym is ∙ me.star)) acts)
 
   pub good_choice : (choice : Choice) → IsStep deck w c n (chosen deck w.medium c n choice)
-  unfolding chosen prepare
-  good_choice (choices.Task t) =
-      by_test (λ q. Leads (carry_out deck w.medium c n (choices.Task t) q)) (may_go deck n t) Quiet Nothing
-      (λ h. quietly t) (λ h. nothing_done (choices.Task t))
-  good_choice choices.Turn =
-      subst (λ o. Leads (carry_out deck w.medium c n choices.Turn (turn_call n o))) (sym me.star)
-      (nothing_done choices.Turn)
-  good_choice choices.Rest =
-      by_test (λ q. Leads (carry_out deck w.medium c n choices.Rest q)) (is_pending deck n) Nothing
-      (Call (record { known = n.known; act = acts.Rest })) (λ h. nothing_done choices.Rest)
-      (λ h. called choices.Rest acts.Rest good_rest)
-  good_choice (choices.Send t) =
-      by_need (choices.Send t) (by_test (Needs (choices.Send t)) (may_send deck n t)
-      (send_of p t (state_of n.tasks t).outstanding) Idle (λ h. good_send t (state_of n.tasks t).outstanding refl)
-      (λ h. good_none (choices.Send t)))
-  good_choice choices.Take = by_need choices.Take (called choices.Take acts.Take good_take)
-  good_choice choices.Settle = by_need choices.Settle (good_settle (first_held p) refl)
-  good_choice (choices.Tell e) = by_need (choices.Tell e) (good_tell e (to_tell p e))
-  good_choice (choices.Leave e) =
-      by_need (choices.Leave e) (by_test (Needs (choices.Leave e)) (may_leave p n.tasks e) (Asks (acts.Leave e)) Idle
-      (λ h. called (choices.Leave e) (acts.Leave e) (good_leave e h)) (λ h. good_none (choices.Leave e)))
-  good_choice choices.Switch = good_switch (next_order deck n)
-  good_choice (choices.Purge t) = good_target t (next_order deck n)
+  good_choice choice = good_came choice _ _ (came deck w.medium c n alive choice)

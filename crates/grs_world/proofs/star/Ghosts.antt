@@ -2,8 +2,7 @@
 -- in its table or its outbox. `later` are the items that others fixed for its tasks and whose answers are still to
 -- come, `out` the requests of its tasks that were sent and aren't answered yet.
 use Rattle.std.proofs.Common.{◌≡◌, ◌≢◌, ℕ, zero, suc, Bool, true, false, cond, List, [], ◌∷◌, ◌++◌, Option, Some, None}
-use Rattle.std.proofs.Common.{refl, ap}
-use Rattle.std.proofs.Common.{sym, ◌∙◌, subst, arith, append-nil}
+use Rattle.std.proofs.Common.{refl, ap, sym, ◌∙◌, subst, arith, append-nil}
 use Rattle.std.specs.Prelude.{slice_get}
 use Rattle.std.specs.List.{list_all}
 use Rattle.std.proofs.lemmas.Bool.{cases_Bool}
@@ -19,10 +18,8 @@ use Rattle.grs_legal.specs.declared.meaning.Display.{Display}
 use Rattle.grs_legal.specs.declared.meaning.Meaning.{Meaning}
 use Rattle.grs_legal.specs.declared.meaning.Meaning.TheVariants as lines
 use Rattle.grs_node.specs.Node.{NodeState, Step, with_tasks, post, decide, ask, take_line, end_step, ready_step, posted}
-use Rattle.grs_node.specs.Node.{phase_step, task_step, finish_quiet, has_most, may_go, look_home, look_around, show}
-use Rattle.grs_node.specs.Node.{looks_asked}
+use Rattle.grs_node.specs.Node.{phase_step, task_step, has_most, may_go, look_home, look_around, show, looks_asked}
 use Rattle.grs_wire.specs.Wants.{res_wanted}
-use Rattle.grs_wire.specs.declared.deck.Choice.TheVariants as choices
 use Rattle.grs_wire.specs.declared.deck.Deck.{Deck}
 use Rattle.grs_wire.specs.declared.history.HistEntry.{HistEntry}
 use Rattle.grs_wire.specs.declared.request.Fixed.{Fixed}
@@ -280,8 +277,8 @@ shown-told k m e = ap (λ (z : NodeState). z.tasks.told) e
 pub task-goes : (deck : Deck) (s : ℕ) (c : SysId) (T later : List RunItem) (out : List Req) (n : NodeState) (t : TaskId)
     (p : StarPart)
     → n.star ≡ Some p → IsHistory deck T → IsAt deck s T later out n → may_go deck n t ≡ true
-    → TaskStep deck s c T later out n (finish_quiet deck n (choices.Task t))
-unfolding may_go finish_quiet
+    → TaskStep deck s c T later out n (task_step deck.limit n t (lines_of deck t))
+unfolding may_go
 task-goes deck s c T later out n t p is right k goes =
     by_step (quiet deck s c T [] later out (ghosted n) t right k goes)
   where

@@ -15,10 +15,9 @@ use Rattle.grs_base.specs.declared.resource.SysId.{SysId}
 use Rattle.grs_base.specs.declared.resource.TaskId.{TaskId}
 use Rattle.grs_base.proofs.SameLaws.{same_res-exact, same_task-exact}
 use Rattle.grs_legal.specs.declared.meaning.Meaning.{Meaning}
-use Rattle.grs_node.specs.Node.{NodeState, Step, finish_quiet, may_go}
+use Rattle.grs_node.specs.Node.{NodeState, Step, may_go, task_step}
 use Rattle.grs_node.specs.Star.{StarPart, request_of}
 use Rattle.grs_wire.specs.Wants.{answer_to, res_wanted}
-use Rattle.grs_wire.specs.declared.deck.Choice.TheVariants as choices
 use Rattle.grs_wire.specs.declared.deck.Deck.{Deck}
 use Rattle.grs_wire.specs.declared.medium.Mail.{Mail}
 use Rattle.grs_wire.specs.declared.medium.Mail.TheVariants.{Request, Answered, Granted}
@@ -54,6 +53,7 @@ use Rattle.grs_known.proofs.known.Blank.{blank, coming-other, coming-decided}
 use Rattle.grs_world.proofs.star.Systems.{IsSystem, IsLate, AllLate, AllFit, Keeps, is_near, is_late, news_of}
 use Rattle.grs_world.proofs.star.Systems.{late-none, here, behind-late, right-late, system-words}
 use Rattle.grs_world.proofs.star.Under.{res-entry}
+use Rattle.grs_legal.specs.Asks.{lines_of}
 
 -- what a system is afterwards, and what it told
 pub record Goes (deck : Deck) (words : List ℕ) (T : List RunItem) (s : ℕ) (n : NodeState) (ms : List Mail)
@@ -183,18 +183,18 @@ module _ (deck : Deck) (words : List ℕ) (T : List RunItem) (right : IsHistory 
         → Goes deck words (T ++ made_item c T f ∷ []) s st.node ms later out n.tasks.told → Task c st
 
   pub system-task : (c : SysId) (t : TaskId) (p : StarPart) → n.star ≡ Some p → may_go deck n t ≡ true
-      → Task c (finish_quiet deck n (choices.Task t))
+      → Task c (task_step deck.limit n t (lines_of deck t))
   system-task c t p is goes = by_step (task-goes deck s c T later out n t p is right h.at goes)
     where
-      by_step : TaskStep deck s c T later out n (finish_quiet deck n (choices.Task t))
-          → Task c (finish_quiet deck n (choices.Task t))
+      by_step : TaskStep deck s c T later out n (task_step deck.limit n t (lines_of deck t))
+          → Task c (task_step deck.limit n t (lines_of deck t))
       by_step (idles none_fixed at told) =
           idle_task none_fixed
-          (record { system = after-task T (finish_quiet deck n (choices.Task t)).node at h.coming; told = told })
+          (record { system = after-task T (task_step deck.limit n t (lines_of deck t)).node at h.coming; told = told })
       by_step (does f one_fixed away may at told) =
           local_task f one_fixed away may (record {
             system =
-                after-task (T ++ made_item c T f ∷ []) (finish_quiet deck n (choices.Task t)).node at
+                after-task (T ++ made_item c T f ∷ []) (task_step deck.limit n t (lines_of deck t)).node at
                 (coming-own c f (λ u. fix-stays may u) (λ u home of. (
                   false_by (is_late u later) (late_item u home of),
                   local-calm deck words s u f ms away h.fits,
@@ -207,11 +207,11 @@ module _ (deck : Deck) (words : List ℕ) (T : List RunItem) (right : IsHistory 
           late_item u home of late =
               let item : RunItem = made_item c T f in
               let T' : List RunItem = T ++ item ∷ [] in
-              let k = here deck s T' later out (finish_quiet deck n (choices.Task t)).node at u home in
+              let k = here deck s T' later out (task_step deck.limit n t (lines_of deck t)).node at u home in
               let last : last_of (mine u T') ≡ Some item = outstanding-own u T item of k.known in
               let out_is : outstanding u k.known T' ≡ Some item =
               ap (λ b. cond b (last_of (mine u T')) None)
-              (behind-late deck s T' later out (finish_quiet deck n (choices.Task t)).node at u home ∙ late)
+              (behind-late deck s T' later out (task_step deck.limit n t (lines_of deck t)).node at u home ∙ late)
               ∙ last in
               let i = late-in deck words s u item [] later (k.due ∙ ap one out_is) h.late in
               absurd (want-round deck i.req.want i.entry (sym (ap goes_round i.asked) ∙ away) i.at)

@@ -7,45 +7,76 @@ use Rattle.grs_base.specs.Limits.{most_systems}
 use Rattle.grs_base.specs.declared.resource.SysId.{SysId}
 use Rattle.grs_medium.specs.Medium.{first_medium, inbox}
 use Rattle.grs_node.specs.Node.{NodeState, first_node}
-use Rattle.grs_node.specs.Star.{StarPart, first_part}
+use Rattle.grs_node.specs.Star.{StarPart, first_part, manages}
 use Rattle.grs_wire.specs.Masks.{has}
 use Rattle.grs_wire.specs.declared.deck.Choice.{Choice}
-use Rattle.grs_wire.specs.declared.deck.Choice.TheVariants as choices
 use Rattle.grs_wire.specs.declared.deck.Deck.{Deck}
 use Rattle.grs_wire.specs.declared.medium.Mail.{Mail}
-use Rattle.grs_world.specs.World.{World, chosen, first_nodes, first_world}
+use Rattle.grs_world.specs.World.{World, chosen, first_nodes, first_world, Turnout}
 use Rattle.grs_world.proofs.run.Sound.{first_history, first_is}
 use Rattle.grs_world.proofs.system.Begun.{first_seen}
 use Rattle.grs_world.proofs.star.Ghosts.{without-box}
 use Rattle.grs_world.proofs.star.Systems.{IsSystem}
 use Rattle.grs_world.proofs.star.Worlds.{IsWhole, Hands, are_live, in_hands}
-use Rattle.grs_world.proofs.star.steps.Outcome.{Comes}
+use Rattle.grs_world.proofs.star.Runs.{first_star}
+use Rattle.grs_world.proofs.star.steps.Desk.{outcome-already, outcome-refused}
 use Rattle.grs_world.proofs.star.steps.Leave.{outcome-leave}
-use Rattle.grs_world.proofs.star.steps.Rest.{outcome-rest, outcome-turn}
-use Rattle.grs_world.proofs.star.steps.Send.{outcome-send}
+use Rattle.grs_world.proofs.star.steps.Outcome.{Comes, comes-known, comes-nothing, part}
+use Rattle.grs_world.proofs.star.steps.Send.{outcome-away, outcome-began, outcome-own}
 use Rattle.grs_world.proofs.star.steps.Settle.{outcome-settle}
 use Rattle.grs_world.proofs.star.steps.Take.{outcome-take}
 use Rattle.grs_world.proofs.star.steps.Task.{outcome-task}
 use Rattle.grs_world.proofs.star.steps.Tell.{outcome-tell}
-use Rattle.grs_world.proofs.star.Runs.{first_star}
-use Rattle.grs_world.proofs.star.steps.Desk.{outcome-purge, outcome-switch}
+use Rattle.grs_world.proofs.run.Came.{Acts, Came, acted, already, began, changed, decided, informed, last_turn, left}
+use Rattle.grs_world.proofs.run.Came.{rejoined, no_part, no_such, nothing, refused, removes_one, sent, settled, told}
+use Rattle.grs_world.proofs.run.Came.{took, turn, went_on, Result}
+use Rattle.grs_known.proofs.lists.Truths.{no_truth}
+use Rattle.grs_wire.specs.LockWords.{is_manager}
+use Rattle.grs_world.proofs.run.Chosen.{came}
 
 -- ---- one event
 -- what an event of a system comes to, whichever it chooses
 module _ (deck : Deck) (some : 0 < deck.entries) (w : World) (g : IsWhole deck w) (c : SysId)
     (inside : c.0 < most_systems) (n : NodeState) (at : slice_get w.nodes c.0 ≡ Some n)
     (alive : has w.medium.removed c.0 ≡ false) where
+  abbrev p : StarPart
+  p = part deck w g c n at alive
+
+  acts-outcome : (choice : Choice) (b : Result) (o : Turnout)
+      → Acts deck w.medium c n (part deck w g c n at alive) choice b o
+      → Comes deck w g c n o
+  acts-outcome choice b o (decided t a x asked mine) =
+      outcome-own deck some w g c inside n at alive t asked.may a asked.asks x asked.entry mine
+  acts-outcome choice b o (began t a x asked other none) =
+      outcome-began deck some w g c inside n at alive t asked.may a asked.asks x asked.entry other none
+  acts-outcome choice b o (rejoined t a x asked other to is same) =
+      no_truth (manages p x)
+      ((g.roles.node c.0 n at alive).fits.roles x ∙ (ap (λ z. is_manager z (record { 0 = c.0 })) is ∙ same)) other
+  acts-outcome choice b o (sent t a x asked other to is apart) =
+      outcome-away deck some w g c inside n at alive t asked.may a asked.asks x asked.entry other to is apart
+  acts-outcome choice b o (took mail rest is) = outcome-take deck w g c n at alive mail rest is
+  acts-outcome choice b o (settled q first serving) = outcome-settle deck w g c n at alive q first
+  acts-outcome choice b o (told e x first) = outcome-tell deck w g c n at alive e x first
+  acts-outcome choice b o (left x flags free by) = outcome-leave deck some w g c inside n at alive x free by flags
+
+  came-outcome : (choice : Choice) (b : Result) (o : Turnout) → Came deck w.medium c n choice b o → Comes deck w g c n o
+  came-outcome choice b o (nothing k r silent flags) = comes-nothing deck w g c n at alive flags
+  came-outcome choice b o (informed k known) = comes-known deck w g c n at alive known
+  came-outcome choice b o (went_on t may) = outcome-task deck w g c n at alive t may
+  came-outcome choice b o (turn flags alone unclosed here) = no_part n p (g.roles.node c.0 n at alive).star alone
+  came-outcome choice b o (last_turn flags alone shut here) = no_part n p (g.roles.node c.0 n at alive).star alone
+  came-outcome choice b o (changed ring next seen) = no_truth w.medium.star g.roles.mode ring
+  came-outcome choice b o (already mode next) = outcome-already deck w g c n at alive next
+  came-outcome choice b o (removes_one target ring next lives) = no_truth w.medium.star g.roles.mode ring
+  came-outcome choice b o (no_such target ring next gone) = no_truth w.medium.star g.roles.mode ring
+  came-outcome choice b o (refused target mode next) = outcome-refused deck w g c n at alive target next
+  came-outcome choice b o (acted q is k r x acts) =
+      acts-outcome choice b o
+      (subst (λ z. Acts deck w.medium c n z choice b o)
+      (same_Some q p (sym is ∙ (g.roles.node c.0 n at alive).star)) acts)
+
   pub outcome : (choice : Choice) → Comes deck w g c n (chosen deck w.medium c n choice)
-  outcome (choices.Task t) = outcome-task deck w g c n at alive t
-  outcome choices.Turn = outcome-turn deck w g c n at alive
-  outcome choices.Rest = outcome-rest deck w g c n at alive
-  outcome (choices.Send t) = outcome-send deck some w g c inside n at alive t
-  outcome choices.Take = outcome-take deck w g c n at alive
-  outcome choices.Settle = outcome-settle deck w g c n at alive
-  outcome (choices.Tell e) = outcome-tell deck w g c n at alive e
-  outcome (choices.Leave e) = outcome-leave deck some w g c inside n at alive e
-  outcome choices.Switch = outcome-switch deck w g c n at alive
-  outcome (choices.Purge target) = outcome-purge deck w g c n at alive target
+  outcome choice = came-outcome choice _ _ (came deck w.medium c n alive choice)
 
 -- ---- the first world
 pub no_mail : (k s : ℕ) → slice_index_or (replicate {A = List Mail} k []) s [] ≡ []

@@ -14,11 +14,10 @@ use Rattle.grs_base.specs.declared.resource.TaskId.{TaskId}
 use Rattle.grs_base.specs.declared.resource.SysId.{SysId}
 use Rattle.grs_medium.specs.Medium.{inbox}
 use Rattle.grs_legal.specs.Asks.{lines_of}
-use Rattle.grs_node.specs.Node.{NodeState, finish_quiet, may_go}
+use Rattle.grs_node.specs.Node.{NodeState, may_go, task_step}
 use Rattle.grs_node.specs.Star.{StarPart}
 use Rattle.grs_wire.specs.declared.deck.Deck.{Deck}
 use Rattle.grs_wire.specs.declared.medium.Mail.{Mail}
-use Rattle.grs_wire.specs.declared.deck.Choice.TheVariants as choices
 use Rattle.grs_wire.specs.declared.request.Fixed.{Fixed}
 use Rattle.grs_wire.specs.declared.request.Fixed.TheVariants as fixing
 use Rattle.grs_wire.specs.declared.request.Req.{Req}
@@ -319,9 +318,9 @@ module _ (deck : Deck) (w : World) (g : IsWhole deck w) (c : SysId) (n : NodeSta
 
   -- a task goes on by itself
   pub whole-task : (t : TaskId) → may_go deck n t ≡ true
-      → IsStep deck w c n (record { medium = w.medium; step = finish_quiet deck n (choices.Task t) })
-      → StaysWhole deck w g c (placed w c n (record { medium = w.medium; step = finish_quiet deck n (choices.Task t) }))
-  unfolding finish_quiet
+      → IsStep deck w c n (record { medium = w.medium; step = task_step deck.limit n t (lines_of deck t) })
+      → StaysWhole deck w g c
+      (placed w c n (record { medium = w.medium; step = task_step deck.limit n t (lines_of deck t) }))
   whole-task t goes step =
       by_task (system-task deck w.medium.words T g.right c.0 n (inbox w.medium c.0) (g.later c.0) (g.out c.0)
       (g.system c.0 n at alive) c t me.part me.star goes)
@@ -329,20 +328,21 @@ module _ (deck : Deck) (w : World) (g : IsWhole deck w) (c : SysId) (n : NodeSta
       me : IsMember deck w.medium.words (all_lists w) c.0 n
       me = g.roles.node c.0 n at alive
 
-      same_star : (finish_quiet deck n (choices.Task t)).node.star ≡ n.star
+      same_star : (task_step deck.limit n t (lines_of deck t)).node.star ≡ n.star
       same_star = by_part (g.roles.node c.0 n at alive)
         where
           by_part : IsMember deck w.medium.words (all_lists w) c.0 n
-              → (finish_quiet deck n (choices.Task t)).node.star ≡ n.star
+              → (task_step deck.limit n t (lines_of deck t)).node.star ≡ n.star
           by_part m = (task-quiet m.part n m.star deck.limit t (lines_of deck t)).star
 
       by_task :
           Task deck w.medium.words T g.right c.0 n (inbox w.medium c.0) (g.later c.0) (g.out c.0)
-          (g.system c.0 n at alive) c (finish_quiet deck n (choices.Task t))
+          (g.system c.0 n at alive) c (task_step deck.limit n t (lines_of deck t))
           → StaysWhole deck w g c
-          (placed w c n (record { medium = w.medium; step = finish_quiet deck n (choices.Task t) }))
+          (placed w c n (record { medium = w.medium; step = task_step deck.limit n t (lines_of deck t) }))
       by_task (idle_task nothing z) =
-          whole-placed deck w g c n at alive (record { medium = w.medium; step = finish_quiet deck n (choices.Task t) })
+          whole-placed deck w g c n at alive
+          (record { medium = w.medium; step = task_step deck.limit n t (lines_of deck t) })
           step T (ap (λ fs. items (w.fixed ++ fixed_by c fs)) nothing ∙ items-none w.fixed c) g.later g.out
           (λ u ne. refl) none_fixed
           g.right g.near z.system (λ s k ne found lives. g.system s k found lives)
@@ -350,7 +350,8 @@ module _ (deck : Deck) (w : World) (g : IsWhole deck w) (c : SysId) (n : NodeSta
           (λ m k p ne found lives is. g.hands m k p found lives is)
       by_task (local_task f is_item away may z) =
           let item : RunItem = made_item c T f in
-          whole-placed deck w g c n at alive (record { medium = w.medium; step = finish_quiet deck n (choices.Task t) })
+          whole-placed deck w g c n at alive
+          (record { medium = w.medium; step = task_step deck.limit n t (lines_of deck t) })
           step (T ++ item ∷ [])
           (ap (λ fs. items (w.fixed ++ fixed_by c fs)) is_item ∙ items-one w.fixed c f) g.later g.out
           (λ u ne. refl) (fixes-own deck c g.out T f may)

@@ -1,6 +1,5 @@
 -- What each kind of event comes to.
 pub mod Outcome
-pub mod Rest
 pub mod Send
 pub mod Take
 pub mod Task

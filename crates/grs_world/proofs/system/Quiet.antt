@@ -24,12 +24,11 @@ use Rattle.grs_legal.specs.declared.meaning.Meaning.{Meaning}
 use Rattle.grs_legal.specs.declared.meaning.Meaning.TheVariants as lines
 use Rattle.grs_node.specs.Node.{NodeState, only, with_tasks, decide, post, ask, wait, has_most, look_home, look_around}
 use Rattle.grs_node.specs.Node.{looks_asked, show, take_line, end_step, ready_step, phase_step, task_step, goes_on}
-use Rattle.grs_node.specs.Node.{may_go, finish_quiet}
+use Rattle.grs_node.specs.Node.{may_go}
 use Rattle.grs_node.specs.Star.{StarPart}
 use Rattle.grs_wire.specs.History.{replay, entries_for}
 use Rattle.grs_wire.specs.Wants.{answer_to, res_wanted, new_owners}
 use Rattle.grs_wire.specs.declared.deck.Deck.{Deck}
-use Rattle.grs_wire.specs.declared.deck.Choice.TheVariants as choices
 use Rattle.grs_wire.specs.declared.history.HistEntry.{HistEntry}
 use Rattle.grs_wire.specs.declared.history.HistEntry.TheVariants as entries
 use Rattle.grs_wire.specs.declared.request.Answer.{Answer}
@@ -907,8 +906,8 @@ module _ (deck : Deck) (s : ℕ) (c : SysId) (P before later : List RunItem) (ri
 pub quiet :
     (deck : Deck) (s : ℕ) (c : SysId) (P before later : List RunItem) (out : List Req) (n : NodeState) (t : TaskId)
     → IsHistory deck P → Seen deck s P before later out n → may_go deck n t ≡ true
-    → QuietStep deck s c P before later out n (finish_quiet deck n (choices.Task t))
-unfolding may_go finish_quiet
+    → QuietStep deck s c P before later out n (task_step deck.limit n t (lines_of deck t))
+unfolding may_go
 quiet deck s c P before later out n t right seen goes =
     let here = and_parts (is_task n.tasks t) (is_some (lines_of deck t) && goes_on (state_of n.tasks t).phase) goes in
     let both = and_parts (is_some (lines_of deck t)) (goes_on (state_of n.tasks t).phase) here.1 in

@@ -13,9 +13,8 @@ use Rattle.grs_base.proofs.SameLaws.{same_res-exact}
 use Rattle.grs_legal.specs.Asks.{lines_of}
 use Rattle.grs_medium.specs.Inboxes.{inbox_of}
 use Rattle.grs_medium.specs.Medium.{MediumState, inbox}
-use Rattle.grs_node.specs.Node.{NodeState, finish_quiet, is_of_deck, goes_on, may_go}
+use Rattle.grs_node.specs.Node.{NodeState, is_of_deck, goes_on, may_go, task_step}
 use Rattle.grs_node.specs.Star.{StarPart, left_at, is_done_with}
-use Rattle.grs_wire.specs.declared.deck.Choice.TheVariants as choices
 use Rattle.grs_wire.specs.declared.deck.Deck.{Deck}
 use Rattle.grs_wire.specs.declared.request.Fixed.TheVariants as fixing
 use Rattle.grs_wire.specs.declared.request.Want.{Want}
@@ -87,49 +86,51 @@ module _ (deck : Deck) (w : World) (g : IsWhole deck w) (c : SysId) (n : NodeSta
   other-fixed s (fixing.LocalLook t f) r wide narrow = refl
   other-fixed s (fixing.Purged target) r wide narrow = absurd (cc)
 
-  task_gentle : (t : TaskId) → may_go deck n t ≡ true → Gentle n.tasks (finish_quiet deck n (choices.Task t)).node.tasks
-  unfolding finish_quiet may_go
+  task_gentle : (t : TaskId) → may_go deck n t ≡ true
+      → Gentle n.tasks (task_step deck.limit n t (lines_of deck t)).node.tasks
+  unfolding may_go
   task_gentle t goes =
       gentle-task t deck.limit n (lines_of deck t)
       (and_parts (is_task n.tasks t) (is_of_deck deck t && goes_on (state_of n.tasks t).phase) goes).0
 
-  task_star : (t : TaskId) → (finish_quiet deck n (choices.Task t)).node.star ≡ Some me.part
-  unfolding finish_quiet
+  task_star : (t : TaskId) → (task_step deck.limit n t (lines_of deck t)).node.star ≡ Some me.part
   task_star t = (task-quiet me.part n me.star deck.limit t (lines_of deck t)).star ∙ me.star
 
   pub heard-task : (t : TaskId) → may_go deck n t ≡ true
       → Task deck w.medium.words (items w.fixed) g.right c.0 n (inbox w.medium c.0) (g.later c.0) (g.out c.0)
-      (g.system c.0 n at alive) c (finish_quiet deck n (choices.Task t))
+      (g.system c.0 n at alive) c (task_step deck.limit n t (lines_of deck t))
       →
-      IsWhole deck (placed w c n (record { medium = w.medium; step = finish_quiet deck n (choices.Task t) }))
-      → StaysHeard deck w c n (record { medium = w.medium; step = finish_quiet deck n (choices.Task t) })
+      IsWhole deck (placed w c n (record { medium = w.medium; step = task_step deck.limit n t (lines_of deck t) }))
+      → StaysHeard deck w c n (record { medium = w.medium; step = task_step deck.limit n t (lines_of deck t) })
   heard-task t goes z =
-      heard-calm deck w g c n at alive (record { medium = w.medium; step = finish_quiet deck n (choices.Task t) }) refl
+      heard-calm deck w g c n at alive (record { medium = w.medium; step = task_step deck.limit n t (lines_of deck t) })
+      refl
       (λ u. refl) (task_gentle t goes)
       (λ r wide. (by-fixed z).0 r wide)
       me.part me.part me.star (task_star t)
       (λ ranks.
-      holds-same me.part (items w.fixed) (items (w.fixed ++ fixed_by c (finish_quiet deck n (choices.Task t)).fixed))
+      holds-same me.part (items w.fixed)
+      (items (w.fixed ++ fixed_by c (task_step deck.limit n t (lines_of deck t)).fixed))
       (by-fixed z).1 ranks)
     where
       by-fixed :
           Task deck w.medium.words (items w.fixed) g.right c.0 n (inbox w.medium c.0) (g.later c.0) (g.out c.0)
-          (g.system c.0 n at alive) c (finish_quiet deck n (choices.Task t))
+          (g.system c.0 n at alive) c (task_step deck.limit n t (lines_of deck t))
           →
           ((r : Res) → is_systems r ≡ true
-          → list_of (lists (items (w.fixed ++ fixed_by c (finish_quiet deck n (choices.Task t)).fixed))) r
+          → list_of (lists (items (w.fixed ++ fixed_by c (task_step deck.limit n t (lines_of deck t)).fixed))) r
           ≡ list_of (lists (items w.fixed)) r)
           × (enq_count (items w.fixed)
-          ≤ enq_count (items (w.fixed ++ fixed_by c (finish_quiet deck n (choices.Task t)).fixed)))
+          ≤ enq_count (items (w.fixed ++ fixed_by c (task_step deck.limit n t (lines_of deck t)).fixed)))
       by-fixed (idle_task nothing y) =
-          let same : items (w.fixed ++ fixed_by c (finish_quiet deck n (choices.Task t)).fixed) ≡ items w.fixed =
+          let same : items (w.fixed ++ fixed_by c (task_step deck.limit n t (lines_of deck t)).fixed) ≡ items w.fixed =
           ap (λ fs. items (w.fixed ++ fixed_by c fs)) nothing ∙ items-none w.fixed c in (
             λ r wide. ap (λ T. list_of (lists T) r) same,
             subst (λ T. enq_count (items w.fixed) ≤ enq_count T) (sym same) (omega arith),
           )
       by-fixed (local_task f one away may y) =
           let item : RunItem = made_item c (items w.fixed) f in
-          let same : items (w.fixed ++ fixed_by c (finish_quiet deck n (choices.Task t)).fixed)
+          let same : items (w.fixed ++ fixed_by c (task_step deck.limit n t (lines_of deck t)).fixed)
           ≡ items w.fixed ++ item ∷ [] =
           ap (λ fs. items (w.fixed ++ fixed_by c fs)) one ∙ items-one w.fixed c f in (
             λ r wide.

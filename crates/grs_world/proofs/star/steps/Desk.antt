@@ -1,37 +1,25 @@
 -- A system's desk orders the change to star mode once more: it is told that there was one before. Or it orders a
 -- removal: there is none in star mode.
-use Rattle.std.proofs.Common.{◌≡◌, ◌+◌, ◌++◌, ◌∙◌, ℕ, List, [], None, Option, Some, ap, cond, refl, subst, sym, false}
-use Rattle.std.specs.Prelude.{slice_get, ◌==◌}
-use Rattle.std.proofs.lemmas.Bool.{eqb-true}
-use Rattle.grs_world.proofs.star.steps.Outcome.{Comes, ComesOf, comes-called, comes-idle}
+use Rattle.std.proofs.Common.{◌≡◌, ◌+◌, ◌++◌, List, [], Some, refl, false}
+use Rattle.std.specs.Prelude.{slice_get}
+use Rattle.grs_world.proofs.star.steps.Outcome.{Comes}
 use Rattle.grs_world.proofs.star.Worlds.{Hands, IsWhole, are_live, in_hands, items-none, none_fixed, whole-placed}
 use Rattle.grs_world.proofs.star.Systems.{IsSystem}
 use Rattle.grs_world.proofs.star.hearing.Gentle.{Gentle, gentle-line_told}
 use Rattle.grs_world.proofs.star.hearing.Quiet.{heard-still}
-use Rattle.grs_world.specs.World.{World, carry_out, chosen, fixed_by}
+use Rattle.grs_world.specs.World.{World, fixed_by}
 use Rattle.grs_world.proofs.system.Desks.{desk-at, desk-told}
 use Rattle.grs_world.proofs.run.Desks.{EventTells, tells_already, tells_in_star}
 use Rattle.grs_wire.specs.Masks.{has}
-use Rattle.grs_wire.specs.declared.deck.Choice.{Choice}
 use Rattle.grs_wire.specs.declared.deck.Deck.{Deck}
-use Rattle.grs_wire.specs.declared.deck.Order.{Order}
 use Rattle.grs_wire.specs.declared.told.Said.{Said}
 use Rattle.grs_wire.specs.declared.told.Said.TheVariants as saids
-use Rattle.grs_wire.proofs.WantLaws.{by_test}
-use Rattle.grs_wire.specs.declared.deck.Choice.TheVariants as choices
-use Rattle.grs_wire.specs.declared.medium.Reply.TheVariants as replies
-use Rattle.grs_wire.specs.declared.medium.Act.TheVariants as acts
-use Rattle.grs_node.specs.Node.{NodeState, desk_told, finish, finish_call, next_order, own_words, prepare, purge_call}
-use Rattle.grs_node.specs.Node.{switch_call, only}
+use Rattle.grs_node.specs.Node.{NodeState, desk_told, next_order, only}
 use Rattle.grs_node.specs.Star.{StarPart}
-use Rattle.grs_node.specs.declared.prepared.Prepared.TheVariants.{Call, Nothing}
 use Rattle.grs_base.specs.declared.resource.SysId.{SysId}
 use Rattle.grs_wire.specs.declared.deck.Order.TheVariants as orders
 use Rattle.grs_known.specs.Items.{RunItem, history, items}
-use Rattle.rsa_message.specs.Message.{first_number}
-use Rattle.grs_wire.specs.Unseen.{unseen}
 use Rattle.grs_medium.specs.Medium.{inbox}
-use Rattle.grs_medium.specs.Apply.{row, is_live, purge_row, switch_ring, switch_row, without_system}
 use Rattle.grs_world.proofs.rest.StarTasks.{IsDated, dated-by, keeps-telling}
 
 module _ (deck : Deck) (w : World) (g : IsWhole deck w) (c : SysId) (n : NodeState)
@@ -90,68 +78,16 @@ module _ (deck : Deck) (w : World) (g : IsWhole deck w) (c : SysId) (n : NodeSta
     dated = own_dated said;
   }
 
-  nothing-done : (choice : Choice) → Comes deck w g c n (carry_out deck w.medium c n choice Nothing)
-  unfolding carry_out
-  nothing-done choice = comes-idle deck w g c n at alive
-
-  -- ---- the change to star mode
-  desk-finished : next_order deck n ≡ Some orders.Star
-      → ComesOf deck w g c n at alive choices.Switch (replies.Already, w.medium)
-  unfolding finish finish_call
-  desk-finished next =
+  -- the change to star mode
+  pub outcome-already : next_order deck n ≡ Some orders.Star
+      → Comes deck w g c n (record { medium = w.medium; step = only (desk_told n saids.StarAlready) })
+  outcome-already next =
       outcome-desk saids.StarAlready
       (tells_already next (desk-told n saids.StarAlready) (done-more saids.StarAlready) g.roles.mode g.roles.mode)
 
-  comes-already : next_order deck n ≡ Some orders.Star
-      → ComesOf deck w g c n at alive choices.Switch (row w.medium c (acts.Switch (own_words deck n)))
-  unfolding row switch_row
-  comes-already next =
-      subst (λ b.
-      ComesOf deck w g c n at alive choices.Switch (cond b (replies.Already, w.medium)
-      (switch_ring w.medium c (own_words deck n) (first_number (unseen c w.medium.message.entries)))))
-      (sym g.roles.mode) (desk-finished next)
-
-  by_order : (o : Option Order) → next_order deck n ≡ o
-      → Comes deck w g c n (carry_out deck w.medium c n choices.Switch (switch_call deck n o))
-  by_order None e = nothing-done choices.Switch
-  by_order (Some orders.Star) e =
-      comes-called deck w g c n at alive choices.Switch (acts.Switch (own_words deck n)) (comes-already e)
-  by_order (Some (orders.Vary t)) e = nothing-done choices.Switch
-
-  pub outcome-switch : Comes deck w g c n (chosen deck w.medium c n choices.Switch)
-  unfolding chosen prepare
-  outcome-switch = by_order (next_order deck n) refl
-
-  -- ---- the removal of a system, which there is none of in star mode
-  vary-finished : (target : SysId) → next_order deck n ≡ Some (orders.Vary target)
-      → ComesOf deck w g c n at alive (choices.Purge target) (replies.InStar, w.medium)
-  unfolding finish finish_call
-  vary-finished target next =
+  -- the removal of a system, which there is none of in star mode
+  pub outcome-refused : (target : SysId) → next_order deck n ≡ Some (orders.Vary target)
+      → Comes deck w g c n (record { medium = w.medium; step = only (desk_told n saids.VaryInStar) })
+  outcome-refused target next =
       outcome-desk saids.VaryInStar
       (tells_in_star target next (desk-told n saids.VaryInStar) (done-more saids.VaryInStar) g.roles.mode g.roles.mode)
-
-  comes-in_star : (target : SysId) → next_order deck n ≡ Some (orders.Vary target)
-      → ComesOf deck w g c n at alive (choices.Purge target) (row w.medium c (acts.Purge target))
-  unfolding row purge_row
-  comes-in_star target next =
-      subst (λ b.
-      ComesOf deck w g c n at alive (choices.Purge target) (cond b (replies.InStar, w.medium)
-      (cond (is_live w.medium target) (replies.Purged, without_system w.medium c target) (replies.NoSuch, w.medium))))
-      (sym g.roles.mode) (vary-finished target next)
-
-  by_target : (target : SysId) (o : Option Order) → next_order deck n ≡ o
-      → Comes deck w g c n (carry_out deck w.medium c n (choices.Purge target) (purge_call n target o))
-  by_target target None e = nothing-done (choices.Purge target)
-  by_target target (Some orders.Star) e = nothing-done (choices.Purge target)
-  by_target target (Some (orders.Vary named)) e =
-      by_test (λ p. Comes deck w g c n (carry_out deck w.medium c n (choices.Purge target) p)) (named.0 == target.0)
-      (Call (record { known = n.known; act = acts.Purge target })) Nothing
-      (λ same.
-      comes-called deck w g c n at alive (choices.Purge target) (acts.Purge target)
-      (comes-in_star target
-      (e ∙ ap (λ (k : ℕ). let z : SysId = record { 0 = k } in Some (orders.Vary z)) (eqb-true named.0 target.0 same))))
-      (λ away. nothing-done (choices.Purge target))
-
-  pub outcome-purge : (target : SysId) → Comes deck w g c n (chosen deck w.medium c n (choices.Purge target))
-  unfolding chosen prepare
-  outcome-purge target = by_target target (next_order deck n) refl

@@ -4,7 +4,7 @@ use Rattle.std.proofs.Common.{◌≡◌, ◌≢◌, ◌<◌, ℕ, Bool, true, fa
 use Rattle.std.proofs.Common.{None, refl, ap, sym, ◌∙◌, subst}
 use Rattle.std.specs.Prelude.{get_or, is_some, slice_get, ◌==◌}
 use Rattle.std.specs.List.{list_any}
-use Rattle.std.proofs.lemmas.Bool.{and_parts, eqb-true, eqb-false, ne_eqb, and_right, and_from, not-true}
+use Rattle.std.proofs.lemmas.Bool.{and_parts, eqb-true, eqb-false, ne_eqb, and_from, not-true}
 use Rattle.std.proofs.lemmas.Option.{same_Some, slice_get-get_or}
 use Rattle.std.proofs.Math.Bool.{and-true}
 use Rattle.lock_structure.specs.Entries.{entry_of_res}
@@ -17,26 +17,21 @@ use Rattle.grs_known.specs.Items.{RunItem, items}
 use Rattle.grs_known.proofs.known.Histories.{has-may}
 use Rattle.grs_known.proofs.lists.Parts.{is_res_of}
 use Rattle.grs_legal.specs.Asks.{lines_of}
-use Rattle.grs_medium.specs.Apply.{row, leave_row}
-use Rattle.grs_medium.specs.Medium.{MediumState, awake, inbox}
-use Rattle.grs_node.specs.Node.{NodeState, prepare, finish, finish_call, finish_star, with_star}
+use Rattle.grs_medium.specs.Medium.{MediumState, inbox}
+use Rattle.grs_node.specs.Node.{NodeState, with_star}
 use Rattle.grs_node.specs.Star.{StarPart, has_interest, is_busy_in, is_done_with, left_at, may_leave, fixing_none}
-use Rattle.grs_node.specs.declared.star.Need.TheVariants.{Asks, Idle}
-use Rattle.grs_wire.specs.LockWords.{interest, is_kept, is_manager, leave_changes, leave_reply}
+use Rattle.grs_wire.specs.LockWords.{interest, is_manager, leave_reply}
 use Rattle.grs_wire.specs.Masks.{has}
-use Rattle.grs_wire.specs.declared.deck.Choice.TheVariants as choices
 use Rattle.grs_wire.specs.declared.deck.Deck.{Deck}
-use Rattle.grs_wire.specs.declared.medium.Act.TheVariants as acts
 use Rattle.grs_wire.specs.declared.medium.Reply.TheVariants as replies
 use Rattle.grs_wire.specs.declared.request.Req.{Req}
-use Rattle.grs_wire.proofs.WantLaws.{by_test}
-use Rattle.grs_world.specs.World.{World, chosen}
+use Rattle.grs_world.specs.World.{World}
 use Rattle.grs_known.proofs.told.News.{still-told}
 use Rattle.lock_structure.specs.Laws.{is_interested, manager_at}
 use Rattle.lock_structure.specs.Words.{left_words, word_at}
 use Rattle.lock_structure.proofs.LawProofs.{leave_manages, leave_parts, manager_is_kept}
 use Rattle.grs_world.proofs.star.Elements.{is_near_res, near-has, near-words}
-use Rattle.grs_world.proofs.star.Events.{left-is, there_leave}
+use Rattle.grs_world.proofs.star.Events.{there_leave}
 use Rattle.grs_world.proofs.star.Leaving.{no-element, system-left}
 use Rattle.grs_world.proofs.star.Members.{IsMember, IsStep, all_lists, has_manager, managed-is}
 use Rattle.grs_world.proofs.star.Settling.{asker-away}
@@ -44,8 +39,7 @@ use Rattle.grs_world.proofs.star.Systems.{IsSystem, near_at, system-words}
 use Rattle.grs_world.proofs.star.Worlds.{Hands, IsHand, IsWhole, are_live, in_hands, live-below, items-none}
 use Rattle.grs_world.proofs.star.Worlds.{whole-placed, none_fixed}
 use Rattle.grs_world.proofs.star.hearing.Quiet.{heard-left}
-use Rattle.grs_world.proofs.star.steps.Outcome.{Comes, ComesBy, ComesOf, IsOutcome, comes-called, comes-finished}
-use Rattle.grs_world.proofs.star.steps.Outcome.{comes-needs, comes-none, comes-quiet}
+use Rattle.grs_world.proofs.star.steps.Outcome.{IsOutcome}
 use Rattle.grs_world.proofs.star.steps.Words.{hands-words, others-keep}
 use Rattle.grs_world.proofs.run.Desks.{tells_tasks}
 
@@ -165,10 +159,10 @@ module _ (deck : Deck) (some : 0 < deck.entries) (w : World) (g : IsWhole deck w
                     ∙ (same-interest a apart ∙ (ap (is_interested words a) (sym same) ∙ near))
                 by_system false f = step.moves.interest a t.system.0 (eqb-false t.system.0 c.0 f) ∙ near
 
-        whole-left :
+        pub outcome-leave :
             IsOutcome deck w g c n
             (record { medium = left flags; step = with_star n (fixing_none n.tasks (left_at p x)) })
-        whole-left = record {
+        outcome-leave = record {
           stays =
               whole-placed deck w g c n at alive
               (record { medium = left flags; step = with_star n (fixing_none n.tasks (left_at p x)) }) step T
@@ -192,67 +186,3 @@ module _ (deck : Deck) (some : 0 < deck.entries) (w : World) (g : IsWhole deck w
           heard = heard-left deck w g c n at alive x done (left flags) refl refl;
           dated = λ h. record { date = h.date; own = h.own };
         }
-
-      comes-left :
-          ComesOf deck w g c n at alive (choices.Leave x) (
-            replies.Left,
-            cond (leave_changes (word_at words x) c) (record w.medium { words = words'; rest = awake w.medium c })
-                w.medium,
-          )
-      unfolding finish finish_call finish_star
-      comes-left =
-          subst (λ (m : MediumState).
-          Comes deck w g c n (record { medium = m; step = finish deck n (choices.Leave x) (Some replies.Left) }))
-          (sym (left-is deck some w c inside n at alive g.roles me x free))
-          (comes-finished deck w g c n at alive
-          (left (cond (leave_changes (word_at words x) c) (awake w.medium c) w.medium.rest)) (choices.Leave x)
-          replies.Left (λ step. whole-left _ step))
-
-    -- a manager that would leave others behind is answered Kept, and nothing changes
-    comes-kept : is_kept (word_at words x) c ≡ true
-        → ComesOf deck w g c n at alive (choices.Leave x) (
-          replies.Kept (interest (word_at words x)),
-          cond (leave_changes (word_at words x) c) (record w.medium { words = words'; rest = awake w.medium c })
-              w.medium,
-        )
-    unfolding finish finish_call finish_star leave_changes
-    comes-kept is =
-        subst (λ (m : MediumState).
-        Comes deck w g c n (record {
-          medium = m;
-          step = finish deck n (choices.Leave x) (Some (replies.Kept (interest (word_at words x))));
-        }))
-        (sym same)
-        (comes-finished deck w g c n at alive w.medium (choices.Leave x) (replies.Kept (interest (word_at words x)))
-        (comes-quiet deck w g c n at alive w.medium refl refl))
-      where
-        stays : leave_changes (word_at words x) c ≡ false
-        stays =
-            ap (λ b. has (interest (word_at words x)) c.0 && not b) is
-            ∙ and_right (has (interest (word_at words x)) c.0) false refl
-
-        same :
-            cond (leave_changes (word_at words x) c) (record w.medium { words = words'; rest = awake w.medium c })
-            w.medium
-            ≡ w.medium
-        same = ap (λ b. cond b (record w.medium { words = words'; rest = awake w.medium c }) w.medium) stays
-
-    comes-replied : ComesOf deck w g c n at alive (choices.Leave x) (row w.medium c (acts.Leave x))
-    unfolding row leave_row leave_reply
-    comes-replied =
-        by_test (λ reply.
-        ComesOf deck w g c n at alive (choices.Leave x) (
-          reply,
-          cond (leave_changes (word_at words x) c) (record w.medium { words = words'; rest = awake w.medium c })
-              w.medium,
-        ))
-        (is_kept (word_at words x) c) (replies.Kept (interest (word_at words x))) replies.Left
-        (λ h. comes-kept h)
-        (λ h. comes-left (ap (λ b. cond b (replies.Kept (interest (word_at words x))) replies.Left) h))
-
-  pub outcome-leave : (x : ℕ) → Comes deck w g c n (chosen deck w.medium c n (choices.Leave x))
-  unfolding chosen prepare
-  outcome-leave x = comes-needs deck w g c n at alive (choices.Leave x)
-      (by_test (ComesBy deck w g c n at alive (choices.Leave x)) (may_leave p n.tasks x) (Asks (acts.Leave x)) Idle
-      (λ h. comes-called deck w g c n at alive (choices.Leave x) (acts.Leave x) (comes-replied x h))
-      (λ h. comes-none deck w g c n at alive (choices.Leave x)))

@@ -1,7 +1,7 @@
 -- A request of one of its tasks is sent: it is decided by the system itself, where it manages the entry or nobody does,
 -- or goes to the manager of its entry.
-use Rattle.std.proofs.Common.{suc, ◌≤◌, ◌≡◌, ◌<◌, ◌||◌, ◌&&◌, ℕ, Bool, true, false, not, cond, List, [], ◌∷◌, ◌++◌}
-use Rattle.std.proofs.Common.{length, Option, Some, None, refl, ap, sym, ◌∙◌, subst, arith}
+use Rattle.std.proofs.Common.{suc, ◌≤◌, ◌≡◌, ◌<◌, ◌||◌, ◌&&◌, ℕ, Bool, true, false, not, List, [], ◌∷◌, ◌++◌, length}
+use Rattle.std.proofs.Common.{Option, Some, None, refl, ap, sym, ◌∙◌, subst, arith}
 use Rattle.std.specs.Prelude.{◌==◌, is_some, slice_get}
 use Rattle.std.proofs.lemmas.Bool.{and_parts, eqb-false, eq-eqb, and_from}
 use Rattle.contention_mgr.specs.Manager.{Managed, managed_at, plain, items_of, kept_for, entry_wanted, after_request}
@@ -13,33 +13,23 @@ use Rattle.grs_base.specs.declared.resource.SysId.{SysId}
 use Rattle.grs_base.specs.declared.resource.TaskId.{TaskId}
 use Rattle.grs_legal.specs.Asks.{lines_of}
 use Rattle.grs_legal.specs.declared.meaning.Meaning.{Meaning}
-use Rattle.grs_medium.specs.Apply.{row, submit_row, submit_on, joined, manages as manages_word}
 use Rattle.grs_medium.specs.Inboxes.{with_mail}
-use Rattle.grs_medium.specs.Medium.{MediumState, awake, inbox}
-use Rattle.grs_node.specs.Node.{NodeState, prepare, may_send, is_of_deck, is_to_send, finish, finish_quiet, finish_call}
-use Rattle.grs_node.specs.Node.{finish_star, with_star, send_own}
-use Rattle.grs_node.specs.Star.{StarPart, request_of, entry_for, entry_asked, manages, with_interest, send_to, send_of}
-use Rattle.grs_node.specs.Star.{decide_own, own_step, begun, begin_at, sent_to, lists_for, answer_for, owners_by}
-use Rattle.grs_node.specs.Star.{rank_of}
+use Rattle.grs_medium.specs.Medium.{awake, inbox}
+use Rattle.grs_node.specs.Node.{NodeState, may_send, is_of_deck, is_to_send, with_star}
+use Rattle.grs_node.specs.Star.{StarPart, request_of, entry_for, manages, with_interest, decide_own, begun, lists_for}
+use Rattle.grs_node.specs.Star.{answer_for, owners_by, rank_of, fixing_none}
 use Rattle.lock_structure.specs.Entries.{is_entry}
-use Rattle.grs_node.specs.declared.star.Need.TheVariants.{Alone, Asks, Idle}
 use Rattle.grs_wire.specs.Masks.{has}
-use Rattle.grs_wire.specs.LockWords.{is_manager}
 use Rattle.grs_wire.specs.Wants.{answer_to, new_owners, res_wanted}
-use Rattle.grs_wire.specs.declared.deck.Choice.TheVariants as choices
 use Rattle.grs_wire.specs.declared.deck.Deck.{Deck}
-use Rattle.grs_wire.specs.declared.medium.Act.TheVariants as acts
 use Rattle.grs_wire.specs.declared.medium.Mail.TheVariants as mails
-use Rattle.grs_wire.specs.declared.medium.Reply.TheVariants as replies
 use Rattle.grs_wire.specs.declared.request.Fixed.TheVariants as fixing
 use Rattle.grs_wire.specs.declared.request.Req.{Req}
-use Rattle.grs_wire.proofs.WantLaws.{by_test}
 use Rattle.lock_structure.specs.Laws.{manager_at}
-use Rattle.lock_structure.specs.Words.{route, route_by, submitted_words}
-use Rattle.lock_structure.specs.declared.word.Route.TheVariants as routes
+use Rattle.lock_structure.specs.Words.{submitted_words}
 use Rattle.star_client.specs.Client.{tell_answer_ranked}
 use Rattle.task_state.specs.Replies.{tell_new}
-use Rattle.task_state.specs.View.{TasksView, is_task, is_sent, state_of}
+use Rattle.task_state.specs.View.{TasksView, is_task, is_sent, state_of, with_phase}
 use Rattle.task_state.specs.declared.state.Asked.{Asked}
 use Rattle.task_state.specs.declared.state.Phase.{Phase}
 use Rattle.task_state.specs.declared.state.Phase.TheVariants as phases
@@ -48,7 +38,7 @@ use Rattle.grs_known.specs.Items.{RunItem, lists, items}
 use Rattle.grs_known.proofs.known.Histories.{made_item}
 use Rattle.grs_known.proofs.known.ItemLaws.{lists-push}
 use Rattle.grs_known.proofs.lists.Owners.{is_among, new-owns}
-use Rattle.grs_world.specs.World.{World, carry_out, chosen}
+use Rattle.grs_world.specs.World.{World}
 use Rattle.grs_known.proofs.system.Asking.{are_sent}
 use Rattle.grs_world.proofs.system.AtNode.{opens_of}
 use Rattle.grs_known.proofs.system.Ours.{IsOurs}
@@ -65,8 +55,7 @@ use Rattle.grs_world.proofs.star.Under.{under, entry-same, answer-under, owners-
 use Rattle.grs_world.proofs.star.Worlds.{IsWhole}
 use Rattle.grs_world.proofs.star.hearing.Decided.{heard-decided}
 use Rattle.grs_world.proofs.star.hearing.Gains.{beginning-next, beginning-untold, untold_of}
-use Rattle.grs_world.proofs.star.steps.Outcome.{Comes, ComesBy, ComesOf, comes-needs, comes-none, comes-called}
-use Rattle.grs_world.proofs.star.steps.Outcome.{comes-finished}
+use Rattle.grs_world.proofs.star.steps.Outcome.{Comes}
 use Rattle.grs_known.proofs.lists.Alike.{Alike, answer-alike, owners-alike}
 
 -- a task whose request waits to be sent has sent none
@@ -220,13 +209,9 @@ module _ (deck : Deck) (some : 0 < deck.entries) (w : World) (g : IsWhole deck w
             (rank_of q (request_of t a)) p q me.star fits held begins low))
 
         -- the system manages the entry itself
-        alone : manages p x ≡ true → ComesBy deck w g c n at alive (choices.Send t) Alone
-        unfolding carry_out finish finish_quiet
-        alone mine =
-            subst (λ o. Comes deck w g c n (record { medium = w.medium; step = send_own n t o })) (sym me.star)
-            (subst (λ o. Comes deck w g c n (record { medium = w.medium; step = with_star n (own_step n.tasks p t o) }))
-            (sym is)
-            (decided words w.medium.rest (words-stay words) p me.fits mine refl (λ v u h. h) (λ k h. h)))
+        pub outcome-own : manages p x ≡ true
+            → Comes deck w g c n (record { medium = w.medium; step = with_star n (decide_own n.tasks p t a) })
+        outcome-own mine = decided words w.medium.rest (words-stay words) p me.fits mine refl (λ v u h. h) (λ k h. h)
 
         -- another system manages it, or nobody does
         module _ (not_mine : manages p x ≡ false) where
@@ -235,11 +220,6 @@ module _ (deck : Deck) (some : 0 < deck.entries) (w : World) (g : IsWhole deck w
 
           grow : WordsGrow w.medium.words (submitted_words w.medium.words x c)
           grow = submit-grows words x c inside_words inside g.roles.managed
-
-          joined-is : manages_word w.medium c x ≡ false
-              → joined w.medium c x
-              ≡ record w.medium { words = submitted_words w.medium.words x c; rest = awake w.medium c }
-          joined-is e = ap (λ b. cond b w.medium (record w.medium { words = now; rest = awake w.medium c })) e
 
           -- nothing is kept of an entry that the system doesn't manage
           none_kept : managed_at p.manager x ≡ None
@@ -253,34 +233,21 @@ module _ (deck : Deck) (some : 0 < deck.entries) (w : World) (g : IsWhole deck w
           there : x < length p.manager.entries
           there = let k = want-within deck.entries a.req.want x some of_entry in omega (arith, k, me.fits.entries)
 
-          sole : manager_at w.medium.words x ≡ None
-              → Comes deck w g c n (record {
+          pub outcome-began : manager_at w.medium.words x ≡ None →
+              Comes deck w g c n (record {
                 medium = record w.medium { words = submitted_words w.medium.words x c; rest = awake w.medium c };
-                step = finish_star deck n (Some p) (choices.Send t) replies.Sole;
+                step = with_star n (decide_own n.tasks (begun p x) t a);
               })
-          unfolding finish_star
-          sole nobody =
+          outcome-began nobody =
               let fits =
               begun_part deck some w c inside n at alive g.roles me x
               (want-within deck.entries a.req.want x some of_entry) nobody in
-              subst (λ o.
-              Comes deck w g c n (record {
-                medium = record w.medium { words = now; rest = awake w.medium c };
-                step = with_star n (begin_at n.tasks p t o (entry_asked p o));
-              }))
-              (sym is)
-              (subst (λ o.
-              Comes deck w g c n (record {
-                medium = record w.medium { words = now; rest = awake w.medium c };
-                step = with_star n (begin_at n.tasks p t (Some a) o);
-              }))
-              (sym asks)
-              (decided now (awake w.medium c) grow (begun p x) fits
+              decided now (awake w.medium c) grow (begun p x) fits
               (fits.roles x ∙ submit-first words x c inside_words inside g.roles.managed nobody) refl
               (λ v u h. beginning-untold p.manager x there none_kept v u h)
-              (λ k h. beginning-next p.manager x there k h)))
+              (λ k h. beginning-next p.manager x there k h)
 
-          sends : (s : SysId) → manager_at w.medium.words x ≡ Some s → (s.0 == c.0) ≡ false →
+          pub outcome-away : (s : SysId) → manager_at w.medium.words x ≡ Some s → (s.0 == c.0) ≡ false →
               Comes deck w g c n (record {
                 medium =
                     record w.medium {
@@ -288,75 +255,9 @@ module _ (deck : Deck) (some : 0 < deck.entries) (w : World) (g : IsWhole deck w
                       inboxes = with_mail w.medium.inboxes s.0 (mails.Request x c (request_of t a));
                       rest = awake w.medium c;
                     };
-                step = finish_star deck n (Some p) (choices.Send t) replies.Sent;
+                step = with_star n (fixing_none (with_phase n.tasks t phases.Sent) (with_interest p x true));
               })
-          unfolding finish_star
-          sends s manager apart =
-              subst (λ o.
-              Comes deck w g c n (record {
-                medium =
-                    record w.medium {
-                      words = now;
-                      inboxes = with_mail w.medium.inboxes s.0 (mails.Request x c (request_of t a));
-                      rest = awake w.medium c;
-                    };
-                step = with_star n (sent_to n.tasks p t o);
-              }))
-              (sym (ap (entry_asked p) is ∙ asks))
-              (outcome-sent deck w g c n at alive now grow (awake w.medium c) t lines.0 lines.1 home a is free x
-              of_entry (submit-near words x c inside_words inside g.roles.managed) s (manager-here words x s manager)
-              (eqb-false s.0 c.0 apart) p (with_interest p x true) me.star refl refl)
-
-          by_route : (o : Option SysId) → manager_at w.medium.words x ≡ o
-              → ComesOf deck w g c n at alive (choices.Send t) (submit_on w.medium c x (request_of t a) (route_by o c))
-          unfolding finish finish_call
-          by_route None nobody =
-              subst (λ (m : MediumState).
-              Comes deck w g c n (record { medium = m; step = finish deck n (choices.Send t) (Some replies.Sole) }))
-              (sym (joined-is (ap (λ o. is_manager o c) nobody)))
-              (comes-finished deck w g c n at alive (record w.medium { words = now; rest = awake w.medium c })
-              (choices.Send t) replies.Sole (sole nobody))
-          by_route (Some s) manager =
-              let apart : (s.0 == c.0) ≡ false =
-              sym (ap (λ o. is_manager o (record { 0 = c.0 })) manager) ∙ (sym (me.fits.roles x) ∙ not_mine) in
-              let boxes = with_mail w.medium.inboxes s.0 (mails.Request x c (request_of t a)) in
-              subst (λ (b : Bool).
-              ComesOf deck w g c n at alive (choices.Send t)
-              (submit_on w.medium c x (request_of t a) (cond b routes.Sole (routes.To s))))
-              (sym apart)
-              (subst (λ (m : MediumState).
-              Comes deck w g c n (record {
-                medium = record m { inboxes = boxes };
-                step = finish deck n (choices.Send t) (Some replies.Sent);
-              }))
-              (sym (joined-is (ap (λ o. is_manager o c) manager ∙ apart)))
-              (comes-finished deck w g c n at alive
-              (record w.medium { words = now; inboxes = boxes; rest = awake w.medium c }) (choices.Send t) replies.Sent
-              (sends s manager apart)))
-
-          submitted : ComesOf deck w g c n at alive (choices.Send t) (row w.medium c (acts.Submit x (request_of t a)))
-          unfolding row submit_row route
-          submitted = by_route (manager_at words x) refl
-
-      by_entry : (o : Option ℕ) → entry_for p a.req.want ≡ o
-          → ComesBy deck w g c n at alive (choices.Send t) (send_to p (request_of t a) o)
-      by_entry None e = comes-none deck w g c n at alive (choices.Send t)
-      by_entry (Some x) e =
-          by_test (ComesBy deck w g c n at alive (choices.Send t)) (manages p x) Alone
-          (Asks (acts.Submit x (request_of t a)))
-          (λ mine. alone x e mine)
-          (λ not_mine.
-          comes-called deck w g c n at alive (choices.Send t) (acts.Submit x (request_of t a)) (submitted x e not_mine))
-
-    by_asked : (o : Option Asked) → (state_of n.tasks t).outstanding ≡ o
-        → ComesBy deck w g c n at alive (choices.Send t) (send_of p t o)
-    by_asked None e = comes-none deck w g c n at alive (choices.Send t)
-    by_asked (Some a) e = by_entry a e (entry_for p a.req.want) refl
-
-  pub outcome-send : (t : TaskId) → Comes deck w g c n (chosen deck w.medium c n (choices.Send t))
-  unfolding chosen prepare
-  outcome-send t = comes-needs deck w g c n at alive (choices.Send t)
-      (by_test (ComesBy deck w g c n at alive (choices.Send t)) (may_send deck n t)
-      (send_of p t (state_of n.tasks t).outstanding) Idle
-      (λ may. by_asked t may (state_of n.tasks t).outstanding refl)
-      (λ e. comes-none deck w g c n at alive (choices.Send t)))
+          outcome-away s manager apart =
+              outcome-sent deck w g c n at alive now grow (awake w.medium c) t lines.0 lines.1 home a is free x of_entry
+              (submit-near words x c inside_words inside g.roles.managed) s (manager-here words x s manager)
+              (eqb-false s.0 c.0 apart) p (with_interest p x true) me.star refl refl

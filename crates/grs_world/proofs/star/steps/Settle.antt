@@ -1,6 +1,5 @@
 -- A manager settles the request that it holds first: it answers by its own lists of the entry, which are the history's.
-use Rattle.std.proofs.Common.{◌≡◌, ◌++◌, true, cond, List, [], ◌∷◌, Option, Some, None, refl, ap, sym, ◌∙◌, subst}
-use Rattle.std.proofs.Common.{false}
+use Rattle.std.proofs.Common.{◌≡◌, ◌++◌, true, List, [], ◌∷◌, Option, Some, None, refl, ap, sym, ◌∙◌, subst, false}
 use Rattle.std.specs.Prelude.{drop, slice_get}
 use Rattle.std.proofs.lemmas.Option.{same_Some}
 use Rattle.contention_mgr.specs.Manager.{Managed, plain, items_of, kept_for, entry_wanted, after_request, rank_for}
@@ -12,27 +11,20 @@ use Rattle.grs_known.specs.Items.{RunItem, history, items, lists}
 use Rattle.grs_known.proofs.known.Histories.{MayFollow, made_item}
 use Rattle.grs_known.proofs.known.ItemLaws.{lists-push}
 use Rattle.grs_known.proofs.lists.Owners.{is_among, new-owns}
-use Rattle.grs_medium.specs.Apply.{row, mail_row}
 use Rattle.grs_medium.specs.Inboxes.{with_mail}
 use Rattle.grs_medium.specs.Medium.{MediumState, awake}
-use Rattle.grs_node.specs.Node.{NodeState, prepare, finish, finish_call, finish_star, with_star}
-use Rattle.grs_node.specs.Star.{StarPart, answer_for, first_held, lists_for, owners_by, fixing_none, rank_of, serves}
-use Rattle.grs_node.specs.Star.{settle_by, settled_by, settled_first}
-use Rattle.grs_node.specs.declared.star.Need.TheVariants.{Asks, Idle}
+use Rattle.grs_node.specs.Node.{NodeState, with_star}
+use Rattle.grs_node.specs.Star.{StarPart, answer_for, first_held, lists_for, owners_by, rank_of, settled_first}
 use Rattle.grs_wire.specs.Masks.{has}
 use Rattle.grs_wire.specs.Wants.{answer_to, new_owners, res_wanted}
-use Rattle.grs_wire.specs.declared.deck.Choice.TheVariants as choices
 use Rattle.grs_wire.specs.declared.deck.Deck.{Deck}
-use Rattle.grs_wire.specs.declared.medium.Act.TheVariants as acts
 use Rattle.grs_wire.specs.declared.medium.Mail.TheVariants as mails
-use Rattle.grs_wire.specs.declared.medium.Reply.TheVariants as replies
 use Rattle.grs_wire.specs.declared.request.Answer.{Answer}
 use Rattle.grs_wire.specs.declared.request.Fixed.TheVariants as fixes
 use Rattle.grs_wire.specs.declared.request.Req.{Req}
 use Rattle.grs_wire.specs.declared.request.Want.{Want}
 use Rattle.grs_wire.specs.declared.request.Want.TheVariants.{Enq, Deq, Release, Look}
-use Rattle.grs_wire.proofs.WantLaws.{by_test}
-use Rattle.grs_world.specs.World.{World, chosen, fixed_by}
+use Rattle.grs_world.specs.World.{World, fixed_by}
 use Rattle.grs_known.proofs.told.News.{ToldNews, told-news}
 use Rattle.task_state.specs.Replies.{tell_new}
 use Rattle.grs_world.proofs.star.Members.{IsMember, all_lists}
@@ -41,8 +33,7 @@ use Rattle.grs_world.proofs.star.Systems.{gives_want}
 use Rattle.grs_world.proofs.star.Under.{under, answer-under, entry-same, owners-under}
 use Rattle.grs_world.proofs.star.Worlds.{IsHand, IsWhole, are_live, items-one}
 use Rattle.grs_world.proofs.star.hearing.Settled.{heard-settled}
-use Rattle.grs_world.proofs.star.steps.Outcome.{Comes, ComesBy, ComesOf, comes-called, comes-finished, comes-needs}
-use Rattle.grs_world.proofs.star.steps.Outcome.{comes-none}
+use Rattle.grs_world.proofs.star.steps.Outcome.{Comes}
 use Rattle.grs_known.proofs.lists.Alike.{Alike, answer-alike, owners-alike}
 use Rattle.grs_world.proofs.run.Desks.{tells_tasks}
 use Rattle.grs_world.proofs.rest.StarTasks.{dated-by, keeps-new}
@@ -151,35 +142,10 @@ module _ (deck : Deck) (w : World) (g : IsWhole deck w) (c : SysId) (n : NodeSta
           (keeps-new deck n.tasks (res_wanted q.want) (owners_by p q) h.date);
     }
 
-    comes-settled : serves p q ≡ true
-        → ComesOf deck w g c n at alive choices.Settle
-        (row w.medium c (acts.Settle q.task.system (mails.Answered q.task (answer_for p q) (rank_of p q))))
-    unfolding row mail_row finish finish_call finish_star
-    comes-settled serving =
-        comes-finished deck w g c n at alive (answered (answer_for p q)) choices.Settle replies.Settled
-        (subst (λ o.
-        Comes deck w g c n (record { medium = answered (answer_for p q); step = with_star n (settled_by n.tasks p o) }))
-        (sym first)
-        (subst (λ b.
-        Comes deck w g c n (record {
-          medium = answered (answer_for p q);
-          step = with_star n (cond b (settled_first n.tasks p q) (fixing_none n.tasks p));
-        }))
-        (sym serving)
-        (subst (λ a.
+    pub outcome-settle :
+        Comes deck w g c n
+        (record { medium = answered (answer_for p q); step = with_star n (settled_first n.tasks p q) })
+    outcome-settle =
+        subst (λ a.
         Comes deck w g c n (record { medium = answered a; step = with_star n (settled_first n.tasks p q) }))
-        (sym same-answer) by-history)))
-
-  by_first : (o : Option Req) → first_held p ≡ o → ComesBy deck w g c n at alive choices.Settle (settle_by p o)
-  by_first None e = comes-none deck w g c n at alive choices.Settle
-  by_first (Some q) e =
-      by_test (ComesBy deck w g c n at alive choices.Settle) (serves p q)
-      (Asks (acts.Settle q.task.system (mails.Answered q.task (answer_for p q) (rank_of p q)))) Idle
-      (λ h.
-      comes-called deck w g c n at alive choices.Settle
-      (acts.Settle q.task.system (mails.Answered q.task (answer_for p q) (rank_of p q))) (comes-settled q e h))
-      (λ h. comes-none deck w g c n at alive choices.Settle)
-
-  pub outcome-settle : Comes deck w g c n (chosen deck w.medium c n choices.Settle)
-  unfolding chosen prepare
-  outcome-settle = comes-needs deck w g c n at alive choices.Settle (by_first (first_held p) refl)
+        (sym same-answer) by-history

@@ -10,20 +10,15 @@ use Rattle.grs_base.specs.declared.resource.Res.{Res}
 use Rattle.grs_base.specs.declared.resource.SysId.{SysId}
 use Rattle.grs_base.specs.declared.resource.TaskId.{TaskId}
 use Rattle.grs_base.proofs.SameLaws.{same_task-exact}
-use Rattle.grs_medium.specs.Apply.{row, take_row, take_from}
 use Rattle.grs_medium.specs.Inboxes.{without_first}
 use Rattle.grs_medium.specs.Medium.{MediumState, inbox, awake}
-use Rattle.grs_node.specs.Node.{NodeState, prepare, finish, finish_call, finish_star, with_star, is_of_deck}
-use Rattle.grs_node.specs.Node.{is_for_deck, names_of_deck, take_mail}
+use Rattle.grs_node.specs.Node.{NodeState, with_star, is_of_deck, is_for_deck, names_of_deck, take_mail}
 use Rattle.grs_node.specs.Star.{StarPart, StarStep, entry_for, manages, fixing_none, took_mail}
 use Rattle.lock_structure.specs.Entries.{is_entry}
 use Rattle.grs_wire.specs.Masks.{has}
-use Rattle.grs_wire.specs.declared.deck.Choice.TheVariants as choices
 use Rattle.grs_wire.specs.declared.deck.Deck.{Deck}
-use Rattle.grs_wire.specs.declared.medium.Act.TheVariants as acts
 use Rattle.grs_wire.specs.declared.medium.Mail.{Mail}
 use Rattle.grs_wire.specs.declared.medium.Mail.TheVariants.{Request, Answered, Granted}
-use Rattle.grs_wire.specs.declared.medium.Reply.TheVariants as replies
 use Rattle.grs_wire.specs.declared.request.Answer.{Answer}
 use Rattle.grs_wire.specs.declared.request.Req.{Req}
 use Rattle.grs_wire.proofs.WantLaws.{by_test}
@@ -35,21 +30,21 @@ use Rattle.grs_known.specs.Parts.{put_at}
 use Rattle.grs_known.proofs.lists.Owners.{is_among}
 use Rattle.grs_known.proofs.lists.Truths.{no_truth, false_by, task_swap}
 use Rattle.grs_known.proofs.lists.Placed.{put_here, put_other}
-use Rattle.grs_world.specs.World.{World, Turnout, chosen, placed}
+use Rattle.grs_world.specs.World.{World, Turnout, placed}
 use Rattle.grs_known.proofs.told.News.{ToldNews, told-news}
 use Rattle.grs_known.proofs.system.Says.{askers, stand_apart, none}
 use Rattle.grs_world.proofs.star.Answering.{others_of, without_asker, mine-others}
-use Rattle.grs_world.proofs.star.Mailed.{TookAnswer, learns, leaves, took-request, took-control, took-answer}
-use Rattle.grs_world.proofs.star.Mailed.{not_here, strange-answer, strange-control}
+use Rattle.grs_world.proofs.star.Mailed.{TookAnswer, learns, leaves, took-request, took-control, took-answer, not_here}
+use Rattle.grs_world.proofs.star.Mailed.{strange-answer, strange-control}
 use Rattle.grs_world.proofs.star.Heard.{StaysHeard}
-use Rattle.grs_world.proofs.star.Members.{IsMember, IsPart, all_lists}
+use Rattle.grs_world.proofs.star.Members.{IsPart, all_lists}
 use Rattle.grs_world.proofs.star.hearing.Taken.{heard-answered, heard-control, heard-dropped, heard-held, heard-missed}
 use Rattle.grs_world.proofs.star.hearing.Taken.{heard-strange}
 use Rattle.grs_world.proofs.star.OwnEvents.{Goes}
 use Rattle.grs_world.proofs.star.Systems.{IsSystem, is_late, late-none, requests_in}
 use Rattle.grs_world.proofs.star.Worlds.{IsIn, IsHand, AllHands, Hands, IsWhole, are_live, in_hands, items-none}
 use Rattle.grs_world.proofs.star.Worlds.{whole-placed, none_fixed}
-use Rattle.grs_world.proofs.star.steps.Outcome.{Comes, ComesOf, comes-quiet, comes-needs, comes-called, comes-finished}
+use Rattle.grs_world.proofs.star.steps.Outcome.{Comes, part}
 use Rattle.grs_world.proofs.run.Desks.{tells_tasks}
 use Rattle.grs_world.proofs.rest.StarTasks.{Keeps, dated-by, keeps-control, keeps-mail, keeps-none}
 use Rattle.grs_world.proofs.rest.Steps.{AllDate}
@@ -394,22 +389,10 @@ module _ (deck : Deck) (w : World) (g : IsWhole deck w) (c : SysId) (n : NodeSta
 -- ---- the event
 module _ (deck : Deck) (w : World) (g : IsWhole deck w) (c : SysId) (n : NodeState)
     (at : slice_get w.nodes c.0 ≡ Some n) (alive : has w.medium.removed c.0 ≡ false) where
-  abbrev me : IsMember deck w.medium.words (all_lists w) c.0 n
-  me = g.roles.node c.0 n at alive
-
-  by_inbox : (ms : List Mail) → inbox w.medium c.0 ≡ ms
-      → ComesOf deck w g c n at alive choices.Take (take_from w.medium c ms)
-  unfolding finish finish_call finish_star
-  by_inbox [] is =
-      comes-finished deck w g c n at alive w.medium choices.Take replies.Empty
-      (comes-quiet deck w g c n at alive w.medium refl refl)
-  by_inbox (mail ∷ rest) is =
-      comes-finished deck w g c n at alive
-      (record w.medium { inboxes = without_first w.medium.inboxes c.0; rest = awake w.medium c }) choices.Take
-      (replies.Taken mail) (takes deck w g c n at alive me.part me.star rest mail is)
-
-  pub outcome-take : Comes deck w g c n (chosen deck w.medium c n choices.Take)
-  unfolding chosen prepare row take_row
-  outcome-take =
-      comes-needs deck w g c n at alive choices.Take
-      (comes-called deck w g c n at alive choices.Take acts.Take (by_inbox (inbox w.medium c.0) refl))
+  pub outcome-take : (mail : Mail) (rest : List Mail) → inbox w.medium c.0 ≡ mail ∷ rest →
+      Comes deck w g c n (record {
+        medium = record w.medium { inboxes = without_first w.medium.inboxes c.0; rest = awake w.medium c };
+        step = with_star n (take_mail deck n.tasks (part deck w g c n at alive) mail);
+      })
+  outcome-take mail rest is =
+      takes deck w g c n at alive (part deck w g c n at alive) (g.roles.node c.0 n at alive).star rest mail is

@@ -4,19 +4,16 @@ use Rattle.std.specs.Prelude.{slice_get}
 use Rattle.grs_base.specs.declared.resource.SysId.{SysId}
 use Rattle.grs_base.specs.declared.resource.TaskId.{TaskId}
 use Rattle.grs_medium.specs.Medium.{inbox}
-use Rattle.grs_node.specs.Node.{NodeState, Step, prepare, finish, finish_quiet, may_go}
-use Rattle.grs_node.specs.declared.prepared.Prepared.TheVariants.{Quiet, Nothing}
+use Rattle.grs_node.specs.Node.{NodeState, Step, may_go, task_step}
 use Rattle.grs_wire.specs.Masks.{has}
-use Rattle.grs_wire.specs.declared.deck.Choice.TheVariants as choices
 use Rattle.grs_wire.specs.declared.deck.Deck.{Deck}
-use Rattle.grs_wire.proofs.WantLaws.{by_test}
 use Rattle.grs_known.specs.Items.{history, items}
-use Rattle.grs_world.specs.World.{World, carry_out, chosen, fixed_by}
+use Rattle.grs_world.specs.World.{World, fixed_by}
 use Rattle.grs_known.proofs.told.News.{ToldNews, told-news}
 use Rattle.grs_world.proofs.star.OwnEvents.{Task, idle_task, local_task, system-task}
 use Rattle.grs_world.proofs.star.Worlds.{IsWhole, items-none, items-one, whole-task}
 use Rattle.grs_world.proofs.star.hearing.Quiet.{heard-task}
-use Rattle.grs_world.proofs.star.steps.Outcome.{Comes, comes-none}
+use Rattle.grs_world.proofs.star.steps.Outcome.{Comes}
 use Rattle.grs_node.proofs.Keeping.{stays-task}
 use Rattle.grs_world.proofs.run.Desks.{tells_tasks}
 use Rattle.grs_legal.specs.Asks.{lines_of}
@@ -41,20 +38,19 @@ module _ (deck : Deck) (w : World) (g : IsWhole deck w) (c : SysId) (n : NodeSta
 
   -- and its tasks stay up to date
   own-dated : (t : TaskId) → may_go deck n t ≡ true → IsDated deck c.0 n
-      → IsDated deck c.0 (finish_quiet deck n (choices.Task t)).node
+      → IsDated deck c.0 (task_step deck.limit n t (lines_of deck t)).node
   own-dated t goes =
       dated-task deck c.0 n (g.system c.0 n at alive).at.good.system
       (λ u ls o.
       distinct-at deck c.0 (items w.fixed) [] (g.later c.0) (g.out c.0) (ghosted n) (g.system c.0 n at alive).at u ls o)
       t goes
 
-  goes-on : (t : TaskId) → may_go deck n t ≡ true
-      → Comes deck w g c n (record { medium = w.medium; step = finish_quiet deck n (choices.Task t) })
-  unfolding finish_quiet
-  goes-on t goes step = record {
+  pub outcome-task : (t : TaskId) → may_go deck n t ≡ true
+      → Comes deck w g c n (record { medium = w.medium; step = task_step deck.limit n t (lines_of deck t) })
+  outcome-task t goes step = record {
     stays = whole-task deck w g c n at alive t goes step;
     news =
-        tells_tasks (task-news (finish_quiet deck n (choices.Task t))
+        tells_tasks (task-news (task_step deck.limit n t (lines_of deck t))
         (system-task deck w.medium.words (items w.fixed) g.right c.0 n (inbox w.medium c.0) (g.later c.0) (g.out c.0)
         (g.system c.0 n at alive) c t (g.roles.node c.0 n at alive).part (g.roles.node c.0 n at alive).star goes))
         (stays-task deck.limit n t (lines_of deck t)).done refl;
@@ -64,14 +60,3 @@ module _ (deck : Deck) (w : World) (g : IsWhole deck w) (c : SysId) (n : NodeSta
         (g.roles.node c.0 n at alive).star goes);
     dated = own-dated t goes;
   }
-
-  by_itself : (t : TaskId) → may_go deck n t ≡ true
-      → Comes deck w g c n (carry_out deck w.medium c n (choices.Task t) Quiet)
-  unfolding carry_out finish
-  by_itself t goes = goes-on t goes
-
-  pub outcome-task : (t : TaskId) → Comes deck w g c n (chosen deck w.medium c n (choices.Task t))
-  unfolding chosen prepare
-  outcome-task t =
-      by_test (λ p. Comes deck w g c n (carry_out deck w.medium c n (choices.Task t) p)) (may_go deck n t) Quiet Nothing
-      (λ h. by_itself t h) (λ h. comes-none deck w g c n at alive (choices.Task t))

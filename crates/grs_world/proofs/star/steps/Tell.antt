@@ -16,24 +16,20 @@ use Rattle.grs_base.specs.declared.resource.Res.{Res}
 use Rattle.grs_base.specs.declared.resource.SysId.{SysId}
 use Rattle.grs_base.specs.declared.resource.TaskId.{TaskId}
 use Rattle.grs_legal.specs.Asks.{lines_of}
-use Rattle.grs_medium.specs.Apply.{row, mail_row}
 use Rattle.grs_medium.specs.Inboxes.{with_mail}
 use Rattle.grs_medium.specs.Medium.{MediumState, inbox, awake}
-use Rattle.grs_node.specs.Node.{NodeState, prepare, finish, finish_call, finish_star, with_star}
-use Rattle.grs_node.specs.Star.{StarPart, to_tell, told_by, tell_by, fixing_none}
+use Rattle.grs_node.specs.Node.{NodeState, with_star}
+use Rattle.grs_node.specs.Star.{StarPart, to_tell, told_by, fixing_none}
 use Rattle.grs_wire.specs.Masks.{has}
-use Rattle.grs_wire.specs.declared.deck.Choice.TheVariants as choices
 use Rattle.grs_wire.specs.declared.deck.Deck.{Deck}
-use Rattle.grs_wire.specs.declared.medium.Act.TheVariants as acts
 use Rattle.grs_wire.specs.declared.medium.Mail.{Mail}
 use Rattle.grs_wire.specs.declared.medium.Mail.TheVariants.{Request, Answered, Granted}
-use Rattle.grs_wire.specs.declared.medium.Reply.TheVariants as replies
 use Rattle.lock_structure.specs.Laws.{is_interested}
 use Rattle.grs_known.specs.Items.{RunItem, lists, items}
 use Rattle.grs_known.proofs.known.Histories.{owns-may}
 use Rattle.grs_known.proofs.lists.All.{owns-has}
 use Rattle.grs_known.proofs.lists.Truths.{false_by, no_truth}
-use Rattle.grs_world.specs.World.{World, Turnout, chosen, placed}
+use Rattle.grs_world.specs.World.{World, Turnout, placed}
 use Rattle.grs_known.proofs.system.Says.{is_home_at}
 use Rattle.grs_known.proofs.told.News.{still-told}
 use Rattle.grs_world.proofs.star.Elements.{near-has}
@@ -44,8 +40,7 @@ use Rattle.grs_world.proofs.star.Worlds.{IsWhole, Hands, are_live, in_hands, ite
 use Rattle.grs_world.proofs.star.Worlds.{live-below}
 use Rattle.grs_world.proofs.star.Heard.{StaysHeard}
 use Rattle.grs_world.proofs.star.hearing.Told.{heard-told}
-use Rattle.grs_world.proofs.star.steps.Outcome.{Comes, ComesBy, ComesOf, part, comes-called, comes-finished}
-use Rattle.grs_world.proofs.star.steps.Outcome.{comes-needs, comes-none}
+use Rattle.grs_world.proofs.star.steps.Outcome.{Comes, part}
 use Rattle.grs_known.proofs.lists.Alike.{Alike}
 use Rattle.grs_world.proofs.run.Desks.{tells_tasks}
 
@@ -260,32 +255,19 @@ module _ (deck : Deck) (w : World) (g : IsWhole deck w) (c : SysId) (n : NodeSta
       }
 
   -- ---- the event
-  sends : (entry : ℕ) (x : TaskId × Res) → to_tell (part deck w g c n at alive) entry ≡ Some x
-      → ComesOf deck w g c n at alive (choices.Tell entry) (row w.medium c (acts.Tell x.0.system (Granted x.0 x.1)))
-  unfolding row mail_row finish finish_call finish_star
-  sends entry x is =
-      comes-finished deck w g c n at alive (sent_on entry x.0 x.1 owner (awake w.medium c)) (choices.Tell entry)
-      replies.Told
-      (subst (λ o.
+  pub outcome-tell : (entry : ℕ) (x : TaskId × Res) → to_tell (part deck w g c n at alive) entry ≡ Some x →
       Comes deck w g c n (record {
-        medium = sent_on entry x.0 x.1 owner (awake w.medium c);
-        step = with_star n (fixing_none n.tasks (told_by p o));
-      }))
-      (sym is)
-      (tells entry x.0 x.1 owner (awake w.medium c) (told_by p (Some x)) refl
+        medium =
+            record w.medium {
+              inboxes = with_mail w.medium.inboxes x.0.system.0 (Granted x.0 x.1);
+              rest = awake w.medium c;
+            };
+        step = with_star n (fixing_none n.tasks (told_by (part deck w g c n at alive) (Some x)));
+      })
+  outcome-tell entry x is =
+      tells entry x.0 x.1 owner (awake w.medium c) (told_by p (Some x)) refl
       (heard-told deck w g c n at alive p (g.roles.node c.0 n at alive).star x.0 x.1 owner.apart
-      (below entry x.0 x.1 owner (awake w.medium c)) (awake w.medium c))))
+      (below entry x.0 x.1 owner (awake w.medium c)) (awake w.medium c))
     where
       owner : IsOwner deck w.medium.words (lists (items w.fixed)) c.0 entry x.0 x.1
       owner = first-owns deck words (lists T) c.0 p (g.roles.node c.0 n at alive).fits entry x is
-
-  by_owner : (entry : ℕ) (o : Option (TaskId × Res)) → to_tell (part deck w g c n at alive) entry ≡ o
-      → ComesBy deck w g c n at alive (choices.Tell entry) (tell_by o)
-  by_owner entry None is = comes-none deck w g c n at alive (choices.Tell entry)
-  by_owner entry (Some x) is =
-      comes-called deck w g c n at alive (choices.Tell entry) (acts.Tell x.0.system (Granted x.0 x.1))
-      (sends entry x is)
-
-  pub outcome-tell : (entry : ℕ) → Comes deck w g c n (chosen deck w.medium c n (choices.Tell entry))
-  unfolding chosen prepare
-  outcome-tell entry = comes-needs deck w g c n at alive (choices.Tell entry) (by_owner entry (to_tell p entry) refl)
