@@ -1,15 +1,20 @@
 -- The room that a call of the medium was given beforehand, so that it takes no memory.
-use Rattle.std.specs.Prelude.{◌≡◌, ℕ, length, Option, Some, None}
+use Rattle.std.specs.Prelude.{◌≡◌, ℕ, true, false, length, Option, Some, None}
 use Rattle.grs_base.specs.declared.resource.SysId.{SysId}
 use Rattle.grs_wire.specs.declared.medium.Act.{Act}
 use Rattle.grs_wire.specs.declared.medium.Act.TheVariants.{Turn, Submit, Settle, Tell, Purge}
+use Rattle.grs_wire.specs.declared.medium.Call.{Call}
 use Rattle.grs_wire.specs.declared.medium.Mail.{Mail}
 use Rattle.grs_wire.specs.declared.medium.Mail.TheVariants as mails
 use Rattle.grs_wire.specs.declared.request.Req.{Req}
 use Rattle.lock_structure.specs.Words.{route}
 use Rattle.lock_structure.specs.declared.word.Route.{Route}
 use Rattle.lock_structure.specs.declared.word.Route.TheVariants.{Sole, To}
+use Rattle.rsa_message.specs.Message.{put_in}
+use Rattle.rsa_message.specs.Places.{HasPlaces}
 use Rattle.rsa_message.specs.Room.{Room, HasRoom}
+use Rattle.grs_medium.specs.Apply.{is_live}
+use Rattle.grs_medium.specs.Causes.{is_heard}
 use Rattle.grs_medium.specs.Medium.{MediumState, word}
 
 -- a medium with its room: the message's, and whose inbox has room for one more mail
@@ -28,11 +33,19 @@ abbrev pub HasRoomOn : Option SysId → Route → Type 0
 HasRoomOn ready Sole = Unit {0}
 HasRoomOn ready (To s) = ready ≡ Some s
 
+-- room for the entry that tells of the removal of t, where that is a live system in ring mode
+abbrev pub HasRoomToPurge : MediumValue → SysId → Type 0
+HasRoomToPurge v t = v.state.star ≡ false → is_live v.state t ≡ true → HasPlaces v.room 1
+
 -- room for this act of c
-abbrev pub HasRoomFor : MediumValue → SysId → Act → Type 0
-HasRoomFor v c (Turn out) = HasRoom v.room c (length out)
-HasRoomFor v c (Submit entry req) = HasRoomOn v.ready (route (word v.state entry) c)
-HasRoomFor v c (Settle to mail) = v.ready ≡ Some to
-HasRoomFor v c (Tell to mail) = v.ready ≡ Some to
-HasRoomFor v c (Purge target) = HasRoom v.room c 0
-HasRoomFor v c _ = Unit {0}
+abbrev pub HasRoomForAct : MediumValue → SysId → Act → Type 0
+HasRoomForAct v c (Turn out) = HasRoom v.room c (put_in v.state.message c (length out))
+HasRoomForAct v c (Submit entry req) = HasRoomOn v.ready (route (word v.state entry) c)
+HasRoomForAct v c (Settle to mail) = v.ready ≡ Some to
+HasRoomForAct v c (Tell to mail) = v.ready ≡ Some to
+HasRoomForAct v c (Purge target) = HasRoomToPurge v target
+HasRoomForAct v c _ = Unit {0}
+
+-- room for this call of c, where what it asks is looked at
+abbrev pub HasRoomFor : MediumValue → SysId → Call → Type 0
+HasRoomFor v c call = is_heard v.state c call ≡ true → HasRoomForAct v c call.act

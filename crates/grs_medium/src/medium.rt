@@ -6,13 +6,14 @@ ghost use Rattle.grs_wire.specs.declared.request.Req.{Req as ReqSpec};
 ghost use Rattle.lock_structure.specs.Words.{route};
 ghost use Rattle.grs_medium.specs.Inboxes.{is_empty};
 ghost use Rattle.grs_medium.specs.Medium.{first_medium, systems_of, awake, inbox, medium_at_end, word};
-ghost use Rattle.grs_medium.specs.Apply.{turn_row, manages, joined, submit_row, switch_ring, switch_row, take_row, mail_row, leave_row, purge_row, rest_row, reply_to, medium_after, changes, row, row_changes, ActFits, MayCall};
+ghost use Rattle.grs_medium.specs.Apply.{is_live, turn_row, manages, joined, submit_row, switch_ring, switch_row, take_row, mail_row, leave_row, purge_row, rest_row, reply_to, medium_after, changes, row, row_changes, ActFits, MayCall};
+ghost use Rattle.grs_medium.specs.Causes.{is_heard};
 ghost use Rattle.grs_medium.specs.Changes.{TellsChanges};
 ghost use Rattle.grs_medium.specs.GoesOn.{WaitsForLive};
 ghost use Rattle.grs_medium.specs.Concerned.{just, addressee, is_over, concerned};
-ghost use Rattle.grs_medium.specs.Room.{HasRoomFor, HasRoomOn, request_on};
+ghost use Rattle.grs_medium.specs.Room.{HasRoomFor, HasRoomForAct, HasRoomOn, HasRoomToPurge, request_on};
 ghost use Rattle.grs_medium.specs.TurnReplies.{refusal_reply, refusal};
-ghost use Rattle.rsa_message.specs.Message.{stands_at, rest_after_turn, first_number};
+ghost use Rattle.rsa_message.specs.Message.{stands_at, taken, put_in, rest_after_turn, first_number};
 ghost use Rattle.grs_wire.specs.Unseen.{unseen};
 ghost use Rattle.rsa_message.specs.Places.{HasPlaces};
 ghost use Rattle.rsa_message.specs.Room.{HasRoom};
@@ -151,19 +152,60 @@ impl Medium {
         }
     }
 
-    /// Makes room for one `apply` of this call. An entry of the message past the last number that one may have is
-    /// answered NoMemory.
-    pub fn reserve(&mut self, caller: SysId, call: &Call) -> Result<(), NoMemory>
-        requires { MayCall self.old.state caller call.now }
-        ensures state { self.new.state ≡ self.old.state }
-        ensures room { OnOk result (HasRoomFor self.new caller call.now.act) }
+    /// Whether a call is neither answered Removed nor Stale: its caller wasn't removed, and knows which systems were.
+    fn is_heard(&self, caller: SysId, call: &Call) -> bool
+        requires { caller.0 < systems_of self.now.state }
+        ensures { result ≡ is_heard self.now.state caller call.now }
     {
-        match &call.act {
+        !has_system(self.removed, caller) && call.known == self.removed
+    }
+
+    /// Whether this is a system that wasn't removed.
+    fn is_live(&self, system: SysId) -> bool
+        ensures { result ≡ is_live self.now.state system }
+    {
+        (system.0 as u32) < self.systems && !has_system(self.removed, system)
+    }
+
+    /// Makes room in the message for the entry that tells of a removal, where there is one.
+    fn reserve_removal(&mut self, target: SysId) -> Result<(), NoMemory>
+        ensures state { self.new.state ≡ self.old.state }
+        ensures room { OnOk result (HasRoomToPurge self.new target) }
+    {
+        if self.star || !self.is_live(target) {
+            Ok(())
+        } else {
+            self.rsa.reserve_places(1)
+        }
+    }
+
+    /// Makes room for one act of the caller.
+    fn reserve_act(&mut self, caller: SysId, act: &Act) -> Result<(), NoMemory>
+        requires caller { caller.0 < systems_of self.old.state }
+        requires fits { ActFits self.old.state caller act.now }
+        ensures state { self.new.state ≡ self.old.state }
+        ensures room { OnOk result (HasRoomForAct self.new caller act.now) }
+    {
+        match act {
             Act::Turn { out } => self.rsa.reserve(caller, out.len() as u32),
             Act::Submit { entry, req: _ } => self.reserve_request(caller, *entry),
             Act::Settle { to, mail: _ } | Act::Tell { to, mail: _ } => self.inboxes.reserve(*to),
-            Act::Purge { target: _ } => self.rsa.reserve(caller, 0),
+            Act::Purge { target } => self.reserve_removal(*target),
             Act::Switch { words: _ } | Act::Take | Act::Leave { entry: _ } | Act::Rest => Ok(()),
+        }
+    }
+
+    /// Makes room for one `apply` of this call. Where an entry that it would put into the message would have a number past
+    /// the last that one may have, NoMemory is answered; a call that puts none in is never answered it for that.
+    pub fn reserve(&mut self, caller: SysId, call: &Call) -> Result<(), NoMemory>
+        requires { MayCall self.old.state caller call.now }
+        ensures state { self.new.state ≡ self.old.state }
+        ensures room { OnOk result (HasRoomFor self.new caller call.now) }
+    {
+        if self.is_heard(caller, call) {
+            self.reserve_act(caller, &call.act)
+        } else {
+            Ok(())
         }
     }
 
@@ -188,7 +230,7 @@ impl Medium {
     fn give(&mut self, caller: SysId, out: List<Req>) -> Reply
         requires caller { caller.0 < systems_of self.old.state }
         requires few { length out ≤ most_additions }
-        requires room { HasRoom self.old.room caller (length out) }
+        requires room { HasRoom self.old.room caller (put_in self.old.state.message caller (length out)) }
         ensures reply { result ≡ (turn_row self.old.state caller out).0 }
         ensures state { self.new.state ≡ (turn_row self.old.state caller out).1 }
         ensures systems { systems_of self.new.state ≡ systems_of self.old.state }
@@ -256,7 +298,7 @@ impl Medium {
         requires caller { caller.0 < systems_of self.old.state }
         requires here { stands_at self.old.state.message.holder caller ≡ true }
         requires few { length out ≤ most_additions }
-        requires places { HasPlaces self.old.room (length out) }
+        requires places { HasPlaces self.old.room (taken self.old.state.message (length out)) }
         ensures state { self.new.state ≡ (turn_row self.old.state caller out).1 }
         ensures goes_on { WaitsForLive self.old.state → WaitsForLive self.new.state }
         ensures systems { systems_of self.new.state ≡ systems_of self.old.state }
@@ -439,7 +481,7 @@ impl Medium {
     #[tactic(auto, unfolding(crate::specs::Apply::purge_row))]
     fn purge(&mut self, caller: SysId, target: SysId) -> Reply
         requires caller { caller.0 < systems_of self.old.state }
-        requires room { HasRoom self.old.room caller 0 }
+        requires room { HasRoomToPurge self.old target }
         ensures reply { result ≡ (purge_row self.old.state caller target).0 }
         ensures state { self.new.state ≡ (purge_row self.old.state caller target).1 }
         ensures systems { systems_of self.new.state ≡ systems_of self.old.state }
@@ -447,7 +489,7 @@ impl Medium {
         if self.star {
             return Reply::InStar;
         }
-        if target.0 as u32 >= self.systems || has_system(self.removed, target) {
+        if !self.is_live(target) {
             return Reply::NoSuch;
         }
         self.removed = with_system(self.removed, target);
@@ -490,7 +532,7 @@ impl Medium {
     fn act(&mut self, caller: SysId, act: Act) -> Reply
         requires caller { caller.0 < systems_of self.old.state }
         requires fits { ActFits self.old.state caller act }
-        requires room { HasRoomFor self.old caller act }
+        requires room { HasRoomForAct self.old caller act }
         ensures reply { result ≡ (row self.old.state caller act).0 }
         ensures state { self.new.state ≡ (row self.old.state caller act).1 }
         ensures systems { systems_of self.new.state ≡ systems_of self.old.state }
@@ -527,7 +569,7 @@ impl Medium {
     #[tactic(auto, unfolding(crate::specs::Apply::apply))]
     pub fn apply(&mut self, caller: SysId, call: Call) -> Reply
         requires call { MayCall self.old.state caller call }
-        requires room { HasRoomFor self.old caller call.act }
+        requires room { HasRoomFor self.old caller call }
         ensures reply { result ≡ reply_to self.old.state caller call }
         ensures state { self.new.state ≡ medium_after self.old.state caller call }
         ensures goes_on { WaitsForLive self.old.state → WaitsForLive self.new.state }
@@ -553,7 +595,7 @@ impl Medium {
         if self.star {
             return (Reply::InStar, false);
         }
-        if target.0 as u32 >= self.systems || has_system(self.removed, target) {
+        if !self.is_live(target) {
             return (Reply::NoSuch, false);
         }
         (Reply::Purged, true)
@@ -654,7 +696,9 @@ impl Medium {
         ensures changes { IfOk result (λ shown. shown.1 ≡ changes self.now.state caller call.now) }
         ensures differs { IfOk result (λ shown. TellsChanges self.now.state caller call.now shown.1) }
     {
-        let _inboxes_and_words_fit = &self.systems;
+        // That the medium differs is shown by what always holds of its parts: the inboxes are its systems', and the lock words
+        // name these as managers. A read brings that in.
+        let _systems = &self.systems;
         self.preview_row(caller, call)
     }
 }

@@ -165,10 +165,10 @@ fn turned(
     ensures words { length medium.new.state.words ≡ length medium.old.state.words }
 {
     let out = node.additions()?;
-    let count = out.len() as u32;
-    medium.reserve_places(count)?;
     let closed = medium.is_closed();
+    let count = out.len() as u32;
     let taken = taken_of(closed, count);
+    medium.reserve_places(taken)?;
     node.finish_turn(medium.entries(), system, taken, closed)?;
     medium.pass_on(system, out);
     Ok(take_done(node))

@@ -90,11 +90,19 @@ is_due es live rest s = has live s.0 && (any_unseen s es || not (has rest s.0))
 abbrev pub moves : Message → SysId → ℕ → Bool
 moves m c count = any_unseen c m.entries || not (count == 0)
 
+-- how many of so many requests a Turn at the message puts in: none where it is closed
+abbrev pub taken : Message → ℕ → ℕ
+taken m count = cond m.closed 0 count
+
+-- how many entries a Turn of c with this many requests puts in: none where the message isn't at c
+abbrev pub put_in : Message → SysId → ℕ → ℕ
+put_in m c count = cond (stands_at m.holder c) (taken m count) 0
+
 -- the reply to a Turn of c with this many requests
 unfoldable pub turn_reply : Message → SysId → ℕ → Reply
 turn_reply m c count =
     cond (stands_at m.holder c)
-    (Turned (unseen c m.entries) (cond m.closed 0 count) m.closed)
+    (Turned (unseen c m.entries) (taken m count) m.closed)
     (NotYours m.holder)
 
 -- whether such a Turn clears the flag of rest of c: where something was given or put in, and at the closed

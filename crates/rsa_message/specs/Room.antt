@@ -1,5 +1,5 @@
 -- The room that a call of the message was given beforehand, so that it takes no memory.
-use Rattle.std.specs.Prelude.{◌≡◌, ℕ, ◌≤◌, cond, max, List, [], Option, Some, None}
+use Rattle.std.specs.Prelude.{◌≡◌, ℕ, ◌≤◌, cond, List, [], Option, Some, None}
 use Rattle.grs_base.specs.declared.resource.SysId.{SysId}
 use Rattle.grs_wire.specs.declared.medium.RingEntry.{RingEntry}
 use Rattle.rsa_message.specs.Message.{Message, stands_at}
@@ -10,9 +10,9 @@ pub record Room : Type 0 where
   pub caller : Option SysId
   pub entries : ℕ
 
--- room for a Turn of c with at most so many requests, or for one removal
+-- room for a Turn of c that puts in at most so many entries
 abbrev pub HasRoom : Room → SysId → ℕ → Type 0
-HasRoom room c count = (room.caller ≡ Some c) × (max count 1 ≤ room.entries)
+HasRoom room c count = (room.caller ≡ Some c) × (count ≤ room.entries)
 
 -- a message with its room
 pub record RsaValue : Type 0 where

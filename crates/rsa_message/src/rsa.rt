@@ -1,7 +1,7 @@
 //! The message as a whole.
 ghost use Rattle.std.specs.Prelude.{◌≡◌, ◌+◌, ◌<◌, ◌≤◌, true, length, if◌then◌else◌, Some, None, IfOk, OnOk};
 ghost use Rattle.grs_base.specs.Limits.{most_systems, last_number};
-ghost use Rattle.rsa_message.specs.Message.{system_number, stands_at, opened, never_opened, first_number, turn_reply, turned, turned_open, turned_closed, turn_changes, wakes, dropped, closed_by, message_at_end};
+ghost use Rattle.rsa_message.specs.Message.{system_number, stands_at, opened, never_opened, first_number, turn_reply, turned, turned_open, turned_closed, turn_changes, wakes, dropped, closed_by, message_at_end, taken, put_in};
 ghost use Rattle.grs_wire.specs.Unseen.{unseen};
 ghost use Rattle.rsa_message.specs.Places.{HasPlaces};
 ghost use Rattle.rsa_message.specs.Room.{HasRoom, given_to};
@@ -77,34 +77,51 @@ impl Rsa {
         }
     }
 
-    /// Makes room for so many new entries, at least for one, and keeps no copies for a reply. No entry may have a
-    /// number above `LAST_NUMBER`: the call that would need one answers NoMemory.
+    /// Whether so many new entries have numbers up to `LAST_NUMBER`.
+    fn has_numbers(&self, count: u32) -> bool
+        ensures { result ≡ true → self.now.message.next + count ≤ last_number + 1 }
+    {
+        self.next + count as u64 <= LAST_NUMBER + 1
+    }
+
+    /// Makes room for so many new entries, and keeps no copies for a reply. No entry may have a number above
+    /// `LAST_NUMBER`: where one of these would, NoMemory is answered.
     pub fn reserve_places(&mut self, count: u32) -> Result<(), NoMemory>
         ensures message { self.new.message ≡ self.old.message }
         ensures places { OnOk result (HasPlaces self.new.room count) }
     {
-        let wanted = if count == 0 { 1 } else { count };
-        if self.next + wanted as u64 > LAST_NUMBER + 1 {
+        if !self.has_numbers(count) {
             return Err(NoMemory);
         }
-        if self.entries.reserve(wanted as usize).is_err() {
+        if self.entries.reserve(count as usize).is_err() {
             return Err(NoMemory);
         }
         self.ready = None;
         self.given = List::new(self.alloc);
-        self.room = wanted;
+        self.room = count;
         Ok(())
     }
 
-    /// Makes room for one Turn of the system with at most `out` requests, or for one removal. The copies that the
-    /// reply gives are made here. No entry may have a number above `LAST_NUMBER`: the call that would need one
-    /// answers NoMemory.
+    /// How many entries a Turn of the system with so many requests would put in.
+    #[tactic(auto, unfolding(crate::specs::Message::put_in))]
+    fn put_in(&self, caller: SysId, out: u32) -> u32
+        ensures { result ≡ put_in self.now.message caller out }
+    {
+        if !self.closed && stands_at(self.holder, caller) {
+            out
+        } else {
+            0
+        }
+    }
+
+    /// Makes room for one Turn of the system with `out` requests. The copies that the reply gives are made here. No entry
+    /// may have a number above `LAST_NUMBER`: a Turn that would put in one that does answers NoMemory.
     pub fn reserve(&mut self, caller: SysId, out: u32) -> Result<(), NoMemory>
         requires { caller.0 < self.old.message.systems }
         ensures message { self.new.message ≡ self.old.message }
-        ensures room { OnOk result (HasRoom self.new.room caller out) }
+        ensures room { OnOk result (HasRoom self.new.room caller (put_in self.old.message caller out)) }
     {
-        self.reserve_places(out)?;
+        self.reserve_places(self.put_in(caller, out))?;
         self.given = self.copies_for(caller)?;
         self.ready = Some(caller);
         Ok(())
@@ -186,7 +203,7 @@ impl Rsa {
     pub fn pass_on(&mut self, caller: SysId, out: List<Req>, live: u32, rest: u32)
         requires system { caller.0 < self.old.message.systems }
         requires here { stands_at self.old.message.holder caller ≡ true }
-        requires places { HasPlaces self.old.room (length out) }
+        requires places { HasPlaces self.old.room (taken self.old.message (length out)) }
         ensures message { self.new.message ≡ turned self.old.message caller out live rest }
         ensures systems { self.new.message.systems ≡ self.old.message.systems }
     {
@@ -204,7 +221,7 @@ impl Rsa {
     #[tactic(auto, unfolding(crate::specs::Message::turned, crate::specs::Message::turn_reply))]
     pub fn turn(&mut self, caller: SysId, out: List<Req>, live: u32, rest: u32) -> Reply
         requires system { caller.0 < self.old.message.systems }
-        requires room { HasRoom self.old.room caller (length out) }
+        requires room { HasRoom self.old.room caller (put_in self.old.message caller (length out)) }
         ensures reply { result ≡ turn_reply self.old.message caller (length out) }
         ensures message { self.new.message ≡ turned self.old.message caller out live rest }
         ensures systems { self.new.message.systems ≡ self.old.message.systems }
@@ -259,7 +276,7 @@ impl Rsa {
         if !stands_at(self.holder, caller) {
             return Ok((Reply::NotYours { at: self.holder }, false));
         }
-        if !self.closed && self.next + out as u64 > LAST_NUMBER + 1 {
+        if !self.has_numbers(self.put_in(caller, out)) {
             return Err(NoMemory);
         }
         let entries = copy_unseen(self.alloc, self.entries.as_slice(), caller)?;
@@ -278,11 +295,12 @@ impl Rsa {
     }
 
     /// The target, which the caller removed, leaves the message, and an entry that tells of it goes in. `live` is
-    /// the set of the systems that aren't removed, without the target. It takes no memory.
+    /// the set of the systems that aren't removed, without the target. It takes no memory: `reserve_places` made room
+    /// for the entry.
     #[tactic(auto, unfolding(crate::specs::Message::dropped))]
     pub fn drop_system(&mut self, caller: SysId, target: SysId, live: u32)
         requires target { target.0 < self.old.message.systems }
-        requires room { HasRoom self.old.room caller 0 }
+        requires room { HasPlaces self.old.room 1 }
         ensures message { self.new.message ≡ dropped self.old.message caller target live }
         ensures systems { self.new.message.systems ≡ self.old.message.systems }
     {
