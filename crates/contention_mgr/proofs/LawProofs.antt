@@ -22,8 +22,9 @@ use Rattle.contention_mgr.specs.Manager.{managed_for, with_entry, entry_wanted}
 use Rattle.contention_mgr.specs.Loads.{ranked_list, ranked_rows, greatest, loaded}
 use Rattle.lock_structure.specs.RankedRows.{RankedRow, ranks_of, rises, rows_apart}
 use Rattle.contention_mgr.specs.Laws.{ListsFollow, TellingKeepsLists, by_rank, IsRanked, RanksBegin, LoadedRanksRise}
-use Rattle.contention_mgr.specs.Laws.{RanksRise, TellingKeepsRanks, FirstIsAny, FirstIsUntold, OthersStay}
+use Rattle.contention_mgr.specs.Laws.{RanksRise, TellingKeepsRanks, FirstIsAny, FirstIsUntold, FirstIsLeast, OthersStay}
 use Rattle.contention_mgr.proofs.UntoldLemmas.{first-any, first-untold}
+use Rattle.contention_mgr.proofs.FirstLaws.{first-least}
 
 -- ---- the plain lists
 plain-push : (xs : List Ranked) (x : Ranked) → plain (xs ++ x ∷ []) ≡ plain xs ++ (x.res, x.elem) ∷ []
@@ -296,6 +297,9 @@ first_is_any = first-any
 
 pub first_is_untold : FirstIsUntold
 first_is_untold = first-untold
+
+pub first_is_least : FirstIsLeast
+first_is_least = first-least
 
 -- ---- other entries
 kept-set : (es : List (Option Managed)) (i e : ℕ) (x : Option Managed) → (i ≡ e → ⊥)

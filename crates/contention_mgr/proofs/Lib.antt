@@ -6,6 +6,7 @@ pub mod LoadLemmas
 pub mod SlotLemmas
 pub mod LawProofs
 pub mod ElementLemmas
+pub mod FirstLaws
 pub mod OwnLemmas
 pub mod ManagerLaws
 pub mod Samples

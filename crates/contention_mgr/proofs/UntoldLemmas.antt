@@ -33,7 +33,7 @@ by_cases true yes_it no_it = yes_it refl
 by_cases false yes_it no_it = no_it refl
 
 -- ---- the order of names
-lt_is : (o : Ordering) → is_lt o ≡ true → o ≡ Less
+pub lt_is : (o : Ordering) → is_lt o ≡ true → o ≡ Less
 lt_is Less h = refl
 lt_is Equal h = cc
 lt_is Greater h = cc

@@ -1,8 +1,10 @@
 -- Laws of what a manager keeps.
-use Rattle.std.specs.Prelude.{◌≡◌, ℕ, Bool, true, false, not, ◌&&◌, ◌||◌, ◌==◌, nat_lt, List, [], ◌∷◌, length}
+use Rattle.std.specs.Prelude.{◌≡◌, ℕ, Bool, true, false, not, ◌&&◌, ◌||◌, ◌==◌, ◌<◌, nat_lt, List, [], ◌∷◌, length}
 use Rattle.std.specs.Prelude.{replicate, Some, None, is_some, slice_get}
 use Rattle.std.specs.List.{list_all, list_any}
+use Rattle.std.specs.Ordering.{is_lt}
 use Rattle.grs_base.specs.Lists.{owns}
+use Rattle.grs_base.specs.ResOrder.{res_order}
 use Rattle.grs_base.specs.Same.{same_res, same_task}
 use Rattle.grs_base.specs.State.{State, list_of}
 use Rattle.grs_base.specs.declared.resource.Res.{Res}
@@ -60,6 +62,20 @@ abbrev pub FirstIsUntold : Type 0
 FirstIsUntold =
     (home : ℕ) (xs : List Ranked) (x : Ranked) → first_untold home xs ≡ Some x
     → (i : ℕ) × (slice_get xs i ≡ Some x) × (is_untold home x ≡ true)
+
+-- An element stands at a place. Each owner of another system who is still to be told has a resource that isn't shown
+-- before its own, and each of them who stands before that place has one that is shown after it.
+pub record IsFirst (home : ℕ) (xs : List Ranked) (x : Ranked) : Type 0 where
+  pub place : ℕ
+  pub there : slice_get xs place ≡ Some x
+  pub least : (i : ℕ) (y : Ranked) → slice_get xs i ≡ Some y → is_untold home y ≡ true
+      → is_lt (res_order y.res x.res) ≡ false
+  pub first : (i : ℕ) (y : Ranked) → i < place → slice_get xs i ≡ Some y → is_untold home y ≡ true
+      → is_lt (res_order x.res y.res) ≡ true
+
+-- So does that owner: who is told first has the resource that is shown first, and there the first place in the list.
+abbrev pub FirstIsLeast : Type 0
+FirstIsLeast = (home : ℕ) (xs : List Ranked) (x : Ranked) → first_untold home xs ≡ Some x → IsFirst home xs x
 
 -- ---- who is still to be told
 

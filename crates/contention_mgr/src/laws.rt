@@ -1,6 +1,6 @@
 //! Laws of what a manager keeps: each function's contract is one, and there is nothing to run.
 ghost use Rattle.contention_mgr.specs.Elements.{ElementsAreAskers, TellingKeepsElements};
-ghost use Rattle.contention_mgr.specs.Laws.{ListsFollow, TellingKeepsLists, RanksBegin, LoadedRanksRise, RanksRise, TellingKeepsRanks, FirstIsAny, FirstIsUntold, UntoldOwnBegins, LoadedUntoldOwn, UntoldStayOwners, TellingKeepsUntoldOwn, FirstUntoldOwns, UntoldFollow, GainersAreUntold, TellingTells, LoadedAreTold, OthersStay, WellKeptBegins, EntriesAreWellKept, RequestsKeepWell, TellingKeepsWell};
+ghost use Rattle.contention_mgr.specs.Laws.{ListsFollow, TellingKeepsLists, RanksBegin, LoadedRanksRise, RanksRise, TellingKeepsRanks, FirstIsAny, FirstIsUntold, FirstIsLeast, UntoldOwnBegins, LoadedUntoldOwn, UntoldStayOwners, TellingKeepsUntoldOwn, FirstUntoldOwns, UntoldFollow, GainersAreUntold, TellingTells, LoadedAreTold, OthersStay, WellKeptBegins, EntriesAreWellKept, RequestsKeepWell, TellingKeepsWell};
 
 /// The plain lists of an entry after a request are what the request makes of them.
 pub fn lists_follow()
@@ -40,6 +40,11 @@ pub fn first_is_any()
 /// The owner to be told first is one of the elements, of another system, and still to be told.
 pub fn first_is_untold()
     ensures { FirstIsUntold }
+{}
+
+/// Who is told first has the resource that is shown first, and there the first place in the list.
+pub fn first_is_least()
+    ensures { FirstIsLeast }
 {}
 
 /// Where nothing stands in the lists of an entry, nobody is still to be told.

@@ -86,6 +86,22 @@ none-passes (suc n) test h s l =
     go None is false at k true same rest = ap test (eqb-true s n same) ∙ at
     go None is false at k false other rest = rest is (grind (arith, nat_tests, other, l))
 
+pub nobody-below : (n : ℕ) (test : ℕ → Bool) (s : SysId) → least_below n test ≡ Some s → (r : ℕ) → r < s.0
+    → test r ≡ false
+nobody-below zero test s h r l = absurd cc
+nobody-below (suc n) test s h r l =
+    go (least_below n test) refl (test n) h (λ is. nobody-below n test s is r l)
+  where
+    number : ℕ → Option SysId → ℕ
+    number d None = d
+    number d (Some u) = u.0
+
+    go : (o : Option SysId) → least_below n test ≡ o → (b : Bool) → or_this o n b ≡ Some s
+        → (least_below n test ≡ Some s → test r ≡ false) → test r ≡ false
+    go (Some u) is b k rest = rest (is ∙ k)
+    go None is true k rest = let e : n ≡ s.0 = ap (number n) k in none-passes n test is r (omega (arith, e, l))
+    go None is false k rest = absurd cc
+
 least-none : (n : ℕ) (test : ℕ → Bool) → least_below (suc n) test ≡ None → least_below n test ≡ None
 least-none n test = go (least_below n test) refl
   where

@@ -1,10 +1,11 @@
 -- Laws of the words and the parts to which a table leads.
-use Rattle.std.specs.Prelude.{◌≡◌, ◌<◌, ℕ, Bool, true, nat_le, nat_lt, List, length}
+use Rattle.std.specs.Prelude.{◌≡◌, ◌<◌, ℕ, Bool, true, false, nat_le, nat_lt, List, length, Some, None}
 use Rattle.std.specs.List.{list_all}
 use Rattle.grs_base.specs.Limits.{last_number, most_systems}
 use Rattle.grs_base.specs.Rows.{rows_of}
 use Rattle.grs_base.specs.State.{State}
 use Rattle.grs_base.specs.declared.resource.Row.{Row}
+use Rattle.grs_base.specs.declared.resource.SysId.{SysId}
 use Rattle.grs_wire.specs.LockWords.{interest, manager}
 use Rattle.lock_structure.specs.Laws.{is_interested}
 use Rattle.lock_structure.specs.RankedRows.{ranks_of}
@@ -22,6 +23,14 @@ WordsSay =
     (entries e : ℕ) (rows : List Row)
     → (interest (word_by entries e rows) ≡ interest_by entries e rows)
     × (manager (word_by entries e rows) ≡ manager_by entries e rows)
+
+-- The least of the systems that have elements on resources of an entry manages it; where none has any, nobody does.
+abbrev pub LeastManages : Type 0
+LeastManages =
+    (entries e : ℕ) (rows : List Row)
+    → ((s : SysId) → manager_by entries e rows ≡ Some s
+    → (has_elements entries e rows s.0 ≡ true) × ((r : ℕ) → r < s.0 → has_elements entries e rows r ≡ false))
+    × (manager_by entries e rows ≡ None → (r : ℕ) → r < most_systems → has_elements entries e rows r ≡ false)
 
 -- By the words of a table a system has interest in an entry exactly where the rows of the table have an element of the
 -- system there, owner or waiter.

@@ -1,9 +1,14 @@
 //! Laws of the words and the parts to which a table leads: each function's contract is one, and there is nothing to run.
-ghost use Rattle.mode_migrate.specs.Laws.{WordsSay, InterestIsByElements, OwnWordsFit, PartsAreNumbered, PartsAreLoadable};
+ghost use Rattle.mode_migrate.specs.Laws.{WordsSay, LeastManages, InterestIsByElements, OwnWordsFit, PartsAreNumbered, PartsAreLoadable};
 
 /// A word says who has interest in its entry by the table, and who manages it.
 pub fn words_say()
     ensures { WordsSay }
+{}
+
+/// The least of the systems that have elements on resources of an entry manages it.
+pub fn least_manages()
+    ensures { LeastManages }
 {}
 
 /// By the words of a table a system has interest in an entry exactly where the table has an element of it there.

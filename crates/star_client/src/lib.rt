@@ -4,5 +4,6 @@
 
 mod answers;
 mod client;
+pub mod laws;
 
 pub use client::{on_mail, tell_answer_ranked};
