@@ -10,7 +10,8 @@ use Rattle.grs_report.specs.Ends.{all_ended}
 use Rattle.grs_top.specs.declared.status.Status.{Status}
 use Rattle.grs_top.specs.declared.status.Status.TheVariants as statuses
 use Rattle.grs_top.specs.declared.words.Command.{Command}
-use Rattle.grs_top.specs.declared.words.Command.TheVariants.{Replay, Run, Lists, Analyze, Notices, Latch}
+use Rattle.grs_top.specs.declared.words.Command.TheVariants.{Replay, Run, Lists, Analyze, Notices, Latch, Stop}
+use Rattle.grs_world.specs.Stopped.{stopped}
 use Rattle.grs_top.specs.Seen.{seen_of_run, ending}
 use Rattle.grs_top.specs.Commands.{limit_of, InputOf, SpellsInput, IsTextOf, EndsRun, EndsDone, EndsBy, NamesStatus}
 use Rattle.grs_top.specs.Due.{IsAnswered, IsDue}
@@ -46,6 +47,8 @@ ends_by Lists d out s is = subst (EndsBy Lists) (sym is.1) tt
 ends_by Analyze d out s is = ending_ends (unscheduled d) d.events s is.ends
 ends_by Notices d out s is = ending_ends (unscheduled d) d.events s is.ends
 ends_by Latch calls out s is = subst (EndsBy Latch) (sym is.1) tt
+ends_by (Stop x) d out s is =
+    ending_ends (unscheduled d) (stopped (unscheduled d) is.system x.events d.events) s is.reported.ends
 
 -- what is spelled is short
 short_input : (c : Command) (text : List ℕ) (x : InputOf c) → SpellsInput c text x → length text ≤ limit_of c
@@ -55,6 +58,7 @@ short_input Lists text d spelled = spelled.short
 short_input Analyze text d spelled = spelled.short
 short_input Notices text d spelled = spelled.short
 short_input Latch text calls spelled = spelled.short
+short_input (Stop x) text d spelled = spelled.spelled.short
 
 done_ends : (s : Status) → EndsDone s → EndsRun s
 done_ends statuses.Done end = tt
@@ -73,6 +77,7 @@ ends_either Lists s end = done_ends s end
 ends_either Analyze s end = end
 ends_either Notices s end = end
 ends_either Latch s end = done_ends s end
+ends_either (Stop x) s end = end
 
 completes_answers : (c : Command) (old new : Streams) (s : Status) → EndsBy c s → Completes c old new s
     → Answers c old new s

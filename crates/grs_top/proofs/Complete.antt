@@ -21,9 +21,12 @@ use Rattle.grs_io.specs.Moved.{TakesFirst}
 use Rattle.grs_top.specs.declared.status.Status.{Status}
 use Rattle.grs_top.specs.declared.status.Status.TheVariants as statuses
 use Rattle.grs_top.specs.declared.words.Command.{Command}
-use Rattle.grs_top.specs.declared.words.Command.TheVariants.{Replay, Run, Lists, Analyze, Notices, Latch}
+use Rattle.grs_top.specs.declared.words.Command.TheVariants.{Replay, Run, Lists, Analyze, Notices, Latch, Stop}
 use Rattle.grs_top.specs.Commands.{limit_of, InputOf, SpellsInput, IsFaultOf, IsTextOf}
+use Rattle.grs_deck.specs.Places.{system_place}
 use Rattle.grs_top.specs.Due.{fault_line}
+use Rattle.grs_top.specs.Stops.{SpellsDeckOf, IsFaultFor}
+use Rattle.grs_top.specs.StopWords.{StopValue}
 use Rattle.grs_top.specs.Answers.{Streams, TakesAll, Completes, Answers}
 use Rattle.grs_top.specs.Whole.{Tells, IsWhole, WholeUnlessMemory, TellsFault, RefusedUnlessMemory, HasNoFault, FaultsAreFailedCalls}
 
@@ -191,6 +194,38 @@ module _
     front = calls_front;
   }
 
+  front_whole : (text : List ℕ) (d : DeckValue) → SpellsDeck text d → take (most_text_bytes + 1) text ≡ text
+  front_whole text d s =
+      take_all (most_text_bytes + 1) text (let l : length text ≤ most_text_bytes = s.short in omega (arith, l))
+
+  -- a deck that has the system that stops
+  stopping : (x : StopValue) → IsReader DeckValue (SpellsDeckOf x) (IsFaultFor x) most_text_bytes
+  stopping x = record {
+    one = λ text d e s t. one text d e s.spelled t.spelled;
+    one_fault = same;
+    faultless = none;
+    short = λ text d s. s.spelled.short;
+    front = fronts;
+  }
+    where
+      same : (text : List ℕ) (f g : DeckFault) → IsFaultFor x text f → IsFaultFor x text g → f ≡ g
+      same text f g (inl a) (inl b) = one_fault text f g a b
+      same text f g (inl a) (inr b) = absurd (spelled text b.0 b.1 f a)
+      same text f g (inr a) (inl b) = absurd (spelled text a.0 a.1 g b)
+      same text f g (inr a) (inr b) = a.3 ∙ sym b.3
+
+      none : (text : List ℕ) (d : DeckValue) → SpellsDeckOf x text d → (f : DeckFault) → IsFaultFor x text f → ⊥
+      none text d s f (inl a) = spelled text d s.spelled f a
+      none text d s f (inr a) =
+          let is : a.0 ≡ d = one text a.0 d a.1 s.spelled in
+          none-some s.place
+          (sym (ap (λ (z : DeckValue). system_place z.systems x.name) (sym is) ∙ a.2) ∙ s.named)
+
+      fronts : (text : List ℕ) (f : DeckFault) → IsFaultFor x text f → IsFaultFor x (take (most_text_bytes + 1) text) f
+      fronts text f (inl a) = inl (deck_front text f a)
+      fronts text f (inr a) =
+          subst (λ (t : List ℕ). IsFaultFor x t f) (sym (front_whole text a.0 a.1)) (inr a)
+
   reads : (c : Command) → IsRead c
   reads Replay = decks
   reads Run = decks
@@ -198,6 +233,7 @@ module _
   reads Analyze = decks
   reads Notices = decks
   reads Latch = calls
+  reads (Stop x) = stopping x
 
   pub whole : WholeUnlessMemory
   whole c = whole_of c (reads c)

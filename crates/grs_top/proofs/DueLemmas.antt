@@ -1,12 +1,15 @@
 -- What is due for a text, by what its reading answers.
-use Rattle.std.proofs.Common.{◌≡◌, ℕ, true, List, length, ap, sym, subst, ◌∙◌, inl, inr, Result, Ok, Err, IfOk}
+use Rattle.std.proofs.Common.{◌≡◌, ℕ, true, List, length, ap, sym, subst, ◌∙◌, inl, inr, Result, Ok, Err, IfOk, Some}
 use Rattle.std.proofs.Common.{if◌then◌else◌}
 use Rattle.grs_analyze.specs.Depends.{AreApart, ListsAreApart}
 use Rattle.grs_analyze.specs.Text.{analysis_text}
 use Rattle.grs_base.specs.declared.fault.DeckFault.{DeckFault}
 use Rattle.grs_base.specs.declared.fault.ReadError.{ReadError}
 use Rattle.grs_base.specs.declared.fault.ReadError.TheVariants as read_errors
+use Rattle.grs_base.specs.declared.resource.SysId.{SysId}
 use Rattle.grs_deck.specs.Faults.{IsFault, Answers as AnswersDeck}
+use Rattle.grs_deck.specs.Places.{system_place}
+use Rattle.grs_deck.specs.Spells.{SpellsDeck}
 use Rattle.grs_enf.specs.Notices.{notices}
 use Rattle.grs_enf.specs.Text.{notices_text}
 use Rattle.grs_history.specs.Merge.{merged_steps}
@@ -20,6 +23,7 @@ use Rattle.std.proofs.lemmas.List.Elements.{All-nil}
 use Rattle.grs_wire.specs.Decks.{AreOrders, IsDeck, IsEventOf}
 use Rattle.grs_wire.specs.declared.deck.Deck.{Deck as DeckValue}
 use Rattle.grs_wire.specs.declared.deck.Event.{Event}
+use Rattle.grs_wire.specs.declared.deck.SystemDef.{SystemDef}
 use Rattle.grs_wire.specs.declared.history.HistEntry.{HistEntry}
 use Rattle.grs_wire.specs.declared.medium.JEntry.{JEntry}
 use Rattle.grs_wire.specs.declared.seen.Seen.{Seen}
@@ -30,18 +34,20 @@ use Rattle.grs_world.specs.Decks.{may_be_star, FitsStar}
 use Rattle.grs_world.specs.Passed.{PassedIsTold}
 use Rattle.grs_world.specs.Removing.{RemovedTellNothing}
 use Rattle.grs_world.specs.Running.{at_rest}
+use Rattle.grs_world.specs.Stopped.{stopped}
 use Rattle.grs_world.specs.World.{first_world, run, hist}
 use Rattle.grs_top.specs.Beside.{AllDo, logs_of, MergedRuns, MergedRests}
 use Rattle.grs_top.specs.Commands.{InputOf, SpellsInput, IsFaultOf, IsTextOf}
 use Rattle.grs_top.specs.Due.{fault_line, IsDue}
 use Rattle.grs_top.specs.Schedules.{unscheduled}
+use Rattle.grs_top.specs.StopWords.{StopValue}
 use Rattle.grs_top.specs.Texts.{IsReported, IsRunToRest, IsToldOf, IsAnalyzed, AreNoticed}
 use Rattle.grs_top.specs.Seen.{seen_of_run, report_of, ending}
 use Rattle.grs_top.specs.declared.due.Due.{Due}
 use Rattle.grs_top.specs.declared.status.Status.{Status}
 use Rattle.grs_top.specs.declared.status.Status.TheVariants.{Deck, Done, Waits}
 use Rattle.grs_top.specs.declared.words.Command.{Command}
-use Rattle.grs_top.specs.declared.words.Command.TheVariants.{Run}
+use Rattle.grs_top.specs.declared.words.Command.TheVariants.{Run, Stop}
 
 pub answered_due : {E : Type 0} (c : Command) (text : List ℕ) (x : InputOf c) (r : Result Due E) → SpellsInput c text x
     → IfOk r (λ due. IsTextOf c x due.out due.status) → IfOk r (λ due. IsDue c text due.out due.status)
@@ -101,6 +107,41 @@ pub ran_apart :
     → IfOk r (λ due. IsRunToRest bare due.out due.status) → IfOk r (λ due. IsTextOf Run deck due.out due.status)
 ran_apart deck bare (Ok due) is done = subst (λ (d : DeckValue). IsRunToRest d due.out due.status) is done
 ran_apart deck bare (Err e) is done = tt
+
+-- ---- a system that stops
+-- the events that are left are taken from the deck without its schedule
+pub stopped_apart :
+    {E : Type 0} (deck bare : DeckValue) (order lent left : List Event) (s : SysId) (n : ℕ) (r : Result Due E)
+    → bare ≡ unscheduled deck → order ≡ deck.events → lent ≡ order → left ≡ stopped bare s n lent
+    → IfOk r (λ due. IsReported bare left due.out due.status)
+    → IfOk r (λ due. IsReported (unscheduled deck) (stopped (unscheduled deck) s n deck.events) due.out due.status)
+stopped_apart deck bare order lent left s n (Ok due) is events same are done =
+    subst (λ (d : DeckValue). IsReported d (stopped d s n deck.events) due.out due.status) is
+    (subst (λ (es : List Event). IsReported bare es due.out due.status)
+    (are ∙ ap (λ (es : List Event). stopped bare s n es) (same ∙ events)) done)
+stopped_apart deck bare order lent left s n (Err e) is events same are done = tt
+
+-- a deck that has the system is answered by the report of the run in which it stops
+pub stopped_due :
+    {E : Type 0} (x : StopValue) (text : List ℕ) (deck : DeckValue) (s : SysId) (lent : List SystemDef) (name : List ℕ)
+    (n : ℕ) (r : Result Due E) → SpellsDeck text deck → lent ≡ deck.systems → name ≡ x.name → n ≡ x.events
+    → Some s.0 ≡ system_place lent name
+    → IfOk r (λ due. IsReported (unscheduled deck) (stopped (unscheduled deck) s n deck.events) due.out due.status)
+    → IfOk r (λ due. IsDue (Stop x) text due.out due.status)
+stopped_due x text deck s lent name n (Ok due) spelled same is are found done =
+    let named : system_place deck.systems x.name ≡ Some s.0 =
+    ap (λ (ds : List SystemDef). system_place ds x.name) (sym same) ∙ ap (system_place lent) (sym is) ∙ sym found in
+    let reported : IsReported (unscheduled deck) (stopped (unscheduled deck) s x.events deck.events) due.out due.status =
+    subst (λ (k : ℕ). IsReported (unscheduled deck) (stopped (unscheduled deck) s k deck.events) due.out due.status) are
+    done in
+    inr (
+    record {
+      input = deck;
+      spelled = record { spelled = spelled; place = s.0; named = named };
+      is_text = record { system = s; named = named; reported = reported };
+    }
+    )
+stopped_due x text deck s lent name n (Err e) spelled same is are found done = tt
 
 -- ---- the report of a run, by what is seen of it
 

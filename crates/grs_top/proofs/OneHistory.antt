@@ -17,6 +17,7 @@ use Rattle.grs_wire.specs.declared.told.Told.{Told}
 use Rattle.grs_world.specs.Agree.{Moment, Agrees, moment, AgreeAt, AllAgree, Sound, RemovalsTold, is_event_of}
 use Rattle.grs_world.specs.Removing.{is_by_live, RemovedTellNothing}
 use Rattle.grs_world.specs.World.{World, happens, placed, fixed_by, run_from, run, first_world, told}
+use Rattle.grs_world.specs.Stopped.{stopped}
 use Rattle.grs_world.proofs.run.Each.{each_event}
 use Rattle.grs_top.specs.Seen.{seen_of_run, report_of}
 use Rattle.grs_top.specs.Due.{IsAnswered}
@@ -25,7 +26,7 @@ use Rattle.grs_top.specs.Schedules.{unscheduled}
 use Rattle.grs_top.specs.Texts.{IsReported}
 use Rattle.grs_top.specs.OneHistory.{moment_in, is_of_its_event, is_of_live, ShowsOneHistory, AnswersShowHistories}
 use Rattle.grs_top.specs.declared.status.Status.{Status}
-use Rattle.grs_top.specs.declared.words.Command.TheVariants.{Replay, Run, Lists, Analyze, Notices, Latch}
+use Rattle.grs_top.specs.declared.words.Command.TheVariants.{Replay, Run, Lists, Analyze, Notices, Latch, Stop}
 
 -- What was fixed stays fixed; behind an event it is more, by the event's system,
 more_fixed : (deck : Deck) (w : World) (e : Event)
@@ -209,3 +210,12 @@ answers_show_histories Run text out status a = (
         (reported_shows (unscheduled a.input) a.is_text.events out status a.is_text.reported),
   ),
 )
+answers_show_histories (Stop x) text out status a =
+    let es : List Event = stopped (unscheduled a.input) a.is_text.system x.events a.input.events in (
+      a.input,
+      a.spelled.spelled,
+      (
+        es,
+        ((unread a.input es).shows out).0 (reported_shows (unscheduled a.input) es out status a.is_text.reported),
+      ),
+    )

@@ -12,8 +12,9 @@ use Rattle.latch_form.specs.Spelled.{SpellsCalls}
 use Rattle.grs_top.specs.declared.status.Status.{Status}
 use Rattle.grs_top.specs.declared.status.Status.TheVariants.{Done, Waits, Deck, Words, ReadFault, WriteFault, NoMemory}
 use Rattle.grs_top.specs.declared.words.Command.{Command}
-use Rattle.grs_top.specs.declared.words.Command.TheVariants.{Replay, Run, Lists, Analyze, Notices, Latch}
+use Rattle.grs_top.specs.declared.words.Command.TheVariants.{Replay, Run, Lists, Analyze, Notices, Latch, Stop}
 use Rattle.grs_top.specs.Schedules.{unscheduled}
+use Rattle.grs_top.specs.Stops.{SpellsDeckOf, IsFaultFor, IsStopped}
 use Rattle.grs_top.specs.Texts.{IsReported, IsRunToRest, IsAnalyzed, AreNoticed, AreCalled, IsListed}
 
 -- how many bytes the text of a command may have
@@ -24,6 +25,7 @@ limit_of Lists = most_text_bytes
 limit_of Analyze = most_text_bytes
 limit_of Notices = most_text_bytes
 limit_of Latch = most_text_bytes
+limit_of (Stop x) = most_text_bytes
 
 -- what the text of a command spells
 abbrev pub InputOf : Command → Type 0
@@ -33,6 +35,7 @@ InputOf Lists = DeckValue
 InputOf Analyze = DeckValue
 InputOf Notices = DeckValue
 InputOf Latch = List LatchCall
+InputOf (Stop x) = DeckValue
 
 -- This is what a text spells.
 abbrev pub SpellsInput : (c : Command) → List ℕ → InputOf c → Type 0
@@ -42,6 +45,7 @@ SpellsInput Lists = SpellsDeck
 SpellsInput Analyze = SpellsDeck
 SpellsInput Notices = SpellsDeck
 SpellsInput Latch = SpellsCalls
+SpellsInput (Stop x) = SpellsDeckOf x
 
 -- This is the first fault of a text, which then spells nothing.
 abbrev pub IsFaultOf : Command → List ℕ → DeckFault → Type 0
@@ -51,11 +55,13 @@ IsFaultOf Lists = IsFault
 IsFaultOf Analyze = IsFault
 IsFaultOf Notices = IsFault
 IsFaultOf Latch = IsFaultOfCalls
+IsFaultOf (Stop x) = IsFaultFor x
 
 -- What a command writes for what its text spells, and how it ends that has written all of it. `replay` reports the run
 -- of the deck's events, and `run` that of events that it makes, whatever the deck's own are, until all systems have come
 -- to rest. `lists` writes the deck's name lists. `analyze` tells who waits for whom by the lists that the run of the
 -- deck's events leaves, and `notices` what is noticed of contention along its history. `latch` carries out calls of latches.
+-- `stop` reports the run of the deck's events with a system that stops.
 abbrev pub IsTextOf : (c : Command) → InputOf c → List ℕ → Status → Type 0
 IsTextOf Replay deck out status = IsReported (unscheduled deck) deck.events out status
 IsTextOf Run deck out status = IsRunToRest (unscheduled deck) out status
@@ -63,6 +69,7 @@ IsTextOf Lists deck out status = IsListed deck out status
 IsTextOf Analyze deck out status = IsAnalyzed (unscheduled deck) deck.events out status
 IsTextOf Notices deck out status = AreNoticed (unscheduled deck) deck.events out status
 IsTextOf Latch calls out status = AreCalled calls out status
+IsTextOf (Stop x) deck out status = IsStopped x deck out status
 
 -- A run ends with each task ended or removed with its system, or with somebody who waits.
 abbrev pub EndsRun : Status → Type 0
@@ -83,6 +90,7 @@ EndsBy Lists = EndsDone
 EndsBy Analyze = EndsRun
 EndsBy Notices = EndsRun
 EndsBy Latch = EndsDone
+EndsBy (Stop x) = EndsRun
 
 -- The statuses that are named for a command, which has its words already: how it ends that has written all, that its
 -- text has a fault, and that a call failed or memory was wanting.

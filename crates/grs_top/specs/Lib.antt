@@ -1,4 +1,5 @@
 pub mod Status
+pub mod StopWords
 pub mod Words
 pub mod Lists
 pub mod Tasks
@@ -6,6 +7,7 @@ pub mod Seen
 pub mod Beside
 pub mod Schedules
 pub mod Texts
+pub mod Stops
 pub mod Commands
 pub mod Due
 pub mod Replayed

@@ -17,7 +17,7 @@ use Rattle.grs_world.specs.Agree.{Moment, AgreeAt, RemovalsTold, is_event_of, is
 use Rattle.grs_top.specs.Due.{IsAnswered}
 use Rattle.grs_top.specs.declared.status.Status.{Status}
 use Rattle.grs_top.specs.declared.words.Command.{Command}
-use Rattle.grs_top.specs.declared.words.Command.TheVariants.{Replay, Run, Lists, Analyze, Notices, Latch}
+use Rattle.grs_top.specs.declared.words.Command.TheVariants.{Replay, Run, Lists, Analyze, Notices, Latch, Stop}
 
 -- What one event fixed, where so many things were fixed by the first events.
 abbrev pub fixed_by_event : List (SysId × Fixed) → (ℕ → ℕ) → ℕ → List (SysId × Fixed)
@@ -67,7 +67,7 @@ pub record ShowsOneHistory (deck : Deck) (es : List Event) (text : List ℕ) : T
   pub queues : seen.queues ≡ rows_of (replay deck.limit seen.hist)
 
 -- A text that is answered by the report of a run is answered by one that shows one history of the deck that it spells: by the
--- deck's events, or by those that were made.
+-- deck's events, by those that were made, or by those that a system which stops leaves.
 abbrev pub ShowsHistory : Command → List ℕ → List ℕ → Type 0
 ShowsHistory Lists text out = Unit {0}
 ShowsHistory Analyze text out = Unit {0}
@@ -75,6 +75,8 @@ ShowsHistory Notices text out = Unit {0}
 ShowsHistory Latch text out = Unit {0}
 ShowsHistory Replay text out = (deck : Deck) × SpellsDeck text deck × ShowsOneHistory deck deck.events out
 ShowsHistory Run text out =
+    (deck : Deck) × SpellsDeck text deck × ((es : List Event) × ShowsOneHistory deck es out)
+ShowsHistory (Stop x) text out =
     (deck : Deck) × SpellsDeck text deck × ((es : List Event) × ShowsOneHistory deck es out)
 
 abbrev pub AnswersShowHistories : Type 0

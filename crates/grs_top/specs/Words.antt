@@ -4,11 +4,13 @@ use Rattle.std.specs.Prelude.{if◌then◌else◌}
 use Rattle.std.specs.Option.{option_map}
 use Rattle.std.specs.Str.{bytes_eq}
 use Rattle.grs_base.specs.Limits.{most_tasks}
+use Rattle.deck_form.specs.Words.{written_number}
 use Rattle.grs_base.specs.ShortNames.{is_digit}
+use Rattle.grs_top.specs.StopWords.{stop_of}
 use Rattle.grs_top.specs.declared.words.Form.{Form}
 use Rattle.grs_top.specs.declared.words.Form.TheVariants.{OfText, Generate}
 use Rattle.grs_top.specs.declared.words.Command.{Command}
-use Rattle.grs_top.specs.declared.words.Command.TheVariants.{Replay, Run, Lists, Analyze, Notices, Latch}
+use Rattle.grs_top.specs.declared.words.Command.TheVariants.{Replay, Run, Lists, Analyze, Notices, Latch, Stop}
 
 -- the command of a word
 abbrev pub command_named : List ℕ → Option Command
@@ -36,9 +38,20 @@ size_named (ten ∷ unit ∷ other ∷ more) = None
 abbrev pub form_of_two : List ℕ → List ℕ → Option Form
 form_of_two word number = if bytes_eq word (codes "gen") then option_map Generate (size_named number) else None
 
--- The form of the words after the program's name: one word alone that names a command, or gen and a number.
+-- stop, the name of a system, and how many events it makes before
+abbrev pub stopping : List ℕ → Option ℕ → Option Form
+stopping name None = None
+stopping name (Some n) = option_map (λ x. OfText (Stop x)) (stop_of name n)
+
+abbrev pub form_of_three : List ℕ → List ℕ → List ℕ → Option Form
+form_of_three word name events =
+    if bytes_eq word (codes "stop") then stopping name (written_number events) else None
+
+-- The form of the words after the program's name: one word alone that names a command, gen and a number, or stop with
+-- the name of a system and a number.
 abbrev pub form_of : List (List ℕ) → Option Form
 form_of [] = None
 form_of (word ∷ []) = option_map OfText (command_named word)
 form_of (word ∷ number ∷ []) = form_of_two word number
-form_of (word ∷ number ∷ other ∷ more) = None
+form_of (word ∷ name ∷ events ∷ []) = form_of_three word name events
+form_of (word ∷ name ∷ events ∷ other ∷ more) = None

@@ -11,8 +11,10 @@ ghost use Rattle.grs_top.specs.Words.{form_of};
 use super::Status;
 use super::due::{
     Due, due_by_analyze, due_by_latch, due_by_lists, due_by_notices, due_by_replay, due_by_run,
+    due_by_stop,
 };
 use super::generate::gen_command;
+use super::stop::Stop;
 use super::words::{Command, Form, form_of};
 use deck_scan::MOST_TEXT_BYTES;
 use grs_base::NoMemory;
@@ -33,7 +35,8 @@ fn limit_of(command: Command) -> usize
         | Command::Lists
         | Command::Analyze
         | Command::Notices
-        | Command::Latch => MOST_TEXT_BYTES,
+        | Command::Latch
+        | Command::Stop(_) => MOST_TEXT_BYTES,
     }
 }
 
@@ -228,9 +231,63 @@ pub fn latch_command<S: Source, K: Sink>(alloc: Global, source: &mut S, sink: &m
     )
 }
 
-/// Does what the words after the program's name ask for. The words are the name of a command, or `gen` and a number from 1 to 64; no
-/// others are known, and `Words` is the answer to these: then nothing is read and nothing written. Nothing is read for
-/// `gen` either. Only `run` waits, and looks at the gate.
+/// Reads a deck from a source, runs its schedule with a system that stops, and writes the report of the run to a sink. The system of
+/// this name makes its first so many events, and none behind them. Where it then is removed, and the complex is in ring mode, the
+/// message goes one lap more, whose Turns the report shows as well. It reads and writes as `replay_command` does, and waits for
+/// nobody.
+///
+/// Its statuses say what they say there; `Deck` also comes where the text has no fault and the deck no system of that name: then the
+/// line that is written is `FAULT LINE 0 KIND 9`.
+pub fn stop_command<S: Source, K: Sink>(
+    alloc: Global,
+    stop: Stop,
+    source: &mut S,
+    sink: &mut K,
+) -> Status
+    ensures answer { Answers (Command.Stop stop)
+        (streams (S.left source.old) (K.written sink.old) (S.faults source.old) (K.faults sink.old))
+        (streams (S.left source.new) (K.written sink.new) (S.faults source.new) (K.faults sink.new))
+        result }
+    ensures named { NamesStatus (Command.Stop stop) result }
+{
+    answer(
+        alloc,
+        Command::Stop(stop),
+        source,
+        sink,
+        &|text| due_by_stop(alloc, stop, text),
+    )
+}
+
+/// Does what a command asks for. Only `run` waits, and looks at the gate.
+fn of_text<R: Threads + Wait + Sync, S: Source, K: Sink, G: Gate + Sync>(
+    rt: &R,
+    alloc: Global,
+    command: Command,
+    source: &mut S,
+    sink: &mut K,
+    gate: &G,
+) -> Status
+    ensures answer { Answers command
+        (streams (S.left source.old) (K.written sink.old) (S.faults source.old) (K.faults sink.old))
+        (streams (S.left source.new) (K.written sink.new) (S.faults source.new) (K.faults sink.new))
+        result }
+    ensures named { NamesStatus command result }
+{
+    match command {
+        Command::Replay => replay_command(alloc, source, sink),
+        Command::Run => run_command(rt, alloc, source, sink, gate),
+        Command::Lists => lists_command(alloc, source, sink),
+        Command::Analyze => analyze_command(alloc, source, sink),
+        Command::Notices => notices_command(alloc, source, sink),
+        Command::Latch => latch_command(alloc, source, sink),
+        Command::Stop(stop) => stop_command(alloc, stop, source, sink),
+    }
+}
+
+/// Does what the words after the program's name ask for. The words are the name of a command alone, `stop` with a system's name and
+/// a number of its events, or `gen` and a number from 1 to 64; no others are known, and `Words` is the answer to these: then nothing
+/// is read and nothing written. Nothing is read for `gen` either. Only `run` waits, and looks at the gate.
 pub fn grs<R: Threads + Wait + Sync, S: Source, K: Sink, G: Gate + Sync>(
     rt: &R,
     alloc: Global,
@@ -251,12 +308,7 @@ pub fn grs<R: Threads + Wait + Sync, S: Source, K: Sink, G: Gate + Sync>(
         ((K.written sink.new ≡ K.written sink.old) × (K.faults sink.new ≡ K.faults sink.old)) }
 {
     match form_of(words) {
-        Some(Form::OfText(Command::Replay)) => replay_command(alloc, source, sink),
-        Some(Form::OfText(Command::Run)) => run_command(rt, alloc, source, sink, gate),
-        Some(Form::OfText(Command::Lists)) => lists_command(alloc, source, sink),
-        Some(Form::OfText(Command::Analyze)) => analyze_command(alloc, source, sink),
-        Some(Form::OfText(Command::Notices)) => notices_command(alloc, source, sink),
-        Some(Form::OfText(Command::Latch)) => latch_command(alloc, source, sink),
+        Some(Form::OfText(command)) => of_text(rt, alloc, command, source, sink, gate),
         Some(Form::Generate(n)) => gen_command(alloc, n, sink),
         None => Status::Words,
     }

@@ -1,6 +1,6 @@
 //! What a text is answered by: what the command writes for the deck that it spells, or the line of its first
 //! fault. The answer is built whole before any of it is written.
-ghost use Rattle.std.specs.Prelude.{◌≡◌, [], IfOk, if◌then◌else◌};
+ghost use Rattle.std.specs.Prelude.{◌≡◌, ◌<◌, [], length, IfOk, if◌then◌else◌};
 ghost use Rattle.grs_analyze.specs.Text.{analysis_text};
 ghost use Rattle.grs_enf.specs.Notices.{notices};
 ghost use Rattle.grs_enf.specs.Text.{notices_text};
@@ -8,6 +8,7 @@ ghost use Rattle.grs_latch.specs.Calls.{AllCome};
 ghost use Rattle.grs_report.specs.Ends.{all_ended};
 ghost use Rattle.grs_report.specs.Report.{report};
 ghost use Rattle.grs_wire.specs.Decks.{IsDeck};
+ghost use Rattle.grs_world.specs.Stopped.{stopped as events_left};
 ghost use Rattle.grs_top.specs.Due.{fault_line, IsDue};
 ghost use Rattle.grs_top.specs.Schedules.{unscheduled};
 ghost use Rattle.grs_top.specs.Texts.{IsReported, IsRunToRest, IsAnalyzed, AreNoticed, AreCalled, IsListed};
@@ -18,10 +19,11 @@ use super::fault_line::fault_line;
 use super::laws::{merged_rests, merged_runs};
 use super::lists::lists_text;
 use super::seen::seen_by_replay;
+use super::stop::{Stop, system_place};
 use super::words::Command;
 use grs_analyze::analysis_text;
 use grs_analyze::laws::lists_are_apart;
-use grs_base::{List, NoMemory, ReadError};
+use grs_base::{DeckFault, Kind, List, NoMemory, ReadError, SysId};
 use grs_deck::read_deck;
 use grs_enf::notices_text;
 use grs_latch::LatchCall;
@@ -29,11 +31,18 @@ use grs_report::{all_ended, report};
 use grs_wire::{Deck, Event, Seen};
 use grs_workers::{Gate, run_workers};
 use grs_world::laws::{passed_is_told, removed_tell_nothing, rests_in_the_end, runs_are_sound};
+use grs_world::stopped;
 use latch_form::read_calls;
 use latch_text::latch_text;
 use std::alloc::Global;
 use std::sync::Wait;
 use std::thread::Threads;
+
+/// What is told of a deck that has no system of the name that `stop` gives.
+const NO_SUCH_SYSTEM: DeckFault = DeckFault {
+    line: 0,
+    kind: Kind::UnknownName,
+};
 
 /// What is to be written, and the status where all of it is.
 #[derive(Drop)]
@@ -105,6 +114,17 @@ fn replayed(alloc: Global, deck: &Deck, events: List<Event>) -> Result<Due, NoMe
     removed_tell_nothing();
     let seen = seen_by_replay(alloc, deck, events)?;
     report_due(alloc, deck, &seen)
+}
+
+/// The report of the run of a deck's events with a system that stops.
+fn stop_replayed(alloc: Global, deck: Deck, system: SysId, events: u32) -> Result<Due, NoMemory>
+    requires deck { IsDeck deck }
+    requires system { system.0 < length deck.systems }
+    ensures { IfOk result (λ due. IsReported (unscheduled deck) (events_left (unscheduled deck) system events deck.events) due.out due.status) }
+{
+    let (bare, order) = set_apart(alloc, deck);
+    let left = stopped(alloc, &bare, order.as_slice(), system, events)?;
+    replayed(alloc, &bare, left)
 }
 
 /// The report of the run of a deck's systems beside each other, for which it waits.
@@ -260,6 +280,19 @@ pub(crate) fn due_by_latch(alloc: Global, text: &[u8]) -> Result<Due, NoMemory>
 {
     match read_calls(alloc, text) {
         Ok(calls) => called(alloc, calls.as_slice()),
+        Err(error) => refused(alloc, error),
+    }
+}
+
+/// What a text is answered by under `stop`.
+pub(crate) fn due_by_stop(alloc: Global, stop: Stop, text: &[u8]) -> Result<Due, NoMemory>
+    ensures { IfOk result (λ due. IsDue (Command.Stop stop) text.now due.out due.status) }
+{
+    match read_deck(alloc, text) {
+        Ok(deck) => match system_place(deck.systems.as_slice(), stop.name()) {
+            Some(system) => stop_replayed(alloc, deck, SysId(system as u8), stop.events()),
+            None => refused(alloc, ReadError::Fault(NO_SUCH_SYSTEM)),
+        },
         Err(error) => refused(alloc, error),
     }
 }

@@ -12,14 +12,16 @@ pub mod laws;
 mod lists;
 mod seen;
 mod status;
+mod stop;
 mod words;
 
 pub use beside::seen_of;
 pub use command::{
     analyze_command, grs, latch_command, lists_command, notices_command, replay_command,
-    run_command,
+    run_command, stop_command,
 };
 pub use generate::gen_command;
 pub use seen::seen_by_replay;
 pub use status::Status;
+pub use stop::Stop;
 pub use words::{Command, Form};

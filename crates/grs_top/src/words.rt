@@ -1,12 +1,15 @@
 //! The words after the program's name. What a command does is not known here.
 ghost use Rattle.std.specs.Prelude.{◌≡◌, map, string_bytes};
-ghost use Rattle.grs_top.specs.Words.{command_named, size_in, size_named, form_of_two, form_of};
+ghost use Rattle.grs_top.specs.Words.{command_named, size_in, size_named, form_of_two, form_of_three, form_of};
+
+use super::stop::Stop;
+use deck_form::written_number;
 
 /// The greatest number of which a deck is made.
 const MOST_SIZE: u32 = 64;
 
 /// What the program can be asked to do.
-#[derive(Clone, Copy, Debug, PartialEq, Eq)]
+#[derive(Clone, Copy)]
 pub enum Command {
     /// Runs the schedule of a deck and reports the run.
     Replay,
@@ -20,10 +23,12 @@ pub enum Command {
     Notices,
     /// Carries out calls of latches.
     Latch,
+    /// Runs the schedule of a deck with a system that stops, and reports the run.
+    Stop(Stop),
 }
 
 /// What the words after the program's name ask for.
-#[derive(Clone, Copy, Debug, PartialEq, Eq)]
+#[derive(Clone, Copy)]
 pub enum Form {
     /// A command on a text that is read.
     OfText(Command),
@@ -87,13 +92,30 @@ fn form_of_two(word: &[u8], number: &[u8]) -> Option<Form>
     }
 }
 
-/// What the words ask for, if they are of one of the forms: a command's name alone, or `gen` and a number.
+/// What three words ask for: `stop`, a system's name and a number of 1 to 9 digits.
+fn form_of_three(word: &[u8], name: &[u8], events: &[u8]) -> Option<Form>
+    ensures { result ≡ form_of_three word.now name.now events.now }
+{
+    if word != b"stop".as_slice() {
+        return None;
+    }
+    match written_number(events) {
+        Ok(events) => Stop::new(name, events).map(|stop| Form::OfText(Command::Stop(stop))),
+        Err(_) => None,
+    }
+}
+
+/// What the words ask for, if they are of one of the forms: a command's name alone, `gen` and a number, or `stop` with the name of a
+/// system and a number.
 pub(crate) fn form_of(words: &[String]) -> Option<Form>
     ensures { result ≡ form_of (map string_bytes words.now) }
 {
     match words {
         [word] => command_named(word.as_bytes()).map(Form::OfText),
         [word, number] => form_of_two(word.as_bytes(), number.as_bytes()),
+        [word, name, events] => {
+            form_of_three(word.as_bytes(), name.as_bytes(), events.as_bytes())
+        }
         _ => None,
     }
 }
