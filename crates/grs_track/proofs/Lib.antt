@@ -3,3 +3,4 @@ pub mod Samples
 pub mod WalkLaws
 pub mod ScriptLaws
 pub mod NextLaws
+pub mod CursorLaws

@@ -19,7 +19,7 @@ use Rattle.grs_legal.specs.Asks.{Ask, AsksRelease, asks_of, scripts_of, lines_in
 use Rattle.grs_legal.specs.Legal.{lets_pass, passed_behind}
 use Rattle.grs_legal.specs.declared.meaning.Meaning.{Meaning}
 use Rattle.grs_wire.specs.declared.history.HistEntry.{HistEntry}
-use Rattle.grs_track.specs.Track.{Track, track_in, track_behind, is_free, entry_for, entry_next}
+use Rattle.grs_track.specs.Track.{Track, Kept, track_in, track_behind, is_free, entry_for, entry_next}
 use Rattle.grs_track.specs.Tracks.{TracksView, is_removed, next_in, next_of}
 use Rattle.grs_track.specs.Walk.{is_granted, passes, meant}
 
@@ -92,8 +92,8 @@ next-lines v t ls lists k live has same kept =
     ∙ ap (λ x. entry_next v.deck.limit v.lists t (meant lists t ls) x) (sym kept)
 
 -- what is kept of all, where this was put there of one task
-pub kept-put : (task t : TaskId) (h : HistEntry) (k : Track) (es fs : List (TaskId × Track))
-    → k ≡ track_behind (track_in (lookup (same_task task) es)) h
+pub kept-put : (task t : TaskId) (h : HistEntry) (k : Kept) (es fs : List (TaskId × Kept))
+    → k.track ≡ track_behind (track_in (lookup (same_task task) es)) h
     → lookup (same_task t) fs ≡ cond (same_task task t) (Some k) (lookup (same_task t) es)
     → track_in (lookup (same_task t) fs)
     ≡ cond (same_task t task) (track_behind (track_in (lookup (same_task t) es)) h) (track_in (lookup (same_task t) es))

@@ -1,3 +1,3 @@
 pub mod Track
-pub mod Tracks
 pub mod Walk
+pub mod Tracks

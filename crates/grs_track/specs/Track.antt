@@ -31,10 +31,24 @@ pub record Track : Type 0 where
 abbrev pub new_track : Track
 new_track = record { asked = 0; ended = false; waits = None }
 
+-- what code keeps of a task: its track, and how far it is in its lines: past so many, with so many entries of the
+-- lines behind those
+pub record Kept : Type 0 where
+  pub track : Track
+  pub place : ℕ
+  pub part : ℕ
+
+-- of a task that has asked for nothing
+abbrev pub new_kept : Kept
+new_kept = record { track = new_track; place = 0; part = 0 }
+
 -- of a task of which something may be kept
-abbrev pub track_in : Option Track → Track
-track_in None = new_track
-track_in (Some k) = k
+abbrev pub kept_in : Option Kept → Kept
+kept_in None = new_kept
+kept_in (Some k) = k
+
+abbrev pub track_in : Option Kept → Track
+track_in k = (kept_in k).track
 
 -- the resource for which a task waits that was answered so
 abbrev pub waited_for : Code → Res → Option Res

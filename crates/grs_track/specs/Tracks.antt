@@ -4,16 +4,18 @@ use Rattle.std.specs.List.{flat_map, list_any}
 use Rattle.std.specs.Map.{lookup}
 use Rattle.grs_base.specs.Same.{same_task}
 use Rattle.grs_base.specs.State.{State}
+use Rattle.grs_base.specs.declared.line.Line.{Line}
 use Rattle.grs_base.specs.declared.resource.SysId.{SysId}
 use Rattle.grs_base.specs.declared.resource.TaskId.{TaskId}
 use Rattle.grs_wire.specs.History.{is_by, step, replay}
 use Rattle.grs_wire.specs.declared.deck.Deck.{Deck}
 use Rattle.grs_wire.specs.declared.history.HistEntry.{HistEntry}
 use Rattle.grs_wire.specs.declared.history.HistEntry.TheVariants.{Enq, Deq, Release, Look, Remove}
-use Rattle.grs_legal.specs.Asks.{lines_of}
+use Rattle.grs_legal.specs.Asks.{lines_in, lines_of, scripts_of}
 use Rattle.grs_legal.specs.Legal.{commands_removal, MayStand}
 use Rattle.grs_legal.specs.declared.meaning.Meaning.{Meaning}
-use Rattle.grs_track.specs.Track.{Track, new_track, track_in, track_of, track_behind, entry_next}
+use Rattle.grs_track.specs.Track.{Track, Kept, new_track, kept_in, track_in, track_of, track_behind, entry_next}
+use Rattle.grs_track.specs.Walk.{IsInLines}
 
 -- what is kept: the deck, the lists, the systems that were removed, in the order of their removals, and of each task
 -- its track
@@ -23,12 +25,12 @@ pub record TracksView : Type 0 where
   pub removed : List SysId
   pub tracks : TaskId → Track
 
--- what code keeps: the same, with the tracks of the tasks that asked for something
+-- what code keeps: the same, with what is kept of the tasks that asked for something
 pub record TracksValue : Type 0 where
   pub deck : Deck
   pub lists : State
   pub removed : List SysId
-  pub kept : List (TaskId × Track)
+  pub kept : List (TaskId × Kept)
 
 -- what is kept by that of all tasks: of one that isn't listed, what is kept of one that asked for nothing
 abbrev pub view_of : TracksValue → TracksView
@@ -38,6 +40,18 @@ view_of k = record {
   removed = k.removed;
   tracks = λ t. track_in (lookup (same_task t) k.kept);
 }
+
+-- the lines of a task, none where the deck hasn't the task
+abbrev pub lines_or_none : Option (List Line) → List Line
+lines_or_none None = []
+lines_or_none (Some ls) = ls
+
+abbrev pub script_of : Deck → TaskId → List Line
+script_of deck t = lines_or_none (lines_in (scripts_of deck t.system.0) t)
+
+-- What is kept of each task is so far in its lines as its track says.
+abbrev pub AreInLines : Deck → List (TaskId × Kept) → Type 0
+AreInLines deck kept = (t : TaskId) → IsInLines (script_of deck t) (kept_in (lookup (same_task t) kept))
 
 -- the system that an entry removes, if it removes one
 abbrev pub removed_by : HistEntry → List SysId

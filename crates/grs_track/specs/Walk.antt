@@ -1,5 +1,5 @@
 -- How far a task is in its lines, line by line.
-use Rattle.std.specs.Prelude.{◌≡◌, ℕ, Bool, true, false, ◌||◌, ◌-◌, ◌+◌, nat_lt, List, [], ◌∷◌, cond, map, slice_get}
+use Rattle.std.specs.Prelude.{◌≡◌, ◌<◌, ◌≤◌, ℕ, zero, suc, Bool, true, false, ◌||◌, ◌-◌, ◌+◌, nat_lt, List, [], ◌∷◌, cond, map, slice_get}
 use Rattle.std.specs.Prelude.{Some, None}
 use Rattle.std.specs.List.{list_all}
 use Rattle.std.specs.Option.{option_map}
@@ -13,7 +13,7 @@ use Rattle.grs_base.specs.declared.rnl.Lists.{Lists}
 use Rattle.grs_legal.specs.Asks.{asks_of, meaning_of}
 use Rattle.grs_legal.specs.Legal.{lets_pass, passed_behind}
 use Rattle.grs_legal.specs.declared.meaning.Meaning.{Meaning}
-use Rattle.grs_track.specs.Track.{entry_for}
+use Rattle.grs_track.specs.Track.{Kept, entry_for}
 use Rattle.grs_track.specs.declared.onward.Onward.{Onward}
 use Rattle.grs_track.specs.declared.onward.Onward.TheVariants as onwards
 use Rattle.grs_track.specs.declared.walk.Stand.{Stand}
@@ -48,6 +48,18 @@ stand s t lists (l ∷ ls) place asked =
     cond (nat_lt asked (asks_count l)) (At place asked)
     (cond (nat_lt 0 asked || lets_pass s t (meaning_of lists t l))
     (stand s t lists ls (place + 1) (asked - asks_count l)) Held)
+
+-- A task that has so many entries of these lines is past so many of them, with so many entries of the lines behind
+-- those: of each line that it is past it has all entries, and of a later one at least one.
+abbrev pub IsPast : List Line → ℕ → ℕ → ℕ → Type 0
+IsPast ls asked zero part = part ≡ asked
+IsPast [] asked (suc place) part = ⊥
+IsPast (l ∷ ls) asked (suc place) part =
+    (0 < asked) × (asks_count l ≤ asked) × IsPast ls (asked - asks_count l) place part
+
+-- What is kept of a task with these lines is so far in them as its track says.
+abbrev pub IsInLines : List Line → Kept → Type 0
+IsInLines ls k = IsPast ls k.track.asked k.place k.part
 
 -- what the lines of a task mean
 abbrev pub meant : Lists → TaskId → List Line → List Meaning

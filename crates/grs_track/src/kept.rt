@@ -1,44 +1,48 @@
 //! What is kept of each task behind a history. Nothing here knows lists.
-ghost use Rattle.std.specs.Prelude.{◌≡◌, ◌≤◌, suc, cond, Some, is_some, None, option_copied, IfOk, OnOk};
+ghost use Rattle.std.specs.Prelude.{◌≡◌, ◌≤◌, ℕ, suc, cond, Some, is_some, None, option_copied, IfOk, OnOk};
 ghost use Rattle.std.specs.Map.{lookup};
 ghost use Rattle.indexmap.specs.IndexMap.{spare};
 ghost use Rattle.grs_base.specs.Same.{same_task};
 ghost use Rattle.grs_base.specs.declared.resource.TaskId.{TaskId as TaskValue};
 ghost use Rattle.grs_legal.specs.Legal as legal;
 ghost use Rattle.grs_track.specs.Track as tracks;
+ghost use Rattle.grs_track.specs.Walk.{IsInLines, IsPast};
 
-use grs_base::{Code, NoMemory, Res, TaskId};
+use super::cursor::{Cursor, onward};
+use grs_base::{Code, Line, NoMemory, Res, TaskId};
 use grs_wire::HistEntry;
 use indexmap::IndexMap;
 use std::alloc::Global;
 use std::marker::Model;
 
-/// What is kept of a task: how many entries its lines asked for, whether a code ended it, and the resource for which it
-/// was answered WAIT by its last entry.
+/// What is kept of a task: how many entries its lines asked for, whether a code ended it, the resource for which it was
+/// answered WAIT by its last entry, and how far it is in its lines, so that nobody goes through them from the first on.
 #[derive(Drop)]
 pub(crate) struct Kept {
     pub(crate) asked: usize,
     pub(crate) ended: bool,
     pub(crate) waits: Option<Res>,
+    pub(crate) cursor: Cursor,
 }
 
 impl Model for Kept {
     ghost use Rattle.grs_track.specs.Track as tracks;
 
-    ghost Value = { tracks.Track };
+    ghost Value = { tracks.Kept };
 
-    ghost view = { λ a. record { asked = a.asked; ended = a.ended; waits = a.waits } };
+    ghost view = { λ a. record { track = record { asked = a.asked; ended = a.ended; waits = a.waits }; place = a.cursor.place; part = a.cursor.part } };
 }
 
 impl Kept {
     /// What is kept of a task that asked for nothing.
     pub(crate) fn fresh() -> Self
-        ensures { result ≡ tracks.new_track }
+        ensures { result ≡ tracks.new_kept }
     {
         Kept {
             asked: 0,
             ended: false,
             waits: None,
+            cursor: Cursor { place: 0, part: 0 },
         }
     }
 }
@@ -95,7 +99,8 @@ fn waits_behind(alloc: Global, entry: &HistEntry) -> Result<Option<Res>, NoMemor
     }
 }
 
-/// How many entries a task's lines asked for behind one more entry. There is no memory for more than there are numbers.
+/// How many entries of a task's lines there are behind one more entry. There is no memory for more than there are
+/// numbers.
 fn asked_behind(asked: usize, entry: &HistEntry) -> Result<usize, NoMemory>
     ensures { IfOk result (λ n. n ≡ cond (legal.is_of_line entry.now) (suc asked) asked) }
 {
@@ -108,14 +113,31 @@ fn asked_behind(asked: usize, entry: &HistEntry) -> Result<usize, NoMemory>
     }
 }
 
-/// What is kept of a task behind one more entry of its own.
-pub(crate) fn kept_behind(alloc: Global, before: &Kept, entry: &HistEntry) -> Result<Kept, NoMemory>
-    ensures { IfOk result (λ k. k ≡ tracks.track_behind before.now entry.now) }
+/// How far a task is in its lines behind one more entry of its own.
+fn cursor_behind(lines: &[Line], before: Cursor, entry: &HistEntry) -> Result<Cursor, NoMemory>
+    ensures { (asked : ℕ) → IsPast lines.now asked before.place before.part → IfOk result (λ c. IsPast lines.now (cond (legal.is_of_line entry.now) (suc asked) asked) c.place c.part) }
+{
+    let part = asked_behind(before.part, entry)?;
+    let place = before.place;
+    Ok(onward(lines, Cursor { place, part }))
+}
+
+/// What is kept of a task with these lines behind one more entry of its own.
+pub(crate) fn kept_behind(
+    alloc: Global,
+    lines: &[Line],
+    before: &Kept,
+    entry: &HistEntry,
+) -> Result<Kept, NoMemory>
+    requires { IsInLines lines.now before.now }
+    ensures track { IfOk result (λ k. k.track ≡ tracks.track_behind before.now.track entry.now) }
+    ensures at { IfOk result (IsInLines lines.now) }
 {
     Ok(Kept {
         asked: asked_behind(before.asked, entry)?,
         ended: before.ended || ends(entry),
         waits: waits_behind(alloc, entry)?,
+        cursor: cursor_behind(lines, before.cursor, entry)?,
     })
 }
 
@@ -132,8 +154,8 @@ pub(crate) fn kept_or<'k>(
     task: TaskId,
     fresh: &'k Kept,
 ) -> &'k Kept
-    requires { fresh.now ≡ tracks.new_track }
-    ensures { result.now ≡ tracks.track_in (lookup (same_task task) all.now.entries) }
+    requires { fresh.now ≡ tracks.new_kept }
+    ensures { result.now ≡ tracks.kept_in (lookup (same_task task) all.now.entries) }
 {
     match find_kept(all, task) {
         Some(kept) => kept,

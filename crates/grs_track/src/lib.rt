@@ -2,6 +2,7 @@
 //! asks next. Whatever stands next is one of few known entries, so nothing here reads a history or a report.
 #![tactic(auto)]
 
+mod cursor;
 mod free;
 mod kept;
 mod laws;

@@ -4,7 +4,7 @@ ghost use Rattle.std.specs.Option.{option_map};
 ghost use Rattle.grs_base.specs.State.{queued_by};
 ghost use Rattle.grs_legal.specs.Asks.{AsksRelease};
 ghost use Rattle.grs_track.specs.Track.{entry_for, entry_next};
-ghost use Rattle.grs_track.specs.Walk.{meant};
+ghost use Rattle.grs_track.specs.Walk.{IsInLines, meant};
 
 use super::free::is_free;
 use super::kept::Kept;
@@ -43,7 +43,8 @@ pub(crate) fn next_by(
     lines: &[Line],
     kept: &Kept,
 ) -> Result<Option<HistEntry>, NoMemory>
-    ensures { IfOk result (λ next. next ≡ entry_next limit table.now.elements task (meant resolver.now task lines.now) kept.now) }
+    requires { IsInLines lines.now kept.now }
+    ensures { IfOk result (λ next. next ≡ entry_next limit table.now.elements task (meant resolver.now task lines.now) kept.now.track) }
 {
     if !is_free(table, task, &kept.waits) {
         return Ok(None);
@@ -51,7 +52,7 @@ pub(crate) fn next_by(
     if kept.ended {
         return release_next(alloc, table, task);
     }
-    match onward_in(alloc, limit, resolver, table, task, lines, kept.asked)? {
+    match onward_in(alloc, limit, resolver, table, task, lines, kept)? {
         Onward::Held => Ok(None),
         Onward::Behind => release_next(alloc, table, task),
         Onward::Asks(entry) => Ok(Some(entry)),

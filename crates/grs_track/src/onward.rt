@@ -3,8 +3,9 @@ ghost use Rattle.std.specs.Prelude.{IsSomeAnd, ◌≡◌, ◌<◌, ◌+◌, ℕ,
 ghost use Rattle.std.specs.Option.{option_map};
 ghost use Rattle.grs_legal.specs.Asks.{AsksLook, asks_in, looks_in, meaning_of};
 ghost use Rattle.grs_track.specs.Track.{entry_for};
-ghost use Rattle.grs_track.specs.Walk.{GoesOnBy, meant};
+ghost use Rattle.grs_track.specs.Walk.{GoesOnBy, IsInLines, meant};
 
+use super::kept::Kept;
 use super::walk::{Stand, stand_in};
 use grs_base::{Line, NoMemory, Place, TaskId};
 use grs_legal::{Display, Meaning, meaning_of};
@@ -137,7 +138,7 @@ fn entry_at(
     }
 }
 
-/// How a task goes on whose lines asked for so many entries.
+/// How a task goes on of which this is kept.
 pub(crate) fn onward_in(
     alloc: Global,
     limit: u32,
@@ -145,11 +146,12 @@ pub(crate) fn onward_in(
     table: &Table<LinkedQueues>,
     task: TaskId,
     lines: &[Line],
-    asked: usize,
+    kept: &Kept,
 ) -> Result<Onward, NoMemory>
-    ensures { IfOk result (λ o. GoesOnBy limit table.now.elements task (meant resolver.now task lines.now) asked o) }
+    requires { IsInLines lines.now kept.now }
+    ensures { IfOk result (λ o. GoesOnBy limit table.now.elements task (meant resolver.now task lines.now) kept.now.track.asked o) }
 {
-    match stand_in(alloc, resolver, table, task, lines, asked)? {
+    match stand_in(alloc, resolver, table, task, lines, kept.cursor)? {
         Stand::Held => Ok(Onward::Held),
         Stand::Behind => Ok(Onward::Behind),
         Stand::At { place, part } => Ok(Onward::Asks(entry_at(

@@ -1,6 +1,7 @@
 //! Which task of a deck has which lines. The lines stay in the deck.
 ghost use Rattle.std.specs.Prelude.{◌≡◌, option_copied, slice_get};
 ghost use Rattle.grs_legal.specs.Asks.{lines_at, lines_in, scripts_from, scripts_in, scripts_of};
+ghost use Rattle.grs_track.specs.Tracks.{script_of};
 
 use grs_base::{Line, List, TaskId};
 use grs_wire::{Deck, JobDef, TaskDef};
@@ -48,5 +49,15 @@ pub(crate) fn lines_of(deck: &Deck, task: TaskId) -> Option<&List<Line>>
     match deck.systems.as_slice().get(task.system.0 as usize) {
         Some(def) => lines_in_jobs(def.jobs.as_slice(), task),
         None => None,
+    }
+}
+
+/// The lines of a task of a deck, none where the deck hasn't the task.
+pub(crate) fn script_of(deck: &Deck, task: TaskId) -> &[Line]
+    ensures { result.now ≡ script_of deck.now task }
+{
+    match lines_of(deck, task) {
+        Some(lines) => lines.as_slice(),
+        None => &[],
     }
 }

@@ -11,7 +11,7 @@ ghost use Rattle.grs_track.specs.Tracks as all;
 use super::kept::{Kept, kept_behind, kept_or, put_kept, reserve_kept};
 use super::next::next_by;
 use super::removal::{commands_removal, is_removed};
-use super::script::lines_of;
+use super::script::{lines_of, script_of};
 use grs_base::{List, NoMemory, SysId, TaskId};
 use grs_history::carry_out;
 use grs_wire::{Deck, HistEntry};
@@ -35,13 +35,13 @@ pub struct Tracks<'d> {
 
 impl<'d> Model for Tracks<'d> {
     ghost use Rattle.std.specs.Prelude.{◌≡◌};
-    ghost use Rattle.grs_track.specs.Tracks.{TracksValue};
+    ghost use Rattle.grs_track.specs.Tracks.{TracksValue, AreInLines};
 
     ghost Value = { TracksValue };
 
     ghost view = { λ a. record { deck = a.deck.now; lists = a.table.elements; removed = a.removed; kept = a.kept.entries } };
 
-    ghost invariant = { λ a. a.resolver ≡ a.deck.now.lists };
+    ghost invariant = { λ a. (a.resolver ≡ a.deck.now.lists) × AreInLines a.deck.now a.kept.entries };
 }
 
 impl<'d> Tracks<'d> {
@@ -113,7 +113,8 @@ impl<'d> Tracks<'d> {
         ensures unchanged { OnErr result (self.new ≡ self.old) }
     {
         let fresh = Kept::fresh();
-        let kept = kept_behind(alloc, kept_or(&self.kept, task, &fresh), entry)?;
+        let lines = script_of(self.deck, task);
+        let kept = kept_behind(alloc, lines, kept_or(&self.kept, task, &fresh), entry)?;
         reserve_kept(&mut self.kept)?;
         carry_out(alloc, self.deck.limit, &mut self.table, entry)?;
         put_kept(&mut self.kept, task, kept);

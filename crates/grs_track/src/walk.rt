@@ -1,9 +1,10 @@
 //! How far a task is in its lines. A line's names are resolved only where a WAIT line may hold the task.
-ghost use Rattle.std.specs.Prelude.{◌≡◌, IfOk};
+ghost use Rattle.std.specs.Prelude.{◌≡◌, drop, IfOk};
 ghost use Rattle.grs_legal.specs.Asks.{meaning_of};
 ghost use Rattle.grs_legal.specs.Legal.{lets_pass};
 ghost use Rattle.grs_track.specs.Walk as walks;
 
+use super::cursor::Cursor;
 use grs_base::{Code, Line, NoMemory, Res, SLICES, TaskId};
 use grs_legal::{Meaning, meaning_of};
 use qel_store::LinkedQueues;
@@ -23,7 +24,7 @@ pub(crate) enum Stand {
 }
 
 /// How many entries a line asks for.
-fn asks_count(line: &Line) -> usize
+pub(crate) fn asks_count(line: &Line) -> usize
     ensures { result ≡ walks.asks_count line.now }
 {
     match line {
@@ -69,19 +70,20 @@ fn lets_pass(
     }
 }
 
-/// Where a task stands whose lines asked for so many entries.
+/// Where a task stands that is so far in its lines.
 pub(crate) fn stand_in(
     alloc: Global,
     resolver: &Resolver<'_>,
     table: &Table<LinkedQueues>,
     task: TaskId,
     lines: &[Line],
-    asked: usize,
+    from: Cursor,
 ) -> Result<Stand, NoMemory>
-    ensures { IfOk result (λ s. s ≡ walks.stand table.now.elements task resolver.now lines.now 0 asked) }
+    ensures { IfOk result (λ s. s ≡ walks.stand table.now.elements task resolver.now (drop from.place lines.now) from.place from.part) }
 {
-    let mut left = asked;
-    for (place, line) in lines.iter().enumerate() {
+    let mut left = from.part;
+    for place in from.place..lines.len() {
+        let line = &lines[place];
         let count = asks_count(line);
         if left < count {
             return Ok(Stand::At { place, part: left });
