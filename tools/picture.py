@@ -495,7 +495,7 @@ def bars(task, last):
     """A bar for each request of a task in the history, one for a display, one for a WAIT line, and one for what is still on its way there:
     its number, what it is (an element of a list, what gives one back, a display, a line that waits, what is on its way, or another), the
     edges between events at which it begins, has its place, owns, has control, has it exclusively by a change and ends, who was in front
-    of it, its text, and its row in the lane.
+    of it and kept it away, its text, and its row in the lane.
     The edge e lies behind event e."""
     found, held = [], {}
     last = task.removed - 1 if task.removed else last
@@ -568,7 +568,7 @@ def lists(run):
     for entry in run["history"]:
         number, name, task = int(entry["n"]), resource(entry), entry["by"]
         if entry["enq"] and is_queued(entry):
-            entry["front"] = [it + ":" + control for it, control in queues[name]]
+            entry["front"] = [it + ":" + control for it, control in queues[name] if "E" in (control, entry["control"])]
             asked[name, task] = entry
             queues[name].append((task, entry["control"]))
         elif entry["ret"] == "CHNG" and entry["answer"] == "00":
