@@ -136,11 +136,11 @@ def either(words):
 
 class Wrong(Exception):
     """The token at which a statement leaves its form, or none at its end; what its form wants there, as an item and in words; and
-    what stood before."""
+    what stood before and behind."""
 
-    def __init__(self, token, item, wanted, met=()):
+    def __init__(self, token, item, wanted, met=(), behind=()):
         super().__init__(token, wanted)
-        self.token, self.item, self.wanted, self.met = token, item, wanted, met
+        self.token, self.item, self.wanted, self.met, self.behind = token, item, wanted, met, behind
 
 
 class Walk:
@@ -163,7 +163,7 @@ class Walk:
         else:
             right = token.kind in ("word", "mark") and token.text in item.split("|")
         if not right:
-            raise Wrong(token, item, said, self.met)
+            raise Wrong(token, item, said, self.met, self.rest[1:])
         self.met.append((item, self.rest.pop(0)))
         return token.text
 
