@@ -412,14 +412,17 @@ class Node:
         self.medium.mail(self.number, system, ("answer", asked, answer))
         return self.grant(entry, asked, owners)
 
-    def untold(self, entry):
-        """The first owner of another system that is still to be told of an entry: the task and the resource."""
+    def all_untold(self, entry):
+        """The owners of other systems that are still to be told of an entry, in the order in which they are: the task and the resource."""
         lists, untold = self.managed.get(entry, (None, ()))
         for resource in sorted({resource for resource, _ in untold}, key=by_name) if untold else ():
             for task in lists.owning(resource):
                 if (resource, task) in untold:
-                    return task, resource
-        return None
+                    yield task, resource
+
+    def untold(self, entry):
+        """The first owner of another system that is still to be told of an entry, or None."""
+        return next(self.all_untold(entry), None)
 
     def tell_owner(self, entry):
         first = self.untold(entry) if self.is_star else None
@@ -750,19 +753,38 @@ class Says:
         resource = self.waits_for(state)
         text = "it waits for %s (line %d) since event %d" % (resource_text(self.run, resource), state.line, state.since)
         if task not in self.run.lists.owning(resource):
-            return "%s, behind %s" % (text, self.who(self.run.lists.front_of(resource, task)))
+            away = self.run.lists.keeping_away(resource, task)
+            return "%s, behind %s" % (text, self.who([it for it in self.run.lists.front_of(resource, task) if it[0] in away]))
         return "%s, and owns it: %s" % (text, self.control_comes(node, task, resource))
 
     def control_comes(self, node, task, resource):
         """How a task of this system, which owns a resource by the lists, is told so."""
         mail = self.run.medium.inbox[node.number]
-        if any(it[0] == "control" and it[1:] == (task, resource) for it in mail):
-            return "the mail that says so is in its inbox: %s TAKE" % node.name
+        place = next((place for place, it in enumerate(mail) if it[0] == "control" and it[1:] == (task, resource)), None)
+        if place is not None:
+            return "the mail that says so is in its inbox: %s" % self.recipe((node, "TAKE", place + 1))
         if not node.is_star:
             return "%s is told when the message comes by: %s TURN" % (node.name, node.name)
         entry = node.entry(resource)
-        manager = next((it.name for it in self.run.nodes if (resource, task) in it.managed.get(entry, (None, ()))[1]), None)
-        return "%s TELL %d tells it so, then %s TAKE" % (manager, entry, node.name) if manager else "that is on its way"
+        for manager in self.run.nodes:
+            untold = list(manager.all_untold(entry))
+            if (task, resource) in untold:
+                tells = untold[:untold.index((task, resource)) + 1]
+                mails = sum(it[0] == node.number for it, _ in tells)
+                return "it is told so by %s" % self.recipe((manager, "TELL %d" % entry, len(tells)), (node, "TAKE", len(mail) + mails))
+        return "that is on its way"
+
+    def recipe(self, *events):
+        """Events that bring something home, each as often as what stands in front of it makes needed; a system that doesn't know yet who was
+        removed only learns it by its first one."""
+        said, learn = [], {node.name for node, _, _ in events if node.knows != set(self.run.medium.removed)}
+        for node, what, times in events:
+            if times:
+                times += node.name in learn
+                learn.discard(node.name)
+                said.append("%s %s" % (node.name, what) + " (%d times)" % times * (times > 1))
+        late = sorted({node.name for node, _, _ in events if not node.is_star})
+        return "once %s changed to star mode, " % " and ".join(late) * bool(late) + ", ".join(said)
 
     def request(self, state, task):
         return "its RELEASE of %s" % resource_text(self.run, state.asked.resource) if state.asked.verb == "RELEASE" else (
@@ -774,20 +796,30 @@ class Says:
         asked, name = self.request(state, task), node.name
         if not node.is_star:
             at = self.message()
+            if state.phase == TO_SEND and self.run.medium.closed:
+                return "%s waits for a SEND, behind the %s TURN by which %s changes to star mode; %s" % (
+                    asked, name, name, at.replace("isn't here: it ", ""))
             if state.phase == TO_SEND:
                 return "%s waits for a %s TURN; %s" % (asked, name, at.replace("isn't here: it ", ""))
             return "%s goes round with the message, and is answered at %s TURN once it is back; %s" % (asked, name,
                                                                                                    at.replace("isn't here: it ", ""))
         if state.phase == TO_SEND:
             return "%s waits for %s SEND %s" % (asked, name, self.run.task_name(task).partition(".")[2])
+        inbox = self.run.medium.inbox
         for other in self.run.nodes:
-            mail = self.run.medium.inbox[other.number]
-            if any(it[0] == "request" and it[3] is state.asked for it in mail):
-                return "%s is in the inbox of %s: %s TAKE, %s SETTLE, %s TAKE" % (asked, other.name, other.name, other.name, name)
-            if any(it[2] is state.asked for it in other.held):
-                return "%s is held by %s: %s SETTLE, %s TAKE" % (asked, other.name, other.name, name)
-        if any(it[0] == "answer" and it[1] is state.asked for it in self.run.medium.inbox[node.number]):
-            return "the answer to %s is in the inbox of %s: %s TAKE" % (asked, name, name)
+            mail = inbox[other.number]
+            # what it settles, one after the other: the entry, whose system, the request
+            requests = [*other.held, *(it[1:] for it in mail if it[0] == "request")]
+            at = next((at for at, it in enumerate(requests) if it[2] is state.asked), None)
+            if at is not None:
+                takes = next((place + 1 for place, it in enumerate(mail) if it[0] == "request" and it[3] is state.asked), 0)
+                answers = len(inbox[node.number]) + sum(system == node.number for _, system, _ in requests[:at + 1])
+                where = "in the inbox of" if takes else "held by"
+                return "%s is %s %s: %s" % (asked, where, other.name, self.recipe(
+                    (other, "TAKE", takes), (other, "SETTLE", at + 1), (node, "TAKE", answers)))
+        place = next((place for place, it in enumerate(inbox[node.number]) if it[0] == "answer" and it[1] is state.asked), None)
+        if place is not None:
+            return "the answer to %s is in the inbox of %s: %s" % (asked, name, self.recipe((node, "TAKE", place + 1)))
         return "%s goes round with the message, which %s takes as its last: %s TURN" % (asked, name, name)
 
     def unended(self, task):
