@@ -10,6 +10,7 @@ pub mod Replies
 pub mod CauseLaws
 pub mod StarCauses
 pub mod TurnLaws
+pub mod TakeLaws
 pub mod LiveLaws
 pub mod Round
 pub mod Waiting

@@ -5,5 +5,6 @@ pub mod Room
 pub mod Changes
 pub mod Causes
 pub mod TurnReplies
+pub mod TakeReplies
 pub mod Concerned
 pub mod GoesOn

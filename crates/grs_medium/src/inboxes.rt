@@ -107,7 +107,7 @@ impl Inboxes {
     }
 
     /// Whether the inbox of this system is empty.
-    fn is_empty(&self, of: SysId) -> bool
+    pub fn is_empty(&self, of: SysId) -> bool
         requires { of.0 < length self.now.mail }
         ensures { result ≡ is_empty (inbox_of self.now.mail of.0) }
     {

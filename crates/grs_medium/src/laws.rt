@@ -2,6 +2,7 @@
 ghost use Rattle.grs_medium.specs.Causes.{RepliesAreListed, RemovedComes, StaleComes, NotYoursComes, AlreadyComes, BehindComes, SwitchedComes, InStarComes, NoSuchComes, OverComes, RestingComes, SoleComes, SentComes, TakenComes, EmptyComes, SettledComes, ToldComes, KeptComes, LeftComes};
 ghost use Rattle.grs_medium.specs.Changes.{LeavesTheRest, ChangesWhatItSays};
 ghost use Rattle.grs_medium.specs.TurnReplies.{TurnIsRefused, TurnIsServed};
+ghost use Rattle.grs_medium.specs.TakeReplies.{TakeFindsNothing};
 
 /// A call that isn't said to change the medium leaves it as it was.
 pub fn leaves_the_rest()
@@ -122,4 +123,9 @@ pub fn left_comes()
 pub fn turn_refusals_are_answers()
     ensures refused { TurnIsRefused }
     ensures served { TurnIsServed }
+{}
+
+/// A Take that is said to find an empty inbox is answered Empty, and changes nothing.
+pub fn empty_takes_are_answers()
+    ensures { TakeFindsNothing }
 {}

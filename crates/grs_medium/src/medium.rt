@@ -13,6 +13,7 @@ ghost use Rattle.grs_medium.specs.GoesOn.{WaitsForLive};
 ghost use Rattle.grs_medium.specs.Concerned.{just, addressee, is_over, concerned};
 ghost use Rattle.grs_medium.specs.Room.{HasRoomFor, HasRoomForAct, HasRoomOn, HasRoomToPurge, request_on};
 ghost use Rattle.grs_medium.specs.TurnReplies.{refusal_reply, refusal};
+ghost use Rattle.grs_medium.specs.TakeReplies.{finds_nothing};
 ghost use Rattle.rsa_message.specs.Message.{stands_at, taken, put_in, rest_after_turn, first_number};
 ghost use Rattle.grs_wire.specs.Unseen.{unseen};
 ghost use Rattle.rsa_message.specs.Places.{HasPlaces};
@@ -259,6 +260,15 @@ impl Medium {
             });
         }
         None
+    }
+
+    /// Whether a Take of the caller finds its inbox empty. Such a call is answered Empty and changes nothing, so it need not be
+    /// made.
+    pub fn finds_nothing(&self, caller: SysId, known: u32) -> bool
+        requires { caller.0 < systems_of self.now.state }
+        ensures { result ≡ finds_nothing self.now.state caller known }
+    {
+        !has_system(self.removed, caller) && known == self.removed && self.inboxes.is_empty(caller)
     }
 
     /// The system at which the message stands; None where it stands nowhere any more, or never did.
@@ -575,11 +585,14 @@ impl Medium {
         ensures goes_on { WaitsForLive self.old.state → WaitsForLive self.new.state }
         ensures systems { systems_of self.new.state ≡ systems_of self.old.state }
     {
+        // An act that isn't heard is dropped by a call: dropped here, each of its parts would take room at every call.
         let Call { known, act } = call;
         if has_system(self.removed, caller) {
+            drop(act);
             return Reply::Removed;
         }
         if known != self.removed {
+            drop(act);
             return Reply::Stale { set: self.removed };
         }
         self.act(caller, act)

@@ -9,8 +9,8 @@ ghost use Rattle.grs_node.specs.Node as steps;
 ghost use Rattle.grs_node.specs.Finish.{MayFinish, may_come};
 ghost use Rattle.grs_node.specs.Addressed.{is_addressed};
 ghost use Rattle.grs_wire.specs.Unseen.{unseen};
-ghost use Rattle.grs_node.specs.TurnCalls.{turn_of};
-ghost use Rattle.grs_wire.specs.declared.deck.Choice.TheVariants.{Turn};
+ghost use Rattle.grs_node.specs.TurnCalls.{turn_of, take_of};
+ghost use Rattle.grs_wire.specs.declared.deck.Choice.TheVariants.{Turn, Take};
 ghost use Rattle.grs_wire.specs.declared.medium.Reply.TheVariants.{Turned};
 ghost use Rattle.grs_node.specs.Log.{starting, stepped, finished, end_in};
 ghost use Rattle.grs_node.specs.declared.prepared.Prepared.TheVariants.{Quiet, Call, Nothing};
@@ -127,6 +127,20 @@ impl<'d> Node<'d> {
             None
         } else {
             Some(self.state.known)
+        }
+    }
+
+    /// The set of the systems that the system knows to be removed, as its Take says. None exactly in ring mode, where a
+    /// Take comes to nothing.
+    #[tactic(auto, unfolding(crate::specs::Node::prepare, crate::specs::Node::star_call))]
+    pub fn known_at_take(&self) -> Option<u32>
+        ensures take { IfSome result (λ known. steps.prepare self.now.deck self.now.node Take ≡ Call (take_of known)) }
+        ensures none { IfNone result (steps.prepare self.now.deck self.now.node Take ≡ Nothing) }
+    {
+        if self.state.star.is_some() {
+            Some(self.state.known)
+        } else {
+            None
         }
     }
 

@@ -4,4 +4,5 @@ pub mod Calls
 pub mod Nodes
 pub mod Happens
 pub mod Turns
+pub mod Takes
 pub mod Lapped

@@ -9,7 +9,7 @@ ghost use Rattle.grs_node.specs.Finish.{MayFinish};
 ghost use Rattle.grs_node.specs.Node as steps;
 ghost use Rattle.grs_node.specs.TurnCalls.{turn_of};
 ghost use Rattle.grs_node.specs.declared.prepared.Prepared.TheVariants.{Call as Calls};
-ghost use Rattle.grs_wire.specs.declared.deck.Choice.TheVariants.{Turn};
+ghost use Rattle.grs_wire.specs.declared.deck.Choice.TheVariants.{Turn, Take};
 ghost use Rattle.grs_world.specs.World.{chosen};
 ghost use Rattle.grs_world.specs.Done.{last_done, done_by, journalled, finish_of, chosen_by, Ends};
 ghost use Rattle.grs_world.specs.Running.{AreOf, AreNumbered, nodes_of, node_at};
@@ -17,7 +17,7 @@ ghost use Rattle.grs_world.specs.Running.{AreOf, AreNumbered, nodes_of, node_at}
 use grs_base::{List, NoMemory, SysId};
 use grs_medium::{Medium, TurnRefusal};
 use grs_node::{Node, Prepared, leaves_all};
-use grs_wire::{Call, Choice, Deck, Fixed, Reply, ToldLine};
+use grs_wire::{Act, Call, Choice, Deck, Fixed, Reply, ToldLine};
 use std::alloc::Global;
 
 /// What a choice fixed and told.
@@ -200,6 +200,42 @@ fn turn(
     }
 }
 
+/// A look of a system into its inbox, which comes to nothing in ring mode. Where it finds nothing, as most do, it costs no
+/// call.
+#[tactic(auto, using(crate::proofs::code::Takes::takes), unfolding(crate::specs::World::chosen, crate::specs::World::carry_out))]
+fn take(
+    alloc: Global,
+    medium: &mut Medium,
+    system: SysId,
+    node: &mut Node<'_>,
+) -> Result<Done, NoMemory>
+    requires caller { system.0 < systems_of medium.old.state }
+    requires systems { systems_of medium.old.state ≡ length node.old.deck.systems }
+    requires words { length medium.old.state.words ≡ node.old.deck.entries }
+    ensures medium { OnOk result (medium.new.state ≡ (chosen_by node.old medium.old.state system Take).medium) }
+    ensures ends { IfOk result (Ends node.old (chosen_by node.old medium.old.state system Take).step node.new) }
+    ensures deck { node.new.deck ≡ node.old.deck }
+    ensures number { node.new.node.tasks.system ≡ node.old.node.tasks.system }
+    ensures systems { systems_of medium.new.state ≡ systems_of medium.old.state }
+    ensures words { length medium.new.state.words ≡ length medium.old.state.words }
+{
+    let Some(known) = node.known_at_take() else {
+        return Ok(nothing_done(alloc));
+    };
+    if medium.finds_nothing(system, known) {
+        return Ok(nothing_done(alloc));
+    }
+    let act = Act::Take;
+    called(
+        alloc,
+        medium,
+        system,
+        node,
+        &Choice::Take,
+        Call { known, act },
+    )
+}
+
 /// A choice of a system: it is prepared, makes at most one call of the medium, and is finished.
 #[tactic(auto, using(crate::proofs::code::Logged::logged_steps), unfolding(crate::specs::World::chosen, crate::specs::World::carry_out))]
 fn choose(
@@ -223,6 +259,9 @@ fn choose(
 {
     if matches!(choice, Choice::Turn) {
         return turn(alloc, medium, system, node);
+    }
+    if matches!(choice, Choice::Take) {
+        return take(alloc, medium, system, node);
     }
     match node.prepare(choice)? {
         Prepared::Nothing => Ok(nothing_done(alloc)),

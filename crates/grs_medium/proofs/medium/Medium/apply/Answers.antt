@@ -5,5 +5,5 @@ use Rattle.grs_medium.proofs.medium.Medium.apply.Goals as goal
 
 pub returns-clause-goes_on : goal.returns-clause-goes_on
 returns-clause-goes_on c = λ waits.
-    subst WaitsForLive (sym c.act-2.ensures.state)
+    subst WaitsForLive (sym c.act.ensures.state)
     (row_goes c.args.self.now.state c.args.caller c.args.call.act waits)
