@@ -9,18 +9,12 @@ use Rattle.grs_base.specs.declared.resource.Elem.{Elem}
 use Rattle.grs_base.specs.declared.resource.Ctl.{Ctl}
 use Rattle.grs_latch.specs.Latches.{Lists, task_of, obtain_code, obtained, release_code, released, code_at, changed_at}
 use Rattle.grs_latch.specs.Latches.{release_grants, requests_of, purged, purge_grants}
+use Rattle.grs_latch.specs.Limits.{most_sets, most_latches}
 use Rattle.grs_latch.specs.declared.call.LatchCall.{LatchCall}
 use Rattle.grs_latch.specs.declared.call.LatchCall.TheVariants.{Crt, Obt, Rel, Prg}
 use Rattle.grs_latch.specs.declared.reply.LatchReply.{LatchReply}
 use Rattle.grs_latch.specs.declared.reply.LatchRow.{LatchRow}
 use Rattle.grs_latch.specs.declared.sets.NamedSet.{NamedSet}
-
--- how many sets there may be, and how many latches a set may have
-abbrev pub most_sets : ℕ
-most_sets = 64
-
-abbrev pub most_latches : ℕ
-most_latches = 1024
 
 -- the sets in order of making, each with its name
 abbrev pub Sets : Type 0

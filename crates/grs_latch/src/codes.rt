@@ -4,6 +4,12 @@ ghost use Rattle.grs_latch.specs.Latches.{obtain_code, is_queued, release_code, 
 
 use grs_base::{Standing, SysId, TaskId};
 
+/// The latch is granted.
+pub(crate) const GRANTED: u8 = 0x00;
+
+/// The requestor has no request at the latch.
+pub(crate) const NO_REQUEST: u8 = 0x08;
+
 /// There is no such set or latch.
 pub(crate) const NO_LATCH: u8 = 0x0c;
 

@@ -19,4 +19,5 @@ pub use laws::{
     calls_go_on, grants_are_new_owners, latches_are_resources, latches_have_lists_of_resources,
 };
 pub use reply::{Grant, LatchReply, LatchRow};
-pub use sets::{Latches, name_of};
+pub use set::MOST_LATCHES;
+pub use sets::{Latches, MOST_SETS, name_of};

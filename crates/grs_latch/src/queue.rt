@@ -1,5 +1,5 @@
 //! One latch: a queue, and what calls do to it.
-ghost use Rattle.std.specs.Prelude.{◌≡◌, ◌≤◌, ◌+◌, ℕ, true, false, nat_eq, length, IfOk, OnOk, OnErr, ◌++◌, ◌∷◌, [], vec_len, vec_capacity};
+ghost use Rattle.std.specs.Prelude.{◌≡◌, ◌≤◌, ◌+◌, ℕ, true, false, ◌||◌, nat_eq, length, IfOk, OnOk, OnErr, ◌++◌, ◌∷◌, [], vec_len, vec_capacity};
 ghost use Rattle.grs_base.specs.Lists.{can_have as can, is_apart, list_without, place_of as place_in, shared_front, standing_of};
 ghost use Rattle.grs_base.specs.State.{list_at, without};
 ghost use Rattle.grs_base.specs.declared.decision.Standing.TheVariants.{Absent};
@@ -48,6 +48,28 @@ pub(crate) fn obtain_in<Q: Queues>(
         append(queues, queue, elem)?;
     }
     Ok(obtain_code(standing, can))
+}
+
+/// Makes a queue of one request, and gives its number. `latches` gets the latch whose queue it is. Without memory no queue
+/// changes.
+pub(crate) fn begin<Q: Queues>(
+    latches: &mut List<u32>,
+    queues: &mut Q,
+    latch: u32,
+    elem: Elem,
+) -> Result<u32, NoMemory>
+    ensures fresh { IfOk result (λ queue. Q.is_live queues.old queue ≡ false) }
+    ensures list { IfOk result (λ queue. list_at nat_eq (Q.elements queues.new) queue ≡ elem ∷ []) }
+    ensures others { IfOk result (λ queue. (q : ℕ) → nat_eq q queue ≡ false → list_at nat_eq (Q.elements queues.new) q ≡ list_at nat_eq (Q.elements queues.old) q) }
+    ensures live { IfOk result (λ queue. (q : ℕ) → Q.is_live queues.new q ≡ (nat_eq q queue || Q.is_live queues.old q)) }
+    ensures unchanged { OnErr result (Q.elements queues.new ≡ Q.elements queues.old) }
+    ensures as_live { OnErr result ((q : ℕ) → Q.is_live queues.new q ≡ Q.is_live queues.old q) }
+{
+    queues.reserve()?;
+    latches.push(latch)?;
+    let queue = queues.make();
+    queues.push(queue, elem);
+    Ok(queue)
 }
 
 /// Puts those who got a latch behind others.

@@ -4,6 +4,7 @@ ghost use Rattle.grs_base.specs.State.{list_at};
 ghost use Rattle.grs_latch.specs.Calls.{row_of, rows_at, rows_in};
 ghost use Rattle.grs_latch.specs.Numbered.{lists_at, IsNumbered};
 
+use super::parts::queue_at;
 use super::reply::LatchRow;
 use grs_base::{Ctl, Elem, List, NoMemory, Queues};
 use ret_codes::owners_among;
@@ -55,11 +56,10 @@ fn add_row<Q: Queues>(
 }
 
 /// The same of the latch of this number. What is left to be shown is what stands behind it.
-#[tactic(auto, using(crate::proofs::PurgeLemmas::shown))]
 fn add_row_at<Q: Queues>(
     alloc: Global,
     set: u32,
-    numbers: &List<u32>,
+    numbers: &[Option<u32>],
     latch: usize,
     queues: &Q,
     rows: &mut List<LatchRow>,
@@ -69,9 +69,10 @@ fn add_row_at<Q: Queues>(
     requires within { latch < length numbers.now }
     ensures { OnOk result (rows.new ++ rows_in set (latch + 1) (drop (latch + 1) (lists_at numbers.now (Q.elements queues.now))) ≡ rows.old ++ rows_in set latch (drop latch (lists_at numbers.now (Q.elements queues.now)))) }
 {
-    let queue = *numbers.get(latch);
-    add_row(alloc, set, latch as u32, queues, queue, rows)?;
-    Ok(())
+    match queue_at(numbers, latch) {
+        Some(queue) => add_row(alloc, set, latch as u32, queues, queue, rows),
+        None => Ok(()),
+    }
 }
 
 /// Puts the rows of a set, by its place, behind others.
@@ -79,7 +80,7 @@ fn add_row_at<Q: Queues>(
 pub(crate) fn add_rows<Q: Queues>(
     alloc: Global,
     set: u32,
-    numbers: &List<u32>,
+    numbers: &[Option<u32>],
     queues: &Q,
     rows: &mut List<LatchRow>,
 ) -> Result<(), NoMemory>

@@ -3,11 +3,12 @@ ghost use Rattle.std.specs.Prelude.{◌≡◌, ◌<◌, ◌≤◌, ◌++◌, ℕ
 ghost use Rattle.grs_base.specs.Lists.{can_have, standing_of};
 ghost use Rattle.qel_store.specs.Items.{without_task};
 ghost use Rattle.grs_latch.specs.Calls.{rows_in};
+ghost use Rattle.grs_latch.specs.Limits.{most_latches};
 ghost use Rattle.grs_latch.specs.Numbered.{lists_at, IsNumbered};
 ghost use Rattle.grs_latch.specs.Latches.{task_of, obtain_code, obtained, release_code, released, code_at, changed_at, release_grants, requests_of, purge_grants, purged as lists_purged};
 
 use super::codes::task_of;
-use super::parts::{Purged, add_latches, obtain_at, only_latch, purge_one, purged_in, release_at};
+use super::parts::{Purged, no_queues, obtain_at, only_latch, purge_one, purged_in, release_at};
 use super::reply::{Grant, LatchRow};
 use super::rows::add_rows;
 use grs_base::{Ctl, Elem, List, NoMemory, Queues, Steps, TaskId};
@@ -16,10 +17,16 @@ use std::alloc::Global;
 use std::marker::{Brand, Model};
 use std::sync::ledger::{Blank, Ledger};
 
-/// The latches of a set, seen as the list of each, by number from 0. A set has at most 1,024.
+/// The most latches of a set.
+pub const MOST_LATCHES: u32 = 1024;
+
+/// The latches of a set, seen as the list of each, by number from 0. A set has `MOST_LATCHES` at most.
 #[derive(Drop)]
 pub struct LatchSet {
-    numbers: List<u32>,
+    /// The queue of each latch, from its first request on.
+    numbers: Vec<Option<u32>>,
+    /// The latches in the order in which they got queues.
+    latches: List<u32>,
     queues: LinkedQueues,
 }
 
@@ -36,16 +43,15 @@ fn take_all<L: Ledger>(queues: &mut LinkedQueues, task: TaskId, blank: Blank)
 }
 
 /// Purges a set, by its place, of a task that may have several requests. Without memory nothing changes.
-#[tactic(auto, using(crate::proofs::NumberLemmas::without_all))]
 fn purge_several(
     alloc: Global,
     set: u32,
-    numbers: &List<u32>,
+    numbers: &[Option<u32>],
     queues: &mut LinkedQueues,
     task: TaskId,
 ) -> Result<Purged, NoMemory>
     requires numbered { IsNumbered numbers.now (⟦<LinkedQueues as Queues>⟧.is_live queues.old) }
-    requires few { length numbers.now ≤ 1024 }
+    requires few { length numbers.now ≤ most_latches }
     ensures taken { IfOk result (λ p. p.taken ≡ requests_of (lists_at numbers.now (⟦<LinkedQueues as Queues>⟧.elements queues.old)) task) }
     ensures grants { IfOk result (λ p. p.grants ≡ purge_grants set 0 (lists_at numbers.now (⟦<LinkedQueues as Queues>⟧.elements queues.old)) task) }
     ensures lists { OnOk result (lists_at numbers.now (⟦<LinkedQueues as Queues>⟧.elements queues.new) ≡ lists_purged (lists_at numbers.now (⟦<LinkedQueues as Queues>⟧.elements queues.old)) task) }
@@ -59,26 +65,29 @@ fn purge_several(
 
 impl Model for LatchSet {
     ghost use Rattle.std.specs.Prelude.{◌≤◌, length};
+    ghost use Rattle.grs_latch.specs.Limits.{most_latches};
     ghost use Rattle.grs_latch.specs.Latches.{Lists};
     ghost use Rattle.grs_latch.specs.Numbered.{lists_at, IsNumbered};
 
     ghost Value = { Lists };
 
-    ghost view = { λ a. lists_at a.numbers (⟦<LinkedQueues as Queues>⟧.elements a.queues) };
+    ghost view = { λ a. lists_at a.numbers.items (⟦<LinkedQueues as Queues>⟧.elements a.queues) };
 
-    ghost invariant = { λ a. IsNumbered a.numbers (⟦<LinkedQueues as Queues>⟧.is_live a.queues) × (length a.numbers ≤ 1024) };
+    ghost invariant = { λ a. IsNumbered a.numbers.items (⟦<LinkedQueues as Queues>⟧.is_live a.queues) × (length a.numbers.items ≤ most_latches) };
 }
 
 impl LatchSet {
     /// So many latches, each without requests.
     pub fn new(alloc: Global, count: u32) -> Result<Self, NoMemory>
-        requires { count ≤ 1024 }
+        requires { count ≤ most_latches }
         ensures { IfOk result (λ set. set ≡ replicate count []) }
     {
-        let mut numbers = List::new(alloc);
-        let mut queues = LinkedQueues::new(alloc);
-        add_latches(&mut numbers, &mut queues, count)?;
-        Ok(LatchSet { numbers, queues })
+        let numbers = no_queues(alloc, count)?;
+        Ok(LatchSet {
+            numbers,
+            latches: List::new(alloc),
+            queues: LinkedQueues::new(alloc),
+        })
     }
 
     /// Asks for a latch, which is granted or not at once; a request that may wait is queued where it isn't. The code is
@@ -99,7 +108,14 @@ impl LatchSet {
             task: task_of(requestor),
             ctl,
         };
-        obtain_at(&self.numbers, &mut self.queues, latch, elem, may_wait)
+        obtain_at(
+            self.numbers.as_mut_slice(),
+            &mut self.latches,
+            &mut self.queues,
+            latch,
+            elem,
+            may_wait,
+        )
     }
 
     /// Gives a latch up: the code, and who gets it, where the set has this place among all. The code is 00 where it is
@@ -118,7 +134,14 @@ impl LatchSet {
         ensures unchanged { OnErr result (self.new ≡ self.old) }
     {
         let task = task_of(requestor);
-        release_at(alloc, set, &self.numbers, &mut self.queues, latch, task)
+        release_at(
+            alloc,
+            set,
+            self.numbers.as_slice(),
+            &mut self.queues,
+            latch,
+            task,
+        )
     }
 
     /// Takes every request of a requestor out: how many there were, and who gets a latch by it, where the set has this
@@ -130,9 +153,12 @@ impl LatchSet {
         ensures unchanged { OnErr result (self.new ≡ self.old) }
     {
         let task = task_of(requestor);
-        match only_latch(&self.numbers, &self.queues, task) {
-            Some(latch) => purge_one(alloc, set, &self.numbers, &mut self.queues, latch, task),
-            None => purge_several(alloc, set, &self.numbers, &mut self.queues, task),
+        let numbers = self.numbers.as_slice();
+        match only_latch(numbers, self.latches.as_slice(), &self.queues, task) {
+            Some((latch, queue)) => {
+                purge_one(alloc, set, numbers, &mut self.queues, latch, queue, task)
+            }
+            None => purge_several(alloc, set, numbers, &mut self.queues, task),
         }
     }
 
@@ -145,6 +171,6 @@ impl LatchSet {
     ) -> Result<(), NoMemory>
         ensures { OnOk result (rows.new ≡ rows.old ++ rows_in set 0 self.now) }
     {
-        add_rows(alloc, set, &self.numbers, &self.queues, rows)
+        add_rows(alloc, set, self.numbers.as_slice(), &self.queues, rows)
     }
 }

@@ -1,6 +1,7 @@
 //! Sets of latches by name, and calls of them.
 ghost use Rattle.std.specs.Prelude.{◌≡◌, ◌<◌, ◌≤◌, ◌++◌, ◌∷◌, [], false, length, replicate, IfOk, OnOk, OnErr};
 ghost use Rattle.grs_latch.specs.Calls.{name_of, plain, purge_code, reply_in, lists_after, reply_apart, made_by, reply, after, is_there, MayCome, set_name, rows_of};
+ghost use Rattle.grs_latch.specs.Limits.{most_latches, most_sets};
 ghost use Rattle.grs_latch.specs.Places.{set_place};
 
 use super::call::LatchCall;
@@ -10,6 +11,9 @@ use super::set::LatchSet;
 use grs_base::{List, NoMemory};
 use std::alloc::Global;
 use std::marker::Model;
+
+/// The most sets.
+pub const MOST_SETS: u32 = 64;
 
 /// It is done.
 const DONE: u8 = 0x00;
@@ -124,7 +128,7 @@ fn make_set(
     name: &List<u8>,
     count: u32,
 ) -> Result<(), NoMemory>
-    requires { count ≤ 1024 }
+    requires { count ≤ most_latches }
     ensures made { OnOk result (sets.new.items ≡ sets.old.items ++ record { name = name.now; latches = replicate count [] } ∷ []) }
     ensures unchanged { OnErr result (sets.new.items ≡ sets.old.items) }
 {
@@ -146,11 +150,11 @@ fn call_apart(
 ) -> Result<LatchReply, NoMemory>
     requires come { MayCome call.now sets.old.items }
     requires apart { is_there (name_of call.now) sets.old.items ≡ false }
-    requires few { length sets.old.items ≤ 64 }
+    requires few { length sets.old.items ≤ most_sets }
     ensures reply { IfOk result (λ r. r ≡ reply_apart call.now) }
     ensures after { OnOk result (sets.new.items ≡ sets.old.items ++ made_by call.now) }
     ensures unchanged { OnErr result (sets.new.items ≡ sets.old.items) }
-    ensures few { length sets.new.items ≤ 64 }
+    ensures few { length sets.new.items ≤ most_sets }
 {
     match call {
         LatchCall::Crt { set, count } => {
@@ -169,11 +173,11 @@ fn call_of(
     call: &LatchCall,
 ) -> Result<LatchReply, NoMemory>
     requires come { MayCome call.now sets.old.items }
-    requires few { length sets.old.items ≤ 64 }
+    requires few { length sets.old.items ≤ most_sets }
     ensures reply { IfOk result (λ r. r ≡ reply 0 call.now sets.old.items) }
     ensures after { OnOk result (sets.new.items ≡ after call.now sets.old.items) }
     ensures unchanged { OnErr result (sets.new.items ≡ sets.old.items) }
-    ensures few { length sets.new.items ≤ 64 }
+    ensures few { length sets.new.items ≤ most_sets }
 {
     let place = set_place(sets.as_slice(), name_of(call));
     if place == sets.len() {
@@ -184,7 +188,7 @@ fn call_of(
 
 /// Puts the rows of sets behind others, of which the first has this place.
 fn add_all_rows(alloc: Global, sets: &[NamedSet], rows: &mut List<LatchRow>) -> Result<(), NoMemory>
-    requires few { length sets.now ≤ 64 }
+    requires few { length sets.now ≤ most_sets }
     ensures { OnOk result (rows.new ≡ rows.old ++ rows_of 0 sets.now) }
 {
     for (place, set) in sets.iter().enumerate() {
@@ -194,7 +198,7 @@ fn add_all_rows(alloc: Global, sets: &[NamedSet], rows: &mut List<LatchRow>) -> 
 }
 
 /// The latches of all sets, seen as the sets in order of making, each with its name and the list of each latch, by number
-/// from 0. There are at most 64 sets.
+/// from 0. There are `MOST_SETS` at most.
 #[derive(Drop)]
 pub struct Latches {
     sets: Vec<NamedSet>,
@@ -203,12 +207,13 @@ pub struct Latches {
 impl Model for Latches {
     ghost use Rattle.std.specs.Prelude.{◌≤◌, length};
     ghost use Rattle.grs_latch.specs.Calls.{Sets};
+    ghost use Rattle.grs_latch.specs.Limits.{most_sets};
 
     ghost Value = { Sets };
 
     ghost view = { λ a. a.sets.items };
 
-    ghost invariant = { λ a. length a.sets.items ≤ 64 };
+    ghost invariant = { λ a. length a.sets.items ≤ most_sets };
 }
 
 impl Latches {

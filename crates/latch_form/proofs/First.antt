@@ -12,7 +12,8 @@ use Rattle.deck_scan.specs.Gives.{◌>>=◌, Gives, IsOkUnlessMemory}
 use Rattle.deck_scan.proofs.Texts.{text_of, text_read}
 use Rattle.grs_latch.specs.declared.call.LatchCall.{LatchCall}
 use Rattle.latch_form.specs.declared.judge.Draft.{Draft}
-use Rattle.latch_form.specs.Reading.{no_draft, grow, is_too_long, is_full, judge, judge_all, calls_of, reading}
+use Rattle.latch_form.specs.Drafts.{no_draft, grow}
+use Rattle.latch_form.specs.Reading.{is_too_long, is_full, judge, judge_all, calls_of, reading}
 use Rattle.latch_form.specs.Spelled.{Says, SpellsCalls}
 use Rattle.latch_form.specs.Faults.{IsLeast, FaultyLine, FaultOfLines, IsFault, IsFaultless, Answers}
 use Rattle.latch_form.proofs.Loop.{no_fault, judged}

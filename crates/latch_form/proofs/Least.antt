@@ -15,7 +15,7 @@ use Rattle.grs_base.specs.declared.resource.Ctl.TheVariants.{E}
 use Rattle.deck_scan.specs.declared.token.Token.{Token}
 use Rattle.deck_scan.specs.declared.token.Token.TheVariants.{Word, Unclosed}
 use Rattle.deck_scan.specs.declared.token.TokenLine.{TokenLine}
-use Rattle.grs_latch.specs.Calls.{most_sets}
+use Rattle.grs_latch.specs.Limits.{most_sets}
 use Rattle.latch_form.specs.declared.form.Ask.{Ask}
 use Rattle.latch_form.specs.declared.form.Ask.TheVariants.{Make, Obtain, Release, Purge}
 use Rattle.latch_form.specs.declared.form.GivenCall.{GivenCall}
@@ -23,7 +23,8 @@ use Rattle.latch_form.specs.declared.form.Verb.{Verb}
 use Rattle.latch_form.specs.declared.form.Verb.TheVariants.{Crt, Obt, Rel, Prg}
 use Rattle.latch_form.specs.declared.judge.Draft.{Draft}
 use Rattle.latch_form.specs.Form.{verb_of, call_at, or_bad, formed, first_form, form}
-use Rattle.latch_form.specs.Reading.{most_calls, makes, grow, is_too_long, is_full, verdict, unless, judge_call}
+use Rattle.latch_form.specs.Drafts.{most_calls, makes, grow}
+use Rattle.latch_form.specs.Reading.{is_too_long, is_full, verdict, unless, judge_call}
 use Rattle.latch_form.specs.Reading.{judge_form, judge}
 use Rattle.latch_form.specs.Spelled.{ask_word, Spells, IsSized, HasRoom}
 use Rattle.latch_form.specs.Faults.{number, BeginsOtherwise, NoWord, SomeCall, Applies, IsLeast}

@@ -12,12 +12,13 @@ use Rattle.deck_scan.specs.declared.token.TokenLine.{TokenLine}
 use Rattle.deck_scan.specs.Gives.{◌>>=◌, Gives, Fails}
 use Rattle.deck_scan.specs.Reading.{lines_or_fault}
 use Rattle.deck_scan.specs.Rows.{Next}
-use Rattle.grs_latch.specs.Calls.{most_sets}
+use Rattle.grs_latch.specs.Limits.{most_sets}
 use Rattle.grs_latch.specs.declared.call.LatchCall.{LatchCall}
 use Rattle.latch_form.specs.declared.form.GivenCall.{GivenCall}
 use Rattle.latch_form.specs.declared.judge.Draft.{Draft}
 use Rattle.latch_form.specs.Form.{form}
-use Rattle.latch_form.specs.Reading.{most_calls, no_draft, grow, makes, is_too_long, is_full, verdict, unless, judge_call}
+use Rattle.latch_form.specs.Drafts.{most_calls, no_draft, grow, makes}
+use Rattle.latch_form.specs.Reading.{is_too_long, is_full, verdict, unless, judge_call}
 use Rattle.latch_form.specs.Reading.{judge_form, judge, judge_all, calls_of, reading}
 
 -- what was taken of the lines to come
@@ -84,7 +85,7 @@ judged d e l h = go (form l) refl h
         by None v n = record { call = c; formed = is; right = v; grown = let z : e ≡ grow d c = cc in z }
 
 -- no more sets are made than there may be
-pub few_judge : (d new : Draft) (line : TokenLine) → judge d line ≡ Ok new → new.made ≤ 64
+pub few_judge : (d new : Draft) (line : TokenLine) → judge d line ≡ Ok new → new.made ≤ most_sets
 few_judge d new line took =
     let j = judged d new line took in
     let none = no_fault (is_too_long j.call) (is_full d j.call) j.right in

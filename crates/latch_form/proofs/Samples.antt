@@ -18,7 +18,8 @@ use Rattle.latch_form.specs.declared.form.Ask.TheVariants.{Purge}
 use Rattle.latch_form.specs.declared.judge.Draft.{Draft}
 use Rattle.latch_form.specs.Form.{number_at, requestor_at, ctl_at, sync_at, make_at, obtain_at, release_at, purge_at}
 use Rattle.latch_form.specs.Form.{call_at, form}
-use Rattle.latch_form.specs.Reading.{grow, judge_call, judge, judge_all, reading}
+use Rattle.latch_form.specs.Drafts.{grow}
+use Rattle.latch_form.specs.Reading.{judge_call, judge, judge_all, reading}
 use Rattle.latch_form.specs.Faults.{IsFault}
 use Rattle.latch_form.specs.Spelled.{SpellsCalls}
 use Rattle.latch_form.proofs.First.{reading_spells, is_fault}

@@ -17,13 +17,14 @@ use Rattle.deck_scan.specs.Next.{◌>>=◌, end_at, any_word_at}
 use Rattle.deck_scan.proofs.Taking.{bind_some, guard_some, some_is, IsWordOf, row, end_taken, any_word_taken}
 use Rattle.deck_form.specs.Words.{short_at, written_number}
 use Rattle.deck_form.proofs.Taken.{short_taken}
-use Rattle.grs_latch.specs.Calls.{most_latches}
+use Rattle.grs_latch.specs.Limits.{most_latches}
 use Rattle.latch_form.specs.declared.form.Ask.{Ask}
 use Rattle.latch_form.specs.declared.form.Ask.TheVariants.{Make, Obtain, Release, Purge}
 use Rattle.latch_form.specs.declared.form.GivenCall.{GivenCall}
 use Rattle.latch_form.specs.declared.form.Verb.{Verb}
 use Rattle.latch_form.specs.declared.form.Verb.TheVariants.{Crt, Obt, Rel, Prg}
-use Rattle.latch_form.specs.Form.{most_requestor, number_at, requestor_at, ctl_of, ctl_at, sync_of, sync_at, is_count}
+use Rattle.latch_form.specs.Drafts.{most_requestor}
+use Rattle.latch_form.specs.Form.{number_at, requestor_at, ctl_of, ctl_at, sync_of, sync_at, is_count}
 use Rattle.latch_form.specs.Form.{make_at, obtain_at, release_at, purge_at, ask_at, verb_of, call_at, or_bad, formed}
 use Rattle.latch_form.specs.Form.{first_form, form}
 use Rattle.latch_form.specs.Spelled.{ask_word, sync_word, IsRequestor, IsAsk, Spells}

@@ -5,14 +5,16 @@ use Rattle.std.specs.Prelude.{IfOk}
 use Rattle.grs_base.specs.declared.fault.ReadError.{ReadError}
 use Rattle.deck_scan.specs.declared.token.TokenLine.{TokenLine}
 use Rattle.deck_scan.specs.Gives.{Gives}
-use Rattle.grs_latch.specs.Calls.{Sets, MayCome, AllCome, after, after_all, made_by, most_sets}
+use Rattle.grs_latch.specs.Calls.{Sets, MayCome, AllCome, after, after_all, made_by}
+use Rattle.grs_latch.specs.Limits.{most_sets}
 use Rattle.grs_latch.specs.declared.call.LatchCall.{LatchCall}
 use Rattle.grs_latch.proofs.SetLemmas.{after-length, all_come-more, after_all-more}
 use Rattle.latch_form.specs.declared.form.Ask.{Ask}
 use Rattle.latch_form.specs.declared.form.Ask.TheVariants.{Make, Obtain, Release, Purge}
 use Rattle.latch_form.specs.declared.form.GivenCall.{GivenCall}
 use Rattle.latch_form.specs.declared.judge.Draft.{Draft}
-use Rattle.latch_form.specs.Reading.{no_draft, grow, makes, call_for, reading}
+use Rattle.latch_form.specs.Drafts.{no_draft, grow, makes, call_for}
+use Rattle.latch_form.specs.Reading.{reading}
 use Rattle.latch_form.specs.Spelled.{Spells, IsAsk, IsSized, HasRoom, Says}
 use Rattle.latch_form.proofs.First.{reading_spells}
 use Rattle.deck_scan.specs.declared.token.Token.{Token}

@@ -11,16 +11,13 @@ use Rattle.deck_scan.specs.declared.token.Token.TheVariants.{Word, Unclosed}
 use Rattle.deck_scan.specs.declared.token.TokenLine.{TokenLine}
 use Rattle.deck_scan.specs.Next.{◌>>=◌, end_at, any_word_at}
 use Rattle.deck_form.specs.Words.{short_at, written_number}
-use Rattle.grs_latch.specs.Calls.{most_latches}
+use Rattle.grs_latch.specs.Limits.{most_latches}
 use Rattle.latch_form.specs.declared.form.Ask.{Ask}
 use Rattle.latch_form.specs.declared.form.Ask.TheVariants.{Make, Obtain, Release, Purge}
 use Rattle.latch_form.specs.declared.form.GivenCall.{GivenCall}
 use Rattle.latch_form.specs.declared.form.Verb.{Verb}
 use Rattle.latch_form.specs.declared.form.Verb.TheVariants.{Crt, Obt, Rel, Prg}
-
--- the greatest number of a requestor
-abbrev pub most_requestor : ℕ
-most_requestor = 65535
+use Rattle.latch_form.specs.Drafts.{most_requestor}
 
 unfoldable pub number_at : List Token → Option (ℕ × List Token)
 number_at ts = do

@@ -1,5 +1,5 @@
 -- The calls of a text, or its first fault.
-use Rattle.std.specs.Prelude.{◌≡◌, ℕ, Bool, ◌||◌, ◌+◌, nat_lt, nat_le, List, [], ◌∷◌, ◌++◌, length, Option, Some, None}
+use Rattle.std.specs.Prelude.{◌≡◌, ℕ, Bool, ◌||◌, ◌+◌, nat_lt, nat_le, List, [], ◌∷◌, length, Option, Some, None}
 use Rattle.std.specs.Prelude.{Result, Ok, Err, if◌then◌else◌}
 use Rattle.grs_base.specs.Limits.{most_name_bytes}
 use Rattle.grs_base.specs.declared.fault.DeckFault.{DeckFault}
@@ -9,37 +9,12 @@ use Rattle.grs_base.specs.declared.fault.ReadError.{ReadError}
 use Rattle.deck_scan.specs.declared.token.TokenLine.{TokenLine}
 use Rattle.deck_scan.specs.Gives.{◌>>=◌, refused, Fails}
 use Rattle.deck_scan.specs.Reading.{lines_or_fault}
-use Rattle.grs_latch.specs.Calls.{most_sets}
+use Rattle.grs_latch.specs.Limits.{most_sets}
 use Rattle.grs_latch.specs.declared.call.LatchCall.{LatchCall}
-use Rattle.grs_latch.specs.declared.call.LatchCall.TheVariants as calls
-use Rattle.latch_form.specs.declared.form.Ask.{Ask}
-use Rattle.latch_form.specs.declared.form.Ask.TheVariants.{Make, Obtain, Release, Purge}
 use Rattle.latch_form.specs.declared.form.GivenCall.{GivenCall}
 use Rattle.latch_form.specs.declared.judge.Draft.{Draft}
+use Rattle.latch_form.specs.Drafts.{most_calls, makes, no_draft, grow}
 use Rattle.latch_form.specs.Form.{form}
-
--- How many calls a text may have.
-abbrev pub most_calls : ℕ
-most_calls = 16384
-
--- How many sets a call makes, if they aren't there.
-abbrev pub makes : Ask → ℕ
-makes (Make n) = 1
-makes _ = 0
-
-abbrev pub call_for : List ℕ → Ask → LatchCall
-call_for set (Make n) = calls.Crt set n
-call_for set (Obtain l r c sync) = calls.Obt set l r c sync
-call_for set (Release l r) = calls.Rel set l r
-call_for set (Purge r) = calls.Prg set r
-
--- Nothing was read.
-abbrev pub no_draft : Draft
-no_draft = record { calls = []; made = 0 }
-
--- With one call more.
-abbrev pub grow : Draft → GivenCall → Draft
-grow d c = record { calls = d.calls ++ call_for c.set c.ask ∷ []; made = d.made + makes c.ask }
 
 abbrev pub is_too_long : GivenCall → Bool
 is_too_long c = nat_lt most_name_bytes (length c.set)

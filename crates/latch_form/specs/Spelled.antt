@@ -9,14 +9,14 @@ use Rattle.deck_scan.specs.declared.token.TokenLine.{TokenLine}
 use Rattle.deck_scan.specs.Pieces.{SpellsLines}
 use Rattle.deck_scan.specs.Reading.{most_text_bytes}
 use Rattle.deck_form.specs.Words.{written_number}
-use Rattle.grs_latch.specs.Calls.{most_latches, most_sets}
+use Rattle.grs_latch.specs.Limits.{most_latches, most_sets}
 use Rattle.grs_latch.specs.declared.call.LatchCall.{LatchCall}
 use Rattle.latch_form.specs.declared.form.Ask.{Ask}
 use Rattle.latch_form.specs.declared.form.Ask.TheVariants.{Make, Obtain, Release, Purge}
 use Rattle.latch_form.specs.declared.form.GivenCall.{GivenCall}
 use Rattle.latch_form.specs.declared.judge.Draft.{Draft}
-use Rattle.latch_form.specs.Form.{most_requestor}
-use Rattle.latch_form.specs.Reading.{most_calls, no_draft, grow, makes}
+use Rattle.latch_form.specs.Drafts.{most_requestor}
+use Rattle.latch_form.specs.Drafts.{most_calls, no_draft, grow, makes}
 
 -- the first word of a call
 abbrev pub ask_word : Ask → List ℕ

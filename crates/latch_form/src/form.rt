@@ -7,9 +7,10 @@ ghost use Rattle.latch_form.specs.declared.form.GivenCall.{GivenCall as GivenVal
 use deck_form::{short_at, written_number};
 use deck_scan::{GivenName, Miss, Token, TokenLine, any_word_at, end_at};
 use grs_base::{Ctl, Kind};
+use grs_latch::MOST_LATCHES;
 
-/// The most latches of a set.
-const MOST_LATCHES: u32 = 1024;
+/// The greatest number of a requestor.
+const MOST_REQUESTOR: u32 = 0xffff;
 
 /// What a call asks of its set.
 #[derive(Clone, Copy)]
@@ -64,7 +65,7 @@ fn requestor_at<'a, 't>(ts: &'a [Token<'t>]) -> Result<(u16, &'a [Token<'t>]), M
     ensures { Reads (λ x. (x.0, x.1.now)) result (requestor_at ts.now) }
 {
     let (number, rest) = number_at(ts)?;
-    if number <= 0xffff {
+    if number <= MOST_REQUESTOR {
         Ok((number as u16, rest))
     } else {
         Err(Miss)

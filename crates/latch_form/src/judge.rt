@@ -1,22 +1,21 @@
 //! What is wrong with a call, behind those that were read. Each test is one kind of fault.
 ghost use Rattle.std.specs.Prelude.{◌≡◌, ◌≤◌, ◌+◌};
-ghost use Rattle.latch_form.specs.Reading.{makes, is_too_long, is_full, verdict};
+ghost use Rattle.grs_latch.specs.Limits.{most_sets};
+ghost use Rattle.latch_form.specs.Drafts.{makes};
+ghost use Rattle.latch_form.specs.Reading.{is_too_long, is_full, verdict};
 
 use crate::form::{Ask, GivenCall};
 use grs_base::{Kind, List, MOST_NAME_BYTES};
-use grs_latch::LatchCall;
+use grs_latch::{LatchCall, MOST_SETS};
 
 /// The most calls of a text.
 const MOST_CALLS: usize = 16_384;
-
-/// The most calls of a text that are to make a set.
-const MOST_SETS: u32 = 64;
 
 /// The calls that were read so far.
 #[derive(Drop)]
 pub struct Draft {
     pub calls: List<LatchCall>,
-    /// How many of them are to make a set.
+    /// How many of them are to make a set: as many as there may be sets, at most.
     pub made: u32,
 }
 
@@ -38,7 +37,7 @@ fn is_too_long(call: &GivenCall<'_>) -> bool
 }
 
 fn is_full(draft: &Draft, call: &GivenCall<'_>) -> bool
-    requires { draft.now.made ≤ 64 }
+    requires { draft.now.made ≤ most_sets }
     ensures { result ≡ is_full draft.now call.now }
 {
     MOST_CALLS <= draft.calls.len() || MOST_SETS < draft.made + makes(call.ask)
@@ -46,7 +45,7 @@ fn is_full(draft: &Draft, call: &GivenCall<'_>) -> bool
 
 /// The least kind that applies to a call of the right form.
 pub(crate) fn verdict(draft: &Draft, call: &GivenCall<'_>) -> Option<Kind>
-    requires { draft.now.made ≤ 64 }
+    requires { draft.now.made ≤ most_sets }
     ensures { result ≡ verdict draft.now call.now }
 {
     if is_too_long(call) {

@@ -2,10 +2,12 @@
 ghost use Rattle.std.specs.Prelude.{◌≡◌, ◌≤◌, [], None, List, OnOk, IfOk};
 ghost use Rattle.deck_scan.specs.Gives.{Gives, IsOkUnlessMemory};
 ghost use Rattle.grs_latch.specs.Calls.{AllCome};
+ghost use Rattle.grs_latch.specs.Limits.{most_sets};
 ghost use Rattle.grs_latch.specs.declared.call.LatchCall.{LatchCall as CallValue};
 ghost use Rattle.latch_form.specs.Faults.{Answers};
 ghost use Rattle.latch_form.specs.Spelled.{SpellsCalls};
-ghost use Rattle.latch_form.specs.Reading.{call_for, no_draft, grow, verdict, judge_call, judge, judge_all, reading, Took};
+ghost use Rattle.latch_form.specs.Drafts.{call_for, no_draft, grow};
+ghost use Rattle.latch_form.specs.Reading.{verdict, judge_call, judge, judge_all, reading, Took};
 
 use crate::form::{Ask, GivenCall, call_of};
 use crate::judge::{Draft, makes, verdict};
@@ -43,7 +45,7 @@ fn call_for(set: List<u8>, ask: Ask) -> LatchCall
 
 /// Adds a call without a fault.
 fn grow(draft: &mut Draft, alloc: Global, call: &GivenCall<'_>) -> Result<(), NoMemory>
-    requires few { draft.old.made ≤ 64 }
+    requires few { draft.old.made ≤ most_sets }
     ensures { OnOk result (draft.new ≡ grow draft.old call.now) }
 {
     let set = List::from_bytes(alloc, call.set.bytes())?;
@@ -59,7 +61,7 @@ fn take_call(
     at: u32,
     call: &GivenCall<'_>,
 ) -> Result<(), ReadError>
-    requires few { draft.old.made ≤ 64 }
+    requires few { draft.old.made ≤ most_sets }
     ensures { Took result draft.new (judge_call draft.old at call.now) }
 {
     match verdict(draft, call) {
@@ -74,7 +76,7 @@ fn take_call(
 /// Takes a line.
 #[tactic(auto, unfolding(crate::specs::Reading::judge))]
 fn take_line(draft: &mut Draft, alloc: Global, line: &TokenLine<'_>) -> Result<(), ReadError>
-    requires few { draft.old.made ≤ 64 }
+    requires few { draft.old.made ≤ most_sets }
     ensures { Took result draft.new (judge draft.old line.now) }
 {
     match call_of(line) {
