@@ -1,6 +1,6 @@
 -- Statements that are gathered one by one.
 use Rattle.std.proofs.Common.{◌≡◌, Bool, true, false, cond, List, [], ◌∷◌, ◌++◌, codes, Option, Some, None, refl, sym}
-use Rattle.std.proofs.Common.{ap, subst, ◌∙◌}
+use Rattle.std.proofs.Common.{ap, subst, ◌∙◌, IfSome}
 use Rattle.std.specs.Prelude.{◌||◌}
 use Rattle.std.proofs.lemmas.Bool.{and_parts}
 use Rattle.deck_scan.specs.declared.token.Token.{Token}
@@ -77,3 +77,10 @@ module _ (scheduled : Bool) (found : Option TokenLine) (ls new old : List TokenL
   unfolding still statements
   gathered_left l s left some is other first rest =
       sym seen ∙ rw (is, first, rest) (ap statements (next_as (Some l) some) ∙ gathered l new other)
+
+-- the next line behind SCHEDULE, where one was taken
+pub plain_left : (scheduled : Bool) (found : Option TokenLine) (ls new old : List TokenLine) → still scheduled ls ≡ old
+    → scheduled ≡ true → IfSome found (λ l. Next (Some l) ls new)
+    → IfSome found (λ l. Next (Some l) old (still scheduled new))
+unfolding still
+plain_left scheduled found ls new old seen is h = rw (← seen, is) h

@@ -6,3 +6,4 @@ pub mod Unknown
 pub mod Gathered
 pub mod Systems
 pub mod FirstWords
+pub mod Events

@@ -1,11 +1,14 @@
 -- Event lines.
-use Rattle.std.specs.Prelude.{ℕ, nat_lt, List, codes, Option, Some, None, if◌then◌else◌}
+use Rattle.std.specs.Prelude.{◌≡◌, ℕ, nat_lt, List, codes, Option, Some, None, Result, Ok, Err, if◌then◌else◌}
+use Rattle.std.specs.Borrow.{Bor}
 use Rattle.std.specs.Str.{bytes_eq}
 use Rattle.deck_scan.specs.declared.token.Token.{Token}
 use Rattle.deck_form.specs.declared.event.EventAct.{EventAct}
 use Rattle.deck_form.specs.declared.event.EventAct.TheVariants as acts
 use Rattle.deck_form.specs.declared.event.EventWord.{EventWord}
 use Rattle.deck_form.specs.declared.event.EventWord.TheVariants as words
+use Rattle.deck_scan.specs.declared.miss.Miss.{Miss}
+use Rattle.deck_scan.specs.Plain.{third_token}
 use Rattle.deck_scan.specs.Next.{◌>>=◌, end_at, any_word_at}
 use Rattle.deck_form.specs.Words.{short_at, named_at, dotted_at, written_number}
 
@@ -65,3 +68,10 @@ event_at entries ts = do
   w ← any_word_at s.1
   a ← act_at entries (event_word w.0) w.1
   Some (s.0, a)
+
+-- ---- as it is read
+
+-- A word was read, or that nothing stands there; or what stands there is nothing that a system does.
+abbrev pub ReadsOperand : Result (Option (Bor (List ℕ))) Miss → List Token → Type 0
+ReadsOperand (Ok operand) ts = ts ≡ third_token operand
+ReadsOperand (Err e) ts = (entries : ℕ) (v : EventWord) → act_at entries v ts ≡ None

@@ -1,9 +1,12 @@
 //! Event lines: a system, what it does, and on what.
-ghost use Rattle.std.specs.Prelude.{◌≡◌};
+ghost use Rattle.std.specs.Prelude.{◌≡◌, ℕ, [], ◌∷◌};
+ghost use Rattle.deck_scan.specs.declared.token.Token.TheVariants.{Word};
 ghost use Rattle.deck_scan.specs.Next.{Reads};
-ghost use Rattle.deck_form.specs.Event.{event_word, pair_at, alone_at, entry_at, act_at, event_at};
+ghost use Rattle.deck_scan.specs.Plain.{third_token, plain_tokens};
+ghost use Rattle.deck_form.specs.Words.{named_at};
+ghost use Rattle.deck_form.specs.Event.{event_word, pair_at, entry_at, act_at, event_at, ReadsOperand};
 
-use crate::words::{dotted_at, named_at, short_at, written_number};
+use crate::words::{is_name, parted, written_number};
 use deck_scan::{GivenName, Miss, Token, any_word_at, end_at};
 
 /// What a system does at an event, with names of any length.
@@ -82,24 +85,32 @@ fn event_word_of(w: &[u8]) -> EventWord
     }
 }
 
-/// The names of a job and a task, and nothing after them.
-#[tactic(auto, unfolding(crate::specs::Event::pair_at))]
-fn pair_at<'a, 't>(ts: &'a [Token<'t>]) -> Result<(GivenName<'a>, GivenName<'a>), Miss>
-    ensures { Reads (λ x. x) result (pair_at ts.now) }
+/// The name of a system, of any length.
+#[tactic(auto, unfolding(crate::specs::Words::named_at, crate::specs::Words::short_at))]
+fn name_of<'t>(word: &'t [u8]) -> Result<GivenName<'t>, Miss>
+    ensures { Reads (λ x. x) result (named_at (Word word.now ∷ [])) }
 {
-    let (job, task, ts) = dotted_at(ts)?;
-    end_at(ts)?;
-    Ok((job, task))
+    if is_name(word) {
+        Ok(GivenName::new(word))
+    } else {
+        Err(Miss)
+    }
 }
 
-/// An entry, and nothing after it.
-#[tactic(auto, unfolding(crate::specs::Event::entry_at))]
-fn entry_at(entries: u32, ts: &[Token<'_>]) -> Result<u32, Miss>
-    ensures { Reads (λ x. x) result (entry_at entries ts.now) }
+/// The names of a job and a task with a point between them.
+#[tactic(auto, unfolding(crate::specs::Event::pair_at, crate::specs::Words::dotted_at))]
+fn pair_of<'t>(word: &'t [u8]) -> Result<(GivenName<'t>, GivenName<'t>), Miss>
+    ensures { Reads (λ x. x) result (pair_at (Word word.now ∷ [])) }
 {
-    let (w, ts) = any_word_at(ts)?;
-    let entry = written_number(w)?;
-    end_at(ts)?;
+    parted(word)
+}
+
+/// An entry below the number of entries.
+#[tactic(auto, unfolding(crate::specs::Event::entry_at))]
+fn entry_of(entries: u32, word: &[u8]) -> Result<u32, Miss>
+    ensures { Reads (λ x. x) result (entry_at entries (Word word.now ∷ [])) }
+{
+    let entry = written_number(word)?;
     if entry < entries {
         Ok(entry)
     } else {
@@ -107,53 +118,104 @@ fn entry_at(entries: u32, ts: &[Token<'_>]) -> Result<u32, Miss>
     }
 }
 
-fn alone_at<'a>(act: EventAct<'a>, ts: &[Token<'_>]) -> Result<EventAct<'a>, Miss>
-    ensures { Reads (λ x. x) result (alone_at act.entry ts.now) }
-{
-    end_at(ts)?;
-    Ok(act)
-}
-
-/// What stands behind the word of an event.
-#[tactic(auto, unfolding(crate::specs::Event::act_at))]
-fn act_at<'a, 't>(
-    entries: u32,
-    event_word: EventWord,
-    ts: &'a [Token<'t>],
-) -> Result<EventAct<'a>, Miss>
-    ensures { Reads (λ x. x) result (act_at entries event_word ts.now) }
+/// What a system does by the word of an event with nothing behind it.
+#[tactic(auto, unfolding(crate::specs::Event::act_at, crate::specs::Event::pair_at, crate::specs::Event::entry_at, crate::specs::Words::dotted_at, crate::specs::Words::named_at, crate::specs::Words::short_at))]
+fn act_alone<'t>(event_word: EventWord) -> Result<EventAct<'t>, Miss>
+    ensures { (entries : ℕ) → Reads (λ x. x) result (act_at entries event_word []) }
 {
     match event_word {
-        EventWord::Task => {
-            let (job, task) = pair_at(ts)?;
-            Ok(EventAct::Task { job, task })
-        }
-        EventWord::Turn => alone_at(EventAct::Turn, ts),
-        EventWord::Send => {
-            let (job, task) = pair_at(ts)?;
-            Ok(EventAct::Send { job, task })
-        }
-        EventWord::Take => alone_at(EventAct::Take, ts),
-        EventWord::Settle => alone_at(EventAct::Settle, ts),
-        EventWord::Tell => Ok(EventAct::Tell(entry_at(entries, ts)?)),
-        EventWord::Leave => Ok(EventAct::Leave(entry_at(entries, ts)?)),
-        EventWord::Switch => alone_at(EventAct::Switch, ts),
-        EventWord::Purge => Ok(EventAct::Purge(named_at(ts)?)),
-        EventWord::Rest => alone_at(EventAct::Rest, ts),
+        EventWord::Turn => Ok(EventAct::Turn),
+        EventWord::Take => Ok(EventAct::Take),
+        EventWord::Settle => Ok(EventAct::Settle),
+        EventWord::Switch => Ok(EventAct::Switch),
+        EventWord::Rest => Ok(EventAct::Rest),
+        EventWord::Task => Err(Miss),
+        EventWord::Send => Err(Miss),
+        EventWord::Tell => Err(Miss),
+        EventWord::Leave => Err(Miss),
+        EventWord::Purge => Err(Miss),
         EventWord::Unknown => Err(Miss),
     }
 }
 
+/// What a system does by the word of an event with one word behind it.
+#[tactic(auto, unfolding(crate::specs::Event::act_at))]
+fn act_on<'t>(entries: u32, event_word: EventWord, word: &'t [u8]) -> Result<EventAct<'t>, Miss>
+    ensures { Reads (λ x. x) result (act_at entries event_word (Word word.now ∷ [])) }
+{
+    match event_word {
+        EventWord::Task => {
+            let (job, task) = pair_of(word)?;
+            Ok(EventAct::Task { job, task })
+        }
+        EventWord::Send => {
+            let (job, task) = pair_of(word)?;
+            Ok(EventAct::Send { job, task })
+        }
+        EventWord::Tell => Ok(EventAct::Tell(entry_of(entries, word)?)),
+        EventWord::Leave => Ok(EventAct::Leave(entry_of(entries, word)?)),
+        EventWord::Purge => Ok(EventAct::Purge(name_of(word)?)),
+        EventWord::Turn => Err(Miss),
+        EventWord::Take => Err(Miss),
+        EventWord::Settle => Err(Miss),
+        EventWord::Switch => Err(Miss),
+        EventWord::Rest => Err(Miss),
+        EventWord::Unknown => Err(Miss),
+    }
+}
+
+/// What a system does by the word of an event, with a word behind it or none.
+fn act_of<'t>(
+    entries: u32,
+    event_word: EventWord,
+    operand: Option<&'t [u8]>,
+) -> Result<EventAct<'t>, Miss>
+    ensures { Reads (λ x. x) result (act_at entries event_word (third_token operand.entry)) }
+{
+    match operand {
+        None => act_alone(event_word),
+        Some(word) => act_on(entries, event_word, word),
+    }
+}
+
+/// A system and what it does, by the words of an event line.
+#[tactic(auto, unfolding(crate::specs::Event::event_at, crate::specs::Words::short_at))]
+pub fn event_of<'t>(
+    entries: u32,
+    system: &'t [u8],
+    word: &[u8],
+    operand: Option<&'t [u8]>,
+) -> Result<(GivenName<'t>, EventAct<'t>), Miss>
+    ensures { Reads (λ x. x) result (event_at entries (plain_tokens system.now word.now operand.entry)) }
+{
+    if !is_name(system) {
+        return Err(Miss);
+    }
+    let act = act_of(entries, event_word_of(word), operand)?;
+    Ok((GivenName::new(system), act))
+}
+
+/// The word that stands behind the word of an event, or none where nothing stands there.
+fn operand_at<'a, 't>(ts: &'a [Token<'t>]) -> Result<Option<&'a [u8]>, Miss>
+    ensures { ReadsOperand result ts.now }
+{
+    if ts.is_empty() {
+        return Ok(None);
+    }
+    let (word, rest) = any_word_at(ts)?;
+    end_at(rest)?;
+    Ok(Some(word))
+}
+
 /// A system and what it does.
-#[tactic(auto, unfolding(crate::specs::Event::event_at))]
 pub fn event_at<'a, 't>(
     entries: u32,
     ts: &'a [Token<'t>],
 ) -> Result<(GivenName<'a>, EventAct<'a>), Miss>
     ensures { Reads (λ x. x) result (event_at entries ts.now) }
 {
-    let (system, ts) = short_at(ts)?;
-    let (w, ts) = any_word_at(ts)?;
-    let act = act_at(entries, event_word_of(w), ts)?;
-    Ok((system, act))
+    let (system, front) = any_word_at(ts)?;
+    let (word, behind) = any_word_at(front)?;
+    let operand = operand_at(behind)?;
+    event_of(entries, system, word, operand)
 }

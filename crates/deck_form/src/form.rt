@@ -1,5 +1,5 @@
 //! The statement of a line: by its first word before SCHEDULE, an event behind it.
-ghost use Rattle.std.specs.Prelude.{◌≡◌, Option};
+ghost use Rattle.std.specs.Prelude.{◌≡◌, true, Option};
 ghost use Rattle.deck_scan.specs.Next.{Reads};
 ghost use Rattle.deck_form.specs.Form.{plain_form, first_form, event_form, form, line_key, key, or_bad};
 ghost use Rattle.deck_form.specs.Spelled.{Answers};
@@ -7,9 +7,9 @@ ghost use Rattle.deck_form.specs.declared.form.Stmt.{Stmt as StmtValue};
 
 use crate::command::{Command, command_at};
 use crate::complex::{Setup, complex_at};
-use crate::event::{EventAct, event_at};
+use crate::event::{EventAct, event_at, event_of};
 use crate::words::named_at;
-use deck_scan::{GivenName, Miss, Token, TokenLine, end_at};
+use deck_scan::{GivenName, Miss, PlainLine, Token, TokenLine, end_at};
 use grs_base::Kind;
 use job_syntax::{LineAsk, LineWord, line_ask_at, line_word_of};
 use rnl_syntax::{Rnldef, is_rnldef_word, rnldef_at};
@@ -177,4 +177,30 @@ pub fn statement<'a, 't>(
     ensures read { result ≡ form scheduled entries line.now }
 {
     read_form(scheduled, entries, line)
+}
+
+/// The event that a plain line spells behind SCHEDULE.
+#[tactic(auto, unfolding(crate::specs::Form::event_form))]
+fn plain_event<'t>(entries: u32, line: &PlainLine<'t>) -> Result<Stmt<'t>, Miss>
+    ensures { Reads (λ x. x) result (event_form entries line.now.tokens) }
+{
+    let (system, word, operand) = line.words();
+    let (system, act) = event_of(entries, system, word, operand)?;
+    Ok(Stmt::Event { system, act })
+}
+
+#[tactic(auto, unfolding(crate::specs::Form::form))]
+fn read_plain<'t>(entries: u32, line: &PlainLine<'t>) -> Result<Stmt<'t>, Kind>
+    ensures { result ≡ form true entries line.now }
+{
+    or_bad(plain_event(entries, line))
+}
+
+/// The event that a plain line spells behind SCHEDULE, in a deck with so many lock `entries`: what [`statement`] says of
+/// this line, also its fault, `BadOperand`.
+pub fn plain_statement<'t>(entries: u32, line: &PlainLine<'t>) -> Result<Stmt<'t>, Kind>
+    ensures exact { Answers result true entries line.now }
+    ensures read { result ≡ form true entries line.now }
+{
+    read_plain(entries, line)
 }

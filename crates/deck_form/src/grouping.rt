@@ -1,9 +1,9 @@
 //! Which lines make a statement. Each line is one, but that an RNLDEF may go over several.
-ghost use Rattle.std.specs.Prelude.{◌≡◌, IfOk};
+ghost use Rattle.std.specs.Prelude.{◌≡◌, Some, IfOk, IfSome, IfNone};
 ghost use Rattle.deck_scan.specs.Rows.{Next};
 ghost use Rattle.deck_form.specs.Statements.{is_schedule, statements};
 
-use deck_scan::{Lines, Token, TokenLine};
+use deck_scan::{Lines, PlainLine, Token, TokenLine};
 use grs_base::NoMemory;
 use rnl_syntax::gather;
 use std::alloc::Global;
@@ -47,6 +47,18 @@ impl<'t> Statements<'t> {
         Statements {
             lines,
             scheduled: false,
+        }
+    }
+
+    /// The next statement, where it stands behind SCHEDULE and is a line that [`Lines::next_plain`] takes.
+    pub fn next_plain(&mut self) -> Option<PlainLine<'t>>
+        ensures next { IfSome result (λ line. Next (Some line) self.old self.new) }
+        ensures same { IfNone result (self.new ≡ self.old) }
+    {
+        if self.scheduled {
+            self.lines.next_plain()
+        } else {
+            None
         }
     }
 

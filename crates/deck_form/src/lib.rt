@@ -14,7 +14,7 @@ mod words;
 pub use command::{Command, GivenOrder};
 pub use complex::Setup;
 pub use event::EventAct;
-pub use form::{Stmt, statement};
+pub use form::{Stmt, plain_statement, statement};
 pub use grouping::Statements;
 pub use laws::{names_are_spelled, one_statement};
 pub use system_names::SystemNames;

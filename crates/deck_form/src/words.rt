@@ -3,7 +3,7 @@ ghost use Rattle.std.specs.Prelude.{◌≡◌, ◌==◌, [], ◌∷◌, position
 ghost use Rattle.bstr.specs.Text.{SplitsOnce};
 ghost use Rattle.grs_base.specs.ShortNames.{is_digit, is_name_byte, is_name, all_name};
 ghost use Rattle.deck_scan.specs.Next.{Reads};
-ghost use Rattle.deck_form.specs.Words.{short_at, named_at, dotted_at, parted, digits, written_number};
+ghost use Rattle.deck_form.specs.Words.{short_at, named_at, parted, digits, written_number};
 
 use bstr::ByteSlice;
 use deck_scan::{GivenName, Miss, Token, any_word_at, end_at};
@@ -39,7 +39,7 @@ fn all_name(w: &[u8]) -> bool
 }
 
 #[tactic(auto, unfolding(grs_base::specs::ShortNames::is_name))]
-fn is_name(w: &[u8]) -> bool
+pub fn is_name(w: &[u8]) -> bool
     ensures { result ≡ is_name w.now }
 {
     match w.split_first() {
@@ -79,7 +79,7 @@ fn around_point<'a>(w: &'a [u8]) -> Option<(&'a [u8], &'a [u8])>
 }
 
 /// A name, a point, a name.
-fn parted<'a>(w: &'a [u8]) -> Result<(GivenName<'a>, GivenName<'a>), Miss>
+pub fn parted<'a>(w: &'a [u8]) -> Result<(GivenName<'a>, GivenName<'a>), Miss>
     ensures { Reads (λ x. x) result (parted (position (λ b. b == 46) w.now) w.now) }
 {
     match around_point(w) {
@@ -94,19 +94,6 @@ fn parted<'a>(w: &'a [u8]) -> Result<(GivenName<'a>, GivenName<'a>), Miss>
             Ok((GivenName::new(job), GivenName::new(task)))
         }
     }
-}
-
-/// The names of a job and a task, and the tokens behind them.
-type Dotted<'a, 't> = (GivenName<'a>, GivenName<'a>, &'a [Token<'t>]);
-
-/// The names of a job and a task with a point between them.
-#[tactic(auto, unfolding(crate::specs::Words::dotted_at))]
-pub fn dotted_at<'a, 't>(ts: &'a [Token<'t>]) -> Result<Dotted<'a, 't>, Miss>
-    ensures { Reads (λ x. (x.0, x.1, x.2.now)) result (dotted_at ts.now) }
-{
-    let (w, rest) = any_word_at(ts)?;
-    let (job, task) = parted(w)?;
-    Ok((job, task, rest))
 }
 
 /// The number that 1 to 9 decimal digits write.

@@ -17,3 +17,4 @@ pub mod Rows
 pub mod Pieces
 pub mod FirstWord
 pub mod Searches
+pub mod PlainLines

@@ -10,3 +10,4 @@ pub mod Next
 pub mod AnyBytes
 pub mod Part
 pub mod Rows
+pub mod Plain

@@ -1,7 +1,7 @@
 //! Goes through a text line by line. A line is read when it is asked for, and nothing behind it is looked at; only for
 //! bytes that no deck may have is the whole text gone over first. With which word the next line begins can be asked
 //! without reading it.
-ghost use Rattle.std.specs.Prelude.{◌≡◌, ◌<◌, ◌+◌, ◌^◌, ◌++◌, ℕ, [], length, true, false, OnErr, IfOk, IfSome, IfNone};
+ghost use Rattle.std.specs.Prelude.{◌≡◌, ◌<◌, ◌+◌, ◌^◌, ◌++◌, ℕ, [], length, true, false, Some, OnErr, IfOk, IfSome, IfNone};
 ghost use Rattle.std.specs.List.{list_all};
 ghost use Rattle.grs_base.specs.Printed.{is_printable};
 ghost use Rattle.deck_scan.specs.AnyBytes.{wrong_byte, readable};
@@ -14,6 +14,7 @@ ghost use Rattle.deck_scan.specs.Rows.{EndsLine, begins_end, starts, IsRow, IsLa
 use crate::bytes::{bad_line, split_printable};
 use crate::gaps::{next_token, word_at_front};
 use crate::miss::refused;
+use crate::plain::{PlainLine, take_plain};
 use crate::row::{Row, read_row};
 use crate::token::{Part, Token, TokenLine};
 use grs_base::{Kind, List, NoMemory, ReadError};
@@ -38,7 +39,7 @@ pub struct Cursor<'t> {
 }
 
 /// What stands behind the end of a line.
-fn behind_end<'t>(text: &'t [u8]) -> Option<&'t [u8]>
+pub(crate) fn behind_end<'t>(text: &'t [u8]) -> Option<&'t [u8]>
     ensures ends { IfSome result (λ rest. EndsLine text.now rest.now) }
     ensures none { IfNone result (begins_end text.now ≡ false) }
 {
@@ -253,6 +254,17 @@ impl<'t> Lines<'t> {
         at.begun = None;
         self.at = at;
         Ok(last)
+    }
+
+    /// The next line, where it is one of two or three words with a blank between them, no blank line or comment stands
+    /// before it, and it isn't the last of the text; else nothing is taken.
+    pub fn next_plain(&mut self) -> Option<PlainLine<'t>>
+        ensures next { IfSome result (λ line. Next (Some line) self.old self.new) }
+        ensures same { IfNone result (self.new ≡ self.old) }
+    {
+        let (line, behind) = take_plain(self.at)?;
+        self.at = behind;
+        Some(line)
     }
 
     /// The word with which the next line begins; none where it begins with another token, or no line is to come.

@@ -12,6 +12,7 @@ mod laws;
 mod lengths;
 mod miss;
 mod next;
+mod plain;
 mod row;
 mod token;
 
@@ -25,4 +26,5 @@ pub use miss::{Miss, or_bad, refused};
 pub use next::{
     any_word_at, close_at, comma_at, end_at, equals_at, name_at, open_at, value_at, word_at,
 };
+pub use plain::PlainLine;
 pub use token::{Part, Token, TokenLine};

@@ -1,6 +1,6 @@
 -- The deck of a text, or its first fault.
-use Rattle.std.specs.Prelude.{◌≡◌, ℕ, false, ◌==◌, List, [], ◌∷◌, length, Option, Some, None, Result, Ok, Err}
-use Rattle.std.specs.Prelude.{if◌then◌else◌}
+use Rattle.std.specs.Prelude.{◌≡◌, ℕ, Bool, true, false, ◌==◌, List, [], ◌∷◌, length, Option, Some, None, Result, Ok}
+use Rattle.std.specs.Prelude.{Err, if◌then◌else◌}
 use Rattle.grs_base.specs.declared.fault.DeckFault.{DeckFault}
 use Rattle.grs_base.specs.declared.fault.Kind.{Kind}
 use Rattle.grs_base.specs.declared.fault.Kind.TheVariants.{NoSystem}
@@ -73,6 +73,12 @@ judge d line = judge_form d line.at (form d.scheduled d.deck.entries line)
 unfoldable pub judge_all : Draft → List TokenLine → Result Draft DeckFault
 judge_all d [] = Ok d
 judge_all d (l ∷ ls) = judge d l >>= λ new. judge_all new ls
+
+-- One of the lines that are left was taken, and these are left then; or none was left.
+abbrev pub TookNext : Result Bool ReadError → Draft → List TokenLine → Draft → List TokenLine → Type 0
+TookNext (Ok true) d ls new left = (l : TokenLine) × (ls ≡ l ∷ left) × (judge d l ≡ Ok new)
+TookNext (Ok false) d ls new left = (ls ≡ []) × (new ≡ d)
+TookNext (Err e) d ls new left = Fails e (judge_all d ls)
 
 abbrev pub ended : Draft → Result Deck DeckFault
 ended d = if length d.deck.systems == 0 then refused 0 NoSystem else Ok d.deck

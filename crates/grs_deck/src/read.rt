@@ -1,7 +1,8 @@
 //! Reads a deck, statement by statement, up to its first fault.
-ghost use Rattle.std.specs.Prelude.{◌≡◌, ◌||◌, OnOk, IfOk, Some, None};
+ghost use Rattle.std.specs.Prelude.{◌≡◌, ◌||◌, true, OnOk, IfOk, IfSome, IfNone, Some, None};
 ghost use Rattle.grs_base.specs.NameLists.{AreLists};
 ghost use Rattle.deck_scan.specs.Gives.{Gives, IsOkUnlessMemory};
+ghost use Rattle.deck_scan.specs.Rows.{Next};
 ghost use Rattle.grs_deck.specs.Judge.{verdict};
 ghost use Rattle.grs_deck.specs.Grow.{is_schedule, line_count, display_count, grow};
 ghost use Rattle.grs_wire.specs.declared.deck.Deck.{Deck as DeckValue};
@@ -9,14 +10,14 @@ ghost use Rattle.grs_wire.specs.Decks.{Fits, IsDeck};
 ghost use Rattle.grs_deck.specs.Spells.{SpellsDeck};
 ghost use Rattle.grs_deck.specs.Faults.{Answers};
 ghost use Rattle.grs_deck.specs.Places.{event_in, place_in};
-ghost use Rattle.grs_deck.specs.Reading.{judge_statement, judge, judge_all, ended, reading, Took, no_draft};
+ghost use Rattle.grs_deck.specs.Reading.{judge_statement, judge, judge_all, ended, reading, Took, TookNext, no_draft};
 
 use crate::defaults::{DEFAULT_ENTRIES, DEFAULT_LIMIT};
 use crate::grow::grow_deck;
 use crate::judge::{Draft, shows, verdict};
 use crate::places::{event_in, place_in};
-use deck_form::{Statements, Stmt, SystemNames, statement};
-use deck_scan::{Lines, TokenLine, refused};
+use deck_form::{Statements, Stmt, SystemNames, plain_statement, statement};
+use deck_scan::{Lines, PlainLine, TokenLine, refused};
 use grs_base::{Kind, List, Lists, MOST_LINES, NoMemory, ReadError};
 use grs_wire::{Deck, Event};
 use std::alloc::Global;
@@ -112,6 +113,54 @@ fn take_line(draft: &mut Draft<'_>, alloc: Global, line: &TokenLine<'_>) -> Resu
     }
 }
 
+/// Takes a plain line behind SCHEDULE.
+#[tactic(auto, unfolding(crate::specs::Reading::judge))]
+fn take_plain(draft: &mut Draft<'_>, alloc: Global, line: &PlainLine<'_>) -> Result<(), ReadError>
+    requires behind { draft.old.scheduled ≡ true }
+    requires systems { Fits draft.old.deck.systems }
+    requires lists { AreLists draft.old.deck.lists }
+    ensures { Took result draft.new (judge draft.old line.now) }
+{
+    match plain_statement(draft.deck.entries, line) {
+        Err(kind) => Err(refused(line.at(), kind)),
+        Ok(st) => take_statement(draft, alloc, line.at(), &st),
+    }
+}
+
+/// The next statement, where it stands behind SCHEDULE and is a plain line.
+fn next_plain<'t>(draft: &Draft<'_>, rest: &mut Statements<'t>) -> Option<PlainLine<'t>>
+    ensures next { IfSome result (λ line. Next (Some line) rest.old rest.new) }
+    ensures behind { IfSome result (λ line. draft.now.scheduled ≡ true) }
+    ensures same { IfNone result (rest.new ≡ rest.old) }
+{
+    if draft.scheduled {
+        rest.next_plain()
+    } else {
+        None
+    }
+}
+
+/// Takes the next statement, and says whether there was one.
+fn take_next(
+    draft: &mut Draft<'_>,
+    alloc: Global,
+    rest: &mut Statements<'_>,
+) -> Result<bool, ReadError>
+    requires systems { Fits draft.old.deck.systems }
+    requires lists { AreLists draft.old.deck.lists }
+    ensures { TookNext result draft.old rest.old draft.new rest.new }
+{
+    if let Some(line) = next_plain(draft, rest) {
+        take_plain(draft, alloc, &line)?;
+        return Ok(true);
+    }
+    let Some(line) = rest.next(alloc)? else {
+        return Ok(false);
+    };
+    take_line(draft, alloc, &line)?;
+    Ok(true)
+}
+
 /// A deck of which nothing was read, with the names that its SYSTEM statements give.
 fn start<'t>(alloc: Global, names: SystemNames<'t>) -> Draft<'t>
     ensures { result ≡ no_draft names.entry }
@@ -143,9 +192,7 @@ fn take_all<'t>(
 {
     let mut draft = start(alloc, names);
     let mut rest = statements;
-    while let Some(line) = rest.next(alloc)? {
-        take_line(&mut draft, alloc, &line)?;
-    }
+    while take_next(&mut draft, alloc, &mut rest)? {}
     Ok(draft)
 }
 

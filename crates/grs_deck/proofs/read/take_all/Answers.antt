@@ -1,45 +1,41 @@
-use Rattle.std.proofs.Common.{◌≡◌, length, ap, ◌∙◌, arith}
+use Rattle.std.proofs.Common.{◌≡◌, ap, ◌∙◌, arith}
 use Rattle.std.proofs.lemmas.Result.{err_from_is_err_and}
 use Rattle.grs_deck.specs.declared.judge.Draft.{Draft}
 use Rattle.grs_deck.specs.Reading.{judge_all, no_draft}
-use Rattle.grs_deck.proofs.Loop.{one_next, none_next, goes_on, fails, is_done}
-use Rattle.grs_deck.proofs.FitsLaws.{fits_judge, lists_judge}
+use Rattle.grs_deck.proofs.Loop.{next_goes_on, next_fits, next_lists, next_less, next_done, next_fails}
 use Rattle.grs_deck.proofs.read.take_all.Goals as goal
 
 pub loop-draft-preserved : goal.loop-draft-preserved
 loop-draft-preserved c = record {
   reads =
-      goes_on c.loop-draft.draft c.take_line.new.draft c.loop-draft.rest c.next.new.self c.in-Some.line _
-      (one_next c.in_ok-line.field-0 c.in-Some.line c.loop-draft.rest c.next.new.self c.in-Some.is c.in_ok-line.ensures)
-      c.in_ok-take_line.ensures c.loop-draft.invariant.reads;
+      next_goes_on c.loop-draft.draft c.take_next.new.draft c.loop-draft.rest c.take_next.new.rest
+      c.in_ok-take_next.field-0 c.in_ok-take_next.ensures _ c.if-branch.true c.loop-draft.invariant.reads;
   fits =
-      fits_judge c.loop-draft.draft c.take_line.new.draft c.in-Some.line c.in_ok-take_line.ensures
-      c.loop-draft.invariant.fits;
+      next_fits c.loop-draft.draft c.take_next.new.draft c.loop-draft.rest c.take_next.new.rest
+      c.in_ok-take_next.field-0 c.in_ok-take_next.ensures c.if-branch.true c.loop-draft.invariant.fits;
   lists =
-      lists_judge c.loop-draft.draft c.take_line.new.draft c.in-Some.line c.in_ok-take_line.ensures
-      c.loop-draft.invariant.lists;
+      next_lists c.loop-draft.draft c.take_next.new.draft c.loop-draft.rest c.take_next.new.rest
+      c.in_ok-take_next.field-0 c.in_ok-take_next.ensures c.if-branch.true c.loop-draft.invariant.lists;
 }
 
 pub loop-draft-smaller : goal.loop-draft-smaller
 loop-draft-smaller c =
-    let long =
-    ap length (one_next c.in_ok-line.field-0 c.in-Some.line c.loop-draft.rest c.next.new.self c.in-Some.is
-    c.in_ok-line.ensures) in
-    omega (arith, long)
+    let less =
+    next_less c.loop-draft.draft c.take_next.new.draft c.loop-draft.rest c.take_next.new.rest
+    c.in_ok-take_next.field-0 c.in_ok-take_next.ensures c.if-branch.true in
+    omega (arith, less)
 
-pub returns-in_err-take_line : goal.returns-in_err-take_line
-returns-in_err-take_line c =
-    let p = err_from_is_err_and c.from_residual-in_err-take_line.result c.from_residual-in_err-take_line.ensures.1 in
+pub returns-in_err-take_next : goal.returns-in_err-take_next
+returns-in_err-take_next c =
+    let p = err_from_is_err_and c.from_residual.result c.from_residual.ensures.1 in
     let reads : judge_all c.loop-draft.draft c.loop-draft.rest ≡ judge_all (no_draft c.args.names) c.args.statements =
     c.loop-draft.invariant.reads ∙ ap (λ (d : Draft). judge_all d c.args.statements) c.start-draft.ensures in
-    rw (p.1, p.2) (fails c.in_err-take_line.field-0.0 c.loop-draft.draft c.loop-draft.rest c.next.new.self
-    c.in-Some.line _
-    (one_next c.in_ok-line.field-0 c.in-Some.line c.loop-draft.rest c.next.new.self c.in-Some.is c.in_ok-line.ensures)
-    c.in_err-take_line.ensures reads)
+    rw (p.1, p.2) (next_fails c.in_err-take_next.field-0.0 c.loop-draft.draft c.take_next.new.draft c.loop-draft.rest
+    c.take_next.new.rest _ c.in_err-take_next.ensures reads)
 
 pub returns : goal.returns
 returns c =
     let reads : judge_all c.loop-draft.draft c.loop-draft.rest ≡ judge_all (no_draft c.args.names) c.args.statements =
     c.loop-draft.invariant.reads ∙ ap (λ (d : Draft). judge_all d c.args.statements) c.start-draft.ensures in
-    is_done c.loop-draft.draft c.loop-draft.rest _
-    (none_next c.in_ok-line.field-0 c.loop-draft.rest c.next.new.self c.in_default.is c.in_ok-line.ensures) reads
+    next_done c.loop-draft.draft c.take_next.new.draft c.loop-draft.rest c.take_next.new.rest c.in_ok-take_next.field-0
+    c.in_ok-take_next.ensures _ c.if-branch.false reads
