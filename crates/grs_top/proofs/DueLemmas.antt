@@ -3,6 +3,8 @@ use Rattle.std.proofs.Common.{◌≡◌, ℕ, true, List, length, ap, sym, subst
 use Rattle.std.proofs.Common.{if◌then◌else◌}
 use Rattle.grs_analyze.specs.Depends.{AreApart, ListsAreApart}
 use Rattle.grs_analyze.specs.Text.{analysis_text}
+use Rattle.deck_tasks.specs.Tasks.{tasks_of}
+use Rattle.grs_base.specs.Rows.{rows_of}
 use Rattle.grs_base.specs.declared.fault.DeckFault.{DeckFault}
 use Rattle.grs_base.specs.declared.fault.ReadError.{ReadError}
 use Rattle.grs_base.specs.declared.fault.ReadError.TheVariants as read_errors
@@ -26,7 +28,11 @@ use Rattle.grs_wire.specs.declared.deck.Event.{Event}
 use Rattle.grs_wire.specs.declared.deck.SystemDef.{SystemDef}
 use Rattle.grs_wire.specs.declared.history.HistEntry.{HistEntry}
 use Rattle.grs_wire.specs.declared.medium.JEntry.{JEntry}
+use Rattle.grs_base.specs.declared.resource.Row.{Row}
+use Rattle.grs_base.specs.declared.resource.TaskId.{TaskId}
+use Rattle.grs_wire.specs.History.{replay}
 use Rattle.grs_wire.specs.declared.seen.Seen.{Seen}
+use Rattle.grs_wire.specs.declared.seen.TaskEnd.{TaskEnd}
 use Rattle.grs_workers.specs.Beside.{RanBeside, AllLast}
 use Rattle.grs_world.specs.Agree.{Sound}
 use Rattle.grs_world.specs.AtRest.{RestsInTheEnd}
@@ -43,6 +49,7 @@ use Rattle.grs_top.specs.Schedules.{unscheduled}
 use Rattle.grs_top.specs.StopWords.{StopValue}
 use Rattle.grs_top.specs.Texts.{IsReported, IsRunToRest, IsToldOf, IsAnalyzed, AreNoticed}
 use Rattle.grs_top.specs.Seen.{seen_of_run, report_of, ending}
+use Rattle.grs_top.specs.Tasks.{ends_at}
 use Rattle.grs_top.specs.declared.due.Due.{Due}
 use Rattle.grs_top.specs.declared.status.Status.{Status}
 use Rattle.grs_top.specs.declared.status.Status.TheVariants.{Deck, Done, Waits}
@@ -171,43 +178,45 @@ replay_due d es seen (Ok due) whole sound passed silent is out status = record {
 }
 replay_due d es seen (Err e) whole sound passed silent is out status = tt
 
--- ---- other texts of a run, by what is seen of it
+-- ---- other texts of a run, by its history and the end of each task
 told_of :
-    (text : Seen → List ℕ) (d : DeckValue) (es : List Event) (seen : Seen) (out : List ℕ) (status : Status) → IsDeck d
-    → OfRuns Sound → seen ≡ seen_of_run d es → out ≡ text seen
-    → status ≡ (if all_ended seen.ended then Done else Waits) → IsToldOf d es (text (seen_of_run d es)) out status
-unfolding ending
-told_of text d es seen out status whole sound is written ends = record {
+    (text : List HistEntry → List ℕ) (d : DeckValue) (es : List Event) (hs : List HistEntry)
+    (ended lent : List (TaskId × TaskEnd)) (out : List ℕ) (status : Status) → IsDeck d → OfRuns Sound → hs ≡ hist d es
+    → ended ≡ ends_at (run d es).medium.removed (run d es).nodes (tasks_of d) → lent ≡ ended → out ≡ text hs
+    → status ≡ (if all_ended lent then Done else Waits) → IsToldOf d es (text (hist d es)) out status
+unfolding ending seen_of_run
+told_of text d es hs ended lent out status whole sound is stand same written ends = record {
   whole = written ∙ ap text is;
-  ends = ends ∙ ap (λ (x : Seen). if all_ended x.ended then Done else Waits) is;
+  ends = ends ∙ ap (λ (x : List (TaskId × TaskEnd)). if all_ended x then Done else Waits) (same ∙ stand);
   sound = of_deck Sound sound d whole es;
 }
 
 pub analyzed_of :
-    (d : DeckValue) (es : List Event) (seen : Seen) (out : List ℕ) (status : Status) → IsDeck d → OfRuns Sound
-    → seen ≡ seen_of_run d es → out ≡ analysis_text d seen.queues
-    → status ≡ (if all_ended seen.ended then Done else Waits) → IsAnalyzed d es out status
-unfolding seen_of_run
-analyzed_of d = told_of (λ (x : Seen). analysis_text d x.queues) d
+    (d : DeckValue) (es : List Event) (hs slice : List HistEntry) (rows : List Row)
+    (ended lent : List (TaskId × TaskEnd)) (out : List ℕ) (status : Status) → IsDeck d → OfRuns Sound → hs ≡ hist d es
+    → ended ≡ ends_at (run d es).medium.removed (run d es).nodes (tasks_of d) → slice ≡ hs → lent ≡ ended
+    → rows ≡ rows_of (replay d.limit slice) → out ≡ analysis_text d rows
+    → status ≡ (if all_ended lent then Done else Waits) → IsAnalyzed d es out status
+analyzed_of d es hs slice rows ended lent out status whole sound is stand shared same left written =
+    told_of (λ (xs : List HistEntry). analysis_text d (rows_of (replay d.limit xs))) d es hs ended lent out status whole
+    sound is stand same
+    (written ∙ ap (analysis_text d) (left ∙ ap (λ (xs : List HistEntry). rows_of (replay d.limit xs)) shared))
 
 pub noticed_of :
-    (d : DeckValue) (es : List Event) (seen : Seen) (hs : List HistEntry) (out : List ℕ) (status : Status) → IsDeck d
-    → OfRuns Sound → seen ≡ seen_of_run d es → hs ≡ seen.hist
-    → (Legal d hs → out ≡ notices_text d (notices d.limit hs))
-    → status ≡ (if all_ended seen.ended then Done else Waits) → AreNoticed d es out status
-unfolding seen_of_run
-noticed_of d es seen hs out status whole sound is lent written =
-    let legal : Legal d seen.hist =
-    subst (λ (x : Seen). Legal d x.hist) (sym is) (of_deck Sound sound d whole es).legal in
-    told_of (λ (x : Seen). notices_text d (notices d.limit x.hist)) d es seen out status whole sound is
-    (subst (λ (xs : List HistEntry). Legal d xs → out ≡ notices_text d (notices d.limit xs)) lent written legal)
+    (d : DeckValue) (es : List Event) (hs slice : List HistEntry) (ended lent : List (TaskId × TaskEnd)) (out : List ℕ)
+    (status : Status) → IsDeck d → OfRuns Sound → hs ≡ hist d es
+    → ended ≡ ends_at (run d es).medium.removed (run d es).nodes (tasks_of d) → slice ≡ hs → lent ≡ ended
+    → (Legal d slice → out ≡ notices_text d (notices d.limit slice))
+    → status ≡ (if all_ended lent then Done else Waits) → AreNoticed d es out status
+noticed_of d es hs slice ended lent out status whole sound is stand shared same written =
+    let legal : Legal d slice = subst (Legal d) (sym (shared ∙ is)) (of_deck Sound sound d whole es).legal in
+    told_of (λ (xs : List HistEntry). notices_text d (notices d.limit xs)) d es hs ended lent out status whole sound is
+    stand same (written legal ∙ ap (λ (xs : List HistEntry). notices_text d (notices d.limit xs)) shared)
 
--- the lists that a run leaves may be analyzed
-pub seen_apart : (d : DeckValue) (es : List Event) (seen : Seen) → ListsAreApart → seen ≡ seen_of_run d es
-    → AreApart seen.queues
-unfolding seen_of_run
-seen_apart d es seen apart_lists is =
-    subst (λ (x : Seen). AreApart x.queues) (sym is) (apart_lists d.limit (hist d es))
+-- the lists that a history leaves may be analyzed
+pub rows_apart : (limit : ℕ) (hs : List HistEntry) (rows : List Row) → ListsAreApart → rows ≡ rows_of (replay limit hs)
+    → AreApart rows
+rows_apart limit hs rows apart_lists is = subst AreApart (sym is) (apart_lists limit hs)
 
 pub run_due :
     {E : Type 0} (d : DeckValue) (m : MediumState) (journal slice : List JEntry) (vs : List NodeView) (seen : Seen)

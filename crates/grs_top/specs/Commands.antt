@@ -15,7 +15,7 @@ use Rattle.grs_top.specs.declared.words.Command.{Command}
 use Rattle.grs_top.specs.declared.words.Command.TheVariants.{Replay, Run, Lists, Analyze, Notices, Latch, Stop}
 use Rattle.grs_top.specs.Schedules.{unscheduled}
 use Rattle.grs_top.specs.Stops.{SpellsDeckOf, IsFaultFor, IsStopped}
-use Rattle.grs_top.specs.Texts.{IsReported, IsRunToRest, IsAnalyzed, AreNoticed, AreCalled, IsListed}
+use Rattle.grs_top.specs.Texts.{IsReported, IsRunToRest, IsAnalyzed, AreNoticed, AreAnswered, IsListed}
 
 -- how many bytes the text of a command may have
 abbrev pub limit_of : Command → ℕ
@@ -68,7 +68,7 @@ IsTextOf Run deck out status = IsRunToRest (unscheduled deck) out status
 IsTextOf Lists deck out status = IsListed deck out status
 IsTextOf Analyze deck out status = IsAnalyzed (unscheduled deck) deck.events out status
 IsTextOf Notices deck out status = AreNoticed (unscheduled deck) deck.events out status
-IsTextOf Latch calls out status = AreCalled calls out status
+IsTextOf Latch calls out status = AreAnswered calls out status
 IsTextOf (Stop x) deck out status = IsStopped x deck out status
 
 -- A run ends with each task ended or removed with its system, or with somebody who waits.

@@ -54,8 +54,8 @@ abbrev pub AreNoticed : DeckValue → List Event → List ℕ → Status → Typ
 AreNoticed deck es = IsToldOf deck es (notices_text deck (notices deck.limit (hist deck es)))
 
 -- What the calls are answered is written, and what is left of the latches; there is nothing to wait for.
-abbrev pub AreCalled : List LatchCall → List ℕ → Status → Type 0
-AreCalled calls out status = (out ≡ latch_text calls) × (status ≡ Done)
+abbrev pub AreAnswered : List LatchCall → List ℕ → Status → Type 0
+AreAnswered calls out status = (out ≡ latch_text calls) × (status ≡ Done)
 
 -- The deck's name lists are written, and there is nothing to wait for.
 abbrev pub IsListed : DeckValue → List ℕ → Status → Type 0

@@ -11,24 +11,25 @@ ghost use Rattle.grs_wire.specs.Decks.{IsDeck};
 ghost use Rattle.grs_world.specs.Stopped.{stopped as events_left};
 ghost use Rattle.grs_top.specs.Due.{fault_line, IsDue};
 ghost use Rattle.grs_top.specs.Schedules.{unscheduled};
-ghost use Rattle.grs_top.specs.Texts.{IsReported, IsRunToRest, IsAnalyzed, AreNoticed, AreCalled, IsListed};
+ghost use Rattle.grs_top.specs.Texts.{IsReported, IsRunToRest, IsAnalyzed, AreNoticed, AreAnswered, IsListed};
 
 use super::Status;
 use super::beside::seen_of;
 use super::fault_line::fault_line;
 use super::laws::{merged_rests, merged_runs};
 use super::lists::lists_text;
-use super::seen::seen_by_replay;
+use super::seen::{run_of, seen_by_replay};
 use super::stop::{Stop, system_place};
 use super::words::Command;
 use grs_analyze::analysis_text;
 use grs_analyze::laws::lists_are_apart;
-use grs_base::{DeckFault, Kind, List, NoMemory, ReadError, SysId};
+use grs_base::{DeckFault, Kind, List, NoMemory, ReadError, SysId, TaskId};
 use grs_deck::read_deck;
 use grs_enf::notices_text;
+use grs_history::queues_after;
 use grs_latch::LatchCall;
 use grs_report::{all_ended, report};
-use grs_wire::{Deck, Event, Seen};
+use grs_wire::{Deck, Event, Seen, TaskEnd};
 use grs_workers::{Gate, run_workers};
 use grs_world::laws::{passed_is_told, removed_tell_nothing, rests_in_the_end, runs_are_sound};
 use grs_world::stopped;
@@ -57,14 +58,14 @@ fn ending(done: bool) -> Status
     if done { Status::Done } else { Status::Waits }
 }
 
-/// A text of a run, with how the run ends by what is seen of it.
-fn told(out: List<u8>, seen: &Seen) -> Due
+/// A text of a run, with how the run ends by the end of each task.
+fn told(out: List<u8>, ended: &[(TaskId, TaskEnd)]) -> Due
     ensures out { result.out ≡ out }
-    ensures status { result.status ≡ (if all_ended seen.now.ended then Status.Done else Status.Waits) }
+    ensures status { result.status ≡ (if all_ended ended.now then Status.Done else Status.Waits) }
 {
     Due {
         out,
-        status: ending(all_ended(seen.ended.as_slice())),
+        status: ending(all_ended(ended)),
     }
 }
 
@@ -75,7 +76,7 @@ fn report_due(alloc: Global, deck: &Deck, seen: &Seen) -> Result<Due, NoMemory>
     ensures status { IfOk result (λ due. due.status ≡ (if all_ended seen.now.ended then Status.Done else Status.Waits)) }
 {
     let out = report(alloc, deck, seen)?;
-    Ok(told(out, seen))
+    Ok(told(out, seen.ended.as_slice()))
 }
 
 /// A deck without its schedule, and the events that stood there.
@@ -149,26 +150,27 @@ pub(crate) fn ran<R: Threads + Wait + Sync, G: Gate + Sync>(
 }
 
 /// The analysis of the lists that the run of these events leaves.
-fn analyzed(alloc: Global, deck: &Deck, events: List<Event>) -> Result<Due, NoMemory>
+fn analyzed(alloc: Global, deck: &Deck, events: &[Event]) -> Result<Due, NoMemory>
     requires { IsDeck deck.now }
-    ensures { IfOk result (λ due. IsAnalyzed deck.now events due.out due.status) }
+    ensures { IfOk result (λ due. IsAnalyzed deck.now events.now due.out due.status) }
 {
     runs_are_sound();
     lists_are_apart();
-    let seen = seen_by_replay(alloc, deck, events)?;
-    let out = analysis_text(alloc, deck, &seen.queues)?;
-    Ok(told(out, &seen))
+    let past = run_of(alloc, deck, events)?;
+    let queues = queues_after(alloc, past.hist.as_slice(), deck.limit)?;
+    let out = analysis_text(alloc, deck, &queues)?;
+    Ok(told(out, past.ended.as_slice()))
 }
 
 /// The notices of contention along the history of the run of these events.
-fn noticed(alloc: Global, deck: &Deck, events: List<Event>) -> Result<Due, NoMemory>
+fn noticed(alloc: Global, deck: &Deck, events: &[Event]) -> Result<Due, NoMemory>
     requires { IsDeck deck.now }
-    ensures { IfOk result (λ due. AreNoticed deck.now events due.out due.status) }
+    ensures { IfOk result (λ due. AreNoticed deck.now events.now due.out due.status) }
 {
     runs_are_sound();
-    let seen = seen_by_replay(alloc, deck, events)?;
-    let out = notices_text(alloc, deck, seen.hist.as_slice())?;
-    Ok(told(out, &seen))
+    let past = run_of(alloc, deck, events)?;
+    let out = notices_text(alloc, deck, past.hist.as_slice())?;
+    Ok(told(out, past.ended.as_slice()))
 }
 
 /// What a text is answered by of which nothing could be read.
@@ -185,9 +187,9 @@ fn refused(alloc: Global, error: ReadError) -> Result<Due, NoMemory>
 }
 
 /// What calls of latches are answered, and what they leave.
-fn called(alloc: Global, calls: &[LatchCall]) -> Result<Due, NoMemory>
+fn latched(alloc: Global, calls: &[LatchCall]) -> Result<Due, NoMemory>
     requires { AllCome calls.now [] }
-    ensures { IfOk result (λ due. AreCalled calls.now due.out due.status) }
+    ensures { IfOk result (λ due. AreAnswered calls.now due.out due.status) }
 {
     let out = latch_text(alloc, calls)?;
     Ok(Due {
@@ -255,7 +257,7 @@ pub(crate) fn due_by_analyze(alloc: Global, text: &[u8]) -> Result<Due, NoMemory
     match read_deck(alloc, text) {
         Ok(deck) => {
             let (bare, events) = set_apart(alloc, deck);
-            analyzed(alloc, &bare, events)
+            analyzed(alloc, &bare, events.as_slice())
         }
         Err(error) => refused(alloc, error),
     }
@@ -268,7 +270,7 @@ pub(crate) fn due_by_notices(alloc: Global, text: &[u8]) -> Result<Due, NoMemory
     match read_deck(alloc, text) {
         Ok(deck) => {
             let (bare, events) = set_apart(alloc, deck);
-            noticed(alloc, &bare, events)
+            noticed(alloc, &bare, events.as_slice())
         }
         Err(error) => refused(alloc, error),
     }
@@ -279,7 +281,7 @@ pub(crate) fn due_by_latch(alloc: Global, text: &[u8]) -> Result<Due, NoMemory>
     ensures { IfOk result (λ due. IsDue Command.Latch text.now due.out due.status) }
 {
     match read_calls(alloc, text) {
-        Ok(calls) => called(alloc, calls.as_slice()),
+        Ok(calls) => latched(alloc, calls.as_slice()),
         Err(error) => refused(alloc, error),
     }
 }

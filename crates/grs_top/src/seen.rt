@@ -18,17 +18,17 @@ use std::alloc::Global;
 /// What is seen of a run itself: its history, what was told, the units that are reserved, the lock words and the
 /// mode, and the end of each task.
 #[derive(Drop)]
-struct Run {
-    hist: List<HistEntry>,
+pub(crate) struct Run {
+    pub(crate) hist: List<HistEntry>,
     told: List<Told>,
     units: List<(SysId, u16, u32)>,
     words: List<u32>,
     star: bool,
-    ended: List<(TaskId, TaskEnd)>,
+    pub(crate) ended: List<(TaskId, TaskEnd)>,
 }
 
 /// The run of these events.
-fn run_of(alloc: Global, deck: &Deck, events: &[Event]) -> Result<Run, NoMemory>
+pub(crate) fn run_of(alloc: Global, deck: &Deck, events: &[Event]) -> Result<Run, NoMemory>
     requires { IsDeck deck.now }
     ensures hist { IfOk result (λ seen. seen.hist ≡ hist deck.now events.now) }
     ensures told { IfOk result (λ seen. seen.told ≡ told deck.now events.now) }

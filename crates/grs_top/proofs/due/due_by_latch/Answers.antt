@@ -4,13 +4,13 @@ use Rattle.grs_top.proofs.due.due_by_latch.Goals as goal
 
 pub returns-in-Ok : goal.returns-in-Ok
 returns-in-Ok c =
-    answered_due Latch c.args.text.now c.in-Ok.calls c.called.result c.in-Ok.ensures.exact.0
-    (rw c.as_slice.ensures at c.called.ensures)
+    answered_due Latch c.args.text.now c.in-Ok.calls c.latched.result c.in-Ok.ensures.exact.0
+    (rw c.as_slice.ensures at c.latched.ensures)
 
 pub returns-in-Err : goal.returns-in-Err
 returns-in-Err c =
     refused_due Latch c.args.text.now c.in-Err.error c.refused.result
     (first_call_fault c.args.text.now c.in-Err.error c.in-Err.ensures.exact) c.refused.ensures
 
-pub called-requires : goal.called-requires
-called-requires c = rw c.as_slice.ensures c.in-Ok.ensures.whole
+pub latched-requires : goal.latched-requires
+latched-requires c = rw c.as_slice.ensures c.in-Ok.ensures.whole

@@ -4,6 +4,7 @@ use Rattle.grs_top.proofs.due.noticed.Goals as goal
 
 pub returns : goal.returns
 returns c =
-    noticed_of c.args.deck.now c.args.events c.in_ok-seen.seen c.as_slice.result.now c.told.result.out c.told.result.status
-    c.requires c.runs_are_sound.ensures c.in_ok-seen.ensures c.as_slice.ensures
+    noticed_of c.args.deck.now c.args.events.now c.in_ok-past.past.hist c.as_slice.result.now c.in_ok-past.past.ended
+    c.as_slice-2.result.now c.told.result.out c.told.result.status c.requires c.runs_are_sound.ensures
+    c.in_ok-past.ensures.hist c.in_ok-past.ensures.ended c.as_slice.ensures c.as_slice-2.ensures
     (λ legal. c.told.ensures.out ∙ c.in_ok-out.ensures.legal legal) c.told.ensures.status
