@@ -751,38 +751,34 @@ class Says:
         """What a task waits for, and behind whom; or how control comes to it."""
         node, state = self.run.nodes[task[0]], self.run.nodes[task[0]].tasks[task[1]]
         resource = self.waits_for(state)
-        text = "it waits for %s (line %d) since event %d" % (resource_text(self.run, resource), state.line, state.since)
+        since, name = "since event %d" % state.since, resource_text(self.run, resource)
         if task not in self.run.lists.owning(resource):
             away = self.run.lists.keeping_away(resource, task)
-            return "%s, behind %s" % (text, self.who([it for it in self.run.lists.front_of(resource, task) if it[0] in away]))
-        return "%s, and owns it: %s" % (text, self.control_comes(node, task, resource))
+            behind = self.who([it for it in self.run.lists.front_of(resource, task) if it[0] in away])
+            return "it waits for %s (line %d) %s, behind %s" % (name, state.line, since, behind)
+        # (it may have owned before it was told to wait)
+        if state.phase == HELD_ANSWER:
+            since = "as it was told in event %d" % state.since
+        return "it waits for %s (line %d), %s, and owns it by now: %s" % (name, state.line, since, self.control_comes(node, task, resource))
 
     def control_comes(self, node, task, resource):
         """How a task of this system, which owns a resource by the lists, is told so."""
-        mail = self.run.medium.inbox[node.number]
+        mail, entry = self.run.medium.inbox[node.number], node.entry(resource)
         place = next((place for place, it in enumerate(mail) if it[0] == "control" and it[1:] == (task, resource)), None)
         if place is not None:
             return "the mail that says so is in its inbox: %s" % self.recipe((node, "TAKE", place + 1))
-        if not node.is_star:
-            return "%s is told when the message comes by: %s TURN" % (node.name, node.name)
-        entry = node.entry(resource)
+        # (a manager that has changed to star mode has to tell one that hasn't)
         for manager in self.run.nodes:
             untold = list(manager.all_untold(entry))
             if (task, resource) in untold:
                 tells = untold[:untold.index((task, resource)) + 1]
                 mails = sum(it[0] == node.number for it, _ in tells)
                 return "it is told so by %s" % self.recipe((manager, "TELL %d" % entry, len(tells)), (node, "TAKE", len(mail) + mails))
-        return "that is on its way"
+        return "%s is told when the message comes by: %s TURN" % (node.name, node.name)
 
     def recipe(self, *events):
-        """Events that bring something home, each as often as what stands in front of it makes needed; a system that doesn't know yet who was
-        removed only learns it by its first one."""
-        said, learn = [], {node.name for node, _, _ in events if node.knows != set(self.run.medium.removed)}
-        for node, what, times in events:
-            if times:
-                times += node.name in learn
-                learn.discard(node.name)
-                said.append("%s %s" % (node.name, what) + " (%d times)" % times * (times > 1))
+        """Events that bring something home, each as often as what stands in front of it makes needed."""
+        said = ["%s %s" % (node.name, what) + " (%d times)" % times * (times > 1) for node, what, times in events if times]
         late = sorted({node.name for node, _, _ in events if not node.is_star})
         return "once %s changed to star mode, " % " and ".join(late) * bool(late) + ", ".join(said)
 
@@ -795,14 +791,13 @@ class Says:
         node, state = self.run.nodes[task[0]], self.run.nodes[task[0]].tasks[task[1]]
         asked, name = self.request(state, task), node.name
         if not node.is_star:
-            at = self.message()
+            at = "the message is at %s" % self.run.name(self.run.medium.at)
             if state.phase == TO_SEND and self.run.medium.closed:
-                return "%s waits for a SEND, behind the %s TURN by which %s changes to star mode; %s" % (
-                    asked, name, name, at.replace("isn't here: it ", ""))
+                return "%s waits for a SEND, behind the %s TURN by which %s changes to star mode; %s" % (asked, name, name, at)
             if state.phase == TO_SEND:
-                return "%s waits for a %s TURN; %s" % (asked, name, at.replace("isn't here: it ", ""))
-            return "%s goes round with the message, and is answered at %s TURN once it is back; %s" % (asked, name,
-                                                                                                   at.replace("isn't here: it ", ""))
+                turns = node.outbox.index(state.asked) // TURN_TAKES + 1
+                return "%s waits for a %s TURN%s; %s" % (asked, name, " (%d times)" % turns * (turns > 1), at)
+            return "%s goes round with the message, and is answered at %s TURN once it is back; %s" % (asked, name, at)
         if state.phase == TO_SEND:
             return "%s waits for %s SEND %s" % (asked, name, self.run.task_name(task).partition(".")[2])
         inbox = self.run.medium.inbox
@@ -817,10 +812,8 @@ class Says:
                 where = "in the inbox of" if takes else "held by"
                 return "%s is %s %s: %s" % (asked, where, other.name, self.recipe(
                     (other, "TAKE", takes), (other, "SETTLE", at + 1), (node, "TAKE", answers)))
-        place = next((place for place, it in enumerate(inbox[node.number]) if it[0] == "answer" and it[1] is state.asked), None)
-        if place is not None:
-            return "the answer to %s is in the inbox of %s: %s" % (asked, name, self.recipe((node, "TAKE", place + 1)))
-        return "%s goes round with the message, which %s takes as its last: %s TURN" % (asked, name, name)
+        place = [it[1] for it in inbox[node.number]].index(state.asked)
+        return "the answer to %s is in the inbox of %s: %s" % (asked, name, self.recipe((node, "TAKE", place + 1)))
 
     def unended(self, task):
         """Why a task hasn't ended."""
