@@ -15,6 +15,7 @@ use Rattle.grs_world.proofs.move.Changing.{IsChanging, Shown, has_changed, waits
 use Rattle.grs_world.proofs.move.Sound.{GoodRun, every_run, in_ring, in_star}
 use Rattle.grs_world.proofs.rest.Homes.{homes_run}
 use Rattle.grs_world.proofs.run.Each.{run-push}
+use Rattle.grs_world.proofs.run.Site.{at_site}
 use Rattle.grs_world.specs.Decks.{FitsStar, may_be_star}
 use Rattle.grs_world.specs.World.{World, first_world, run}
 use Rattle.grs_top.specs.Beside.{AllDo, HasToDo}
@@ -52,7 +53,7 @@ module _ (deck : Deck) (whole : IsDeck deck) where
               → Shown deck s (items (run deck es).fixed) (g.before s) (g.due s) g.since (g.whole.out s) k m
               → (length p.manager.entries ≡ deck.entries) × (length p.interest ≡ deck.entries)
           by_shown k m there mine none (has_changed empty) =
-              let member = g.whole.roles.node s k there alive in
+              let member = g.whole.roles.node s k (at_site there alive) in
               let same : member.part ≡ p = let z : Some member.part ≡ Some p = sym member.star ∙ mine in cc in
               subst (λ (q : StarPart). (length q.manager.entries ≡ deck.entries) × (length q.interest ≡ deck.entries)) same
               (member.fits.entries, member.fits.interests)

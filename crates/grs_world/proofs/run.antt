@@ -15,6 +15,7 @@ pub mod Reading
 pub mod Putting
 pub mod Outcomes
 pub mod Runs
+pub mod Site
 pub mod Desks
 pub mod InRing
 pub mod Changing

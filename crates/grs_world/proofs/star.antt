@@ -1,5 +1,6 @@
 -- The run in star mode.
 pub mod Under
+pub mod Boxes
 pub mod Members
 pub mod Roles
 pub mod Tasks

@@ -61,6 +61,7 @@ use Rattle.mode_migrate.specs.Laws.{are_within}
 use Rattle.mode_migrate.specs.Migrate.{has_elements, table_words}
 use Rattle.rsa_message.specs.Message.{closed_by, first_number}
 use Rattle.grs_wire.specs.Unseen.{unseen}
+use Rattle.grs_world.proofs.run.Site.{IsThere}
 
 -- ---- the elements of a table of a run are of systems of the deck
 each-within : (deck : Deck) (t : State) → list_all (λ h. may_have deck h.0 h.1.task) t ≡ true
@@ -174,20 +175,19 @@ module _ (deck : Deck) (some : 0 < deck.entries) (few : length deck.systems ≤ 
           (none-there e s (has w.medium.removed s) refl out));
       free = λ e none.
           free-by deck some t (lists T) (table-is T) within_most e (sym (ap (λ ws. manager_at ws e) words_are) ∙ none);
-      node = λ s k f live. member s k (each s k f live);
+      node = λ s k v. member s k (each s k v.at v.live);
     }
 
-    hands : (m : ℕ) (k : NodeState) (p : StarPart) → slice_get view m ≡ Some k → has w.medium.removed m ≡ false
-        → k.star ≡ Some p
+    hands : (m : ℕ) (k : NodeState) (p : StarPart) → IsThere view w.medium.removed m k → k.star ≡ Some p
         → Hands deck w.medium.words (are_live (record w { nodes = view })) (λ s. []) (λ s. []) m
         (in_hands p (inbox w.medium m))
-    hands m k p f live is =
+    hands m k p v is =
         subst (λ ms.
         Hands deck w.medium.words (are_live (record w { nodes = view })) (λ s. []) (λ s. []) m (in_hands p ms))
         (sym (no_box m))
         (subst (λ (q : StarPart).
         Hands deck w.medium.words (are_live (record w { nodes = view })) (λ s. []) (λ s. []) m (in_hands q []))
-        (same_Some (part_at m) p (sym (part_is m k (each m k f live)) ∙ is)) (record { each = tt; apart = refl }))
+        (same_Some (part_at m) p (sym (part_is m k (each m k v.at v.live)) ∙ is)) (record { each = tt; apart = refl }))
 
     pub whole-begun : (h : IsWhole deck (record w { nodes = view })) × ((u : ℕ) → h.out u ≡ [])
     whole-begun = (
@@ -199,7 +199,7 @@ module _ (deck : Deck) (some : 0 < deck.entries) (few : length deck.systems ≤ 
         near =
             subst (λ ws. AreNear deck ws (lists (items w.fixed))) (sym words_are)
             (near-by deck some t (lists T) (table-is T) within_most);
-        system = λ s k f live. system s k (each s k f live) (inbox w.medium s) (no_box s);
+        system = λ s k v. system s k (each s k v.at v.live) (inbox w.medium s) (no_box s);
         hands = hands;
       },
       λ u. refl,

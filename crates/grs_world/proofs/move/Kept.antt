@@ -38,6 +38,7 @@ use Rattle.grs_world.specs.World.{World, run}
 use Rattle.lock_structure.specs.Entries.{entry_of_res, is_entry}
 use Rattle.lock_structure.specs.Laws.{manager_at}
 use Rattle.mode_migrate.specs.Laws.{are_within}
+use Rattle.grs_world.proofs.run.Site.{at_site}
 
 -- a resource of an entry is of that entry
 of-entry : (o : Option ℕ) (x : ℕ) → o ≡ Some x → is_entry x o ≡ true
@@ -53,7 +54,7 @@ module _ (deck : Deck) (some : 0 < deck.entries) (few : length deck.systems ≤ 
       (managed : manager_at w.medium.words x ≡ Some m) (n k : NodeState) (at : slice_get w.nodes m.0 ≡ Some n)
       (there : slice_get g.view m.0 ≡ Some k) (unremoved : has w.medium.removed m.0 ≡ false) where
     me : IsMember deck w.medium.words (all_lists (record w { nodes = g.view })) m.0 k
-    me = g.whole.roles.node m.0 k there unremoved
+    me = g.whole.roles.node m.0 k (at_site there unremoved)
 
     -- who hasn't changed keeps it in its table
     module _ (h : Waits deck m.0 (items w.fixed) (g.before m.0) (g.due m.0) g.since n)
@@ -117,7 +118,7 @@ module _ (deck : Deck) (some : 0 < deck.entries) (few : length deck.systems ≤ 
       → Shown deck m.0 (items w.fixed) (g.before m.0) (g.due m.0) g.since (g.whole.out m.0) k n →
       at_node deck w m (Some n) r ≡ at_node deck (record w { nodes = g.view }) m (Some k) r
   at_shown r x m of managed n k at there unremoved (has_changed none) =
-      let star = (g.whole.roles.node m.0 k there unremoved).star in
+      let star = (g.whole.roles.node m.0 k (at_site there unremoved)).star in
       ap (λ o. managed_list deck w m k o r) star ∙ sym (ap (λ o. managed_list deck shown m k o r) star)
   at_shown r x m of managed n k at there unremoved (waits_yet z h is empty) =
       waits-shown r x m of managed z k at there unremoved h is empty

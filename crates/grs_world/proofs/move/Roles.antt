@@ -28,15 +28,16 @@ use Rattle.grs_world.specs.World.{World, run}
 use Rattle.lock_structure.proofs.LawProofs.{empty_is_managed}
 use Rattle.lock_structure.specs.Laws.{IsManaged, is_interested}
 use Rattle.lock_structure.specs.Words.{word_at}
+use Rattle.grs_world.proofs.run.Site.{at_site}
 
 module _ (deck : Deck) (w : World) (g : IsChanging deck w) where
   -- a system's part is the one that is shown
   part-shown : (s : SysId) (n k : NodeState) → slice_get w.nodes s.0 ≡ Some n
       → (there : slice_get g.view s.0 ≡ Some k) (unremoved : has w.medium.removed s.0 ≡ false)
       → Shown deck s.0 (items w.fixed) (g.before s.0) (g.due s.0) g.since (g.whole.out s.0) k n →
-      part_at deck w s n n.star ≡ (g.whole.roles.node s.0 k there unremoved).part
+      part_at deck w s n n.star ≡ (g.whole.roles.node s.0 k (at_site there unremoved)).part
   part-shown s n k at there unremoved (has_changed none) =
-      ap (part_at deck w s k) (g.whole.roles.node s.0 k there unremoved).star
+      ap (part_at deck w s k) (g.whole.roles.node s.0 k (at_site there unremoved)).star
   part-shown s n k at there unremoved (waits_yet z h is empty) =
       let whole : rounds (items w.fixed) ≡ g.before s.0 ++ (g.due s.0 ++ g.since) =
       whole_now deck w g s z at unremoved k there h is empty in
@@ -48,10 +49,10 @@ module _ (deck : Deck) (w : World) (g : IsChanging deck w) where
       (view-read deck s.0 (items w.fixed) (g.before s.0) (g.due s.0) g.since g.whole.right whole z h).seen.shared) in
       now
       ∙ same_Some (part_by_table deck.entries s (lists (g.before s.0 ++ g.due s.0)))
-      (g.whole.roles.node s.0 k there unremoved).part
+      (g.whole.roles.node s.0 k (at_site there unremoved)).part
       (sym (ap (λ (m : NodeState). m.star) is
       ∙ view-star deck s.0 (items w.fixed) (g.before s.0) (g.due s.0) g.since g.whole.right whole z h)
-      ∙ (g.whole.roles.node s.0 k there unremoved).star)
+      ∙ (g.whole.roles.node s.0 k (at_site there unremoved)).star)
 
   -- who isn't live has no interest and manages nothing
   none-there : (s : ℕ) → is_live w (record { 0 = s }) ≡ false → lives (length g.view) w.medium.removed s ≡ false
@@ -68,7 +69,7 @@ module _ (deck : Deck) (w : World) (g : IsChanging deck w) where
       let unremoved = (live-below w s.0 there).1 in
       let old = g.shown s.0 n at unremoved in
       sym (ap (λ p. has_interest p e) (part-shown s n old.0 at old.1 unremoved old.2)
-      ∙ (g.whole.roles.node s.0 old.0 old.1 unremoved).fits.interest e)
+      ∙ (g.whole.roles.node s.0 old.0 (at_site old.1 unremoved)).fits.interest e)
 
   word_manages : (e : ℕ) (s : SysId) (b : Bool) → is_live w s ≡ b → (o : Option NodeState) → slice_get w.nodes s.0 ≡ o
       → (b && manages_at deck w s o e) ≡ has_manager w.medium.words e s.0
@@ -81,7 +82,7 @@ module _ (deck : Deck) (w : World) (g : IsChanging deck w) where
       let unremoved = (live-below w s.0 there).1 in
       let old = g.shown s.0 n at unremoved in
       ap (λ p. manages p e) (part-shown s n old.0 at old.1 unremoved old.2)
-      ∙ (g.whole.roles.node s.0 old.0 old.1 unremoved).fits.roles e
+      ∙ (g.whole.roles.node s.0 old.0 (at_site old.1 unremoved)).fits.roles e
 
   word_managed : (e : ℕ) (o : Option ℕ) → slice_get w.medium.words e ≡ o → IsManaged (word_at w.medium.words e)
   word_managed e (Some x) h = g.whole.roles.managed e 0 (slice_get_within w.medium.words e x h)
@@ -92,7 +93,7 @@ module _ (deck : Deck) (w : World) (g : IsChanging deck w) where
   kept_well : (s : ℕ) (n k : NodeState) (p : StarPart) → slice_get g.view s ≡ Some k → has w.medium.removed s ≡ false
       → n.star ≡ Some p → Shown deck s (items w.fixed) (g.before s) (g.due s) g.since (g.whole.out s) k n → IsKeptBy s p
   kept_well s n k p there unremoved is (has_changed none) =
-      let me = g.whole.roles.node s k there unremoved in
+      let me = g.whole.roles.node s k (at_site there unremoved) in
       subst (IsKeptBy s) (same_Some me.part p (sym me.star ∙ is)) (record { home = me.fits.home; well = me.fits.well })
   kept_well s n k p there unremoved is (waits_yet z h shows empty) =
       absurd (let e : None ≡ Some p = sym h.alone ∙ is in cc)

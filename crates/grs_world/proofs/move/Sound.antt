@@ -25,8 +25,8 @@ use Rattle.grs_world.proofs.move.Moved.{changing-counted, event-moved}
 use Rattle.grs_world.proofs.run.Desks.{GoodDesks, desk-agrees, desks-after, desks-counted}
 use Rattle.grs_world.proofs.run.Each.{each_live, each_run}
 use Rattle.grs_world.proofs.run.InRing.{CameInRing, IsRing, changed, count_first, each_in_ring, first_ring, informed}
-use Rattle.grs_world.proofs.run.InRing.{live-there}
-use Rattle.grs_world.proofs.run.InRing.{no_such, nothing, removes_one, ring-counted, ring-placed, turn, went_on}
+use Rattle.grs_world.proofs.run.InRing.{live-there, no_such, nothing, removes_one, ring-counted, ring-placed, turn}
+use Rattle.grs_world.proofs.run.InRing.{went_on}
 use Rattle.grs_world.proofs.run.Removals.{taken_out}
 use Rattle.grs_world.proofs.run.Runs.{GoodTold, GoodWorld, told-after, told-counted}
 use Rattle.grs_world.proofs.run.Sound.{came_tells, first_good, first_good_told, first_message, good_came, good_counted}
@@ -36,6 +36,7 @@ use Rattle.grs_world.specs.Agree.{Sound}
 use Rattle.grs_world.specs.Decks.{FitsStar, may_be_star, orders_star}
 use Rattle.grs_world.specs.World.{Turnout, World, chosen, first_world, fixed_by, happens, placed, run}
 use Rattle.rsa_message.specs.Message.{Message, never_opened, opened}
+use Rattle.grs_world.proofs.run.Site.{at_site}
 
 -- What holds of the world w after these events: the medium is in ring mode, or it was changed to star mode.
 pub data GoodRun (deck : Deck) (es : List Event) (w : World) : Type 0 where
@@ -50,7 +51,7 @@ home-shown deck w g s n at alive = by_shown (g.shown s n at alive).0 n (g.shown 
   where
     by_shown : (k m : NodeState) → slice_get g.view s ≡ Some k
         → Shown deck s (items w.fixed) (g.before s) (g.due s) g.since (g.whole.out s) k m → m.tasks.system ≡ s
-    by_shown k m there (has_changed none) = (g.whole.system s k there alive).at.good.system
+    by_shown k m there (has_changed none) = (g.whole.system s k (at_site there alive)).at.good.system
     by_shown k m there (waits_yet x h is empty) = h.seen.good.system
 
 module _ (deck : Deck) (fits : may_be_star deck ≡ true → FitsStar deck) (es : List Event) (e : Event) where

@@ -14,6 +14,7 @@ use Rattle.grs_node.specs.Node.{NodeState}
 use Rattle.grs_base.specs.declared.resource.SysId.{SysId}
 use Rattle.grs_base.specs.Limits.{most_systems}
 use Rattle.grs_known.specs.Items.{items}
+use Rattle.grs_world.proofs.run.Site.{at_site}
 
 module _ (deck : Deck) (some : 0 < deck.entries) (w : World) (g : IsChanging deck w) (c : SysId)
     (inside : c.0 < most_systems) (n : NodeState) (at : slice_get w.nodes c.0 ≡ Some n)
@@ -24,14 +25,14 @@ module _ (deck : Deck) (some : 0 < deck.entries) (w : World) (g : IsChanging dec
   pub star-moved : (choice : Choice) → IsMoved deck w c n (chosen deck w.medium c n choice)
   unfolding placed
   star-moved choice = record {
-    changing = goes (outcome deck some shown g.whole c inside n there unremoved choice step);
-    news = (outcome deck some shown g.whole c inside n there unremoved choice step).news;
+    changing = goes (outcome deck some shown g.whole c inside n (at_site there unremoved) choice step);
+    news = (outcome deck some shown g.whole c inside n (at_site there unremoved) choice step).news;
   }
     where
       step : IsStep deck (record w { nodes = g.view }) c n (chosen deck w.medium c n choice)
       step =
-          good_choice deck some (record w { nodes = g.view }) c inside n there unremoved g.whole.roles
-          (g.whole.roles.node c.0 n there unremoved) choice
+          good_choice deck some (record w { nodes = g.view }) c inside n (at_site there unremoved) g.whole.roles
+          (g.whole.roles.node c.0 n (at_site there unremoved)) choice
 
       goes : IsOutcome deck (record w { nodes = g.view }) g.whole c n (chosen deck w.medium c n choice)
           → IsChanging deck (placed w c n (chosen deck w.medium c n choice))

@@ -57,6 +57,7 @@ use Rattle.contention_mgr.specs.Manager.{items_of, managed_at, plain}
 use Rattle.grs_legal.specs.Asks.{lines_of}
 use Rattle.rsa_message.specs.Message.{turned_closed}
 use Rattle.grs_wire.specs.Unseen.{unseen}
+use Rattle.grs_world.proofs.run.Site.{Site, IsThere, at_site}
 
 -- who has behind some what it had before has nothing there
 nothing-behind : {X : Type 0} (xs ys : List X) → xs ++ ys ≡ xs → ys ≡ []
@@ -77,11 +78,11 @@ module _ (deck : Deck) (w : World) (g : IsChanging deck w) (c : SysId) (n : Node
   whole_now = g.rounds_are ∙ (ap (λ zs. zs ++ g.since) (g.parts c.0) ∙ append_assoc (g.before c.0) (g.due c.0) g.since)
 
   abbrev me : IsMember deck w.medium.words (all_lists (record w { nodes = g.view })) c.0 k
-  me = g.whole.roles.node c.0 k there unremoved
+  me = g.whole.roles.node c.0 k (at_site there unremoved)
 
   abbrev sys :
       IsSystem deck w.medium.words (items w.fixed) c.0 k (inbox w.medium c.0) (g.whole.later c.0) (g.whole.out c.0)
-  sys = g.whole.system c.0 k there unremoved
+  sys = g.whole.system c.0 k (at_site there unremoved)
 
   late-none : g.whole.later c.0 ≡ []
   late-none =
@@ -95,7 +96,7 @@ module _ (deck : Deck) (w : World) (g : IsChanging deck w) (c : SysId) (n : Node
       (waits : Waits deck c.0 T' (g.before c.0) (g.due c.0) g.since n')
       (rounds_now : rounds T' ≡ rounds (items w.fixed))
       (coming : (t : TaskId) → is_home_at deck c.0 t ≡ true → Coming t (blank false) T' (news_of (inbox w.medium c.0)))
-      (others : (s : ℕ) (j : NodeState) → s ≢ c.0 → slice_get g.view s ≡ Some j → has w.medium.removed s ≡ false
+      (others : (s : ℕ) (j : NodeState) → s ≢ c.0 → Site (record w { nodes = g.view }) s j
       → IsSystem deck w.medium.words T' s j (inbox w.medium s) (g.whole.later s) (g.whole.out s))
       (flags : ℕ) where
     abbrev k' : NodeState
@@ -176,7 +177,7 @@ module _ (deck : Deck) (w : World) (g : IsChanging deck w) (c : SysId) (n : Node
     roles-now : IsStar deck now
     unfolding placed
     roles-now =
-        let f = framed deck shown c k there unremoved g.whole.roles o_shown step in
+        let f = framed deck shown c k (at_site there unremoved) g.whole.roles o_shown step in
         record {
           mode = f.mode;
           words = f.words;
@@ -188,24 +189,24 @@ module _ (deck : Deck) (w : World) (g : IsChanging deck w) (c : SysId) (n : Node
           node = f.node;
         }
 
-    system-now : (s : ℕ) (j : NodeState) → slice_get (set g.view c.0 (viewed deck n' (g.due c.0))) s ≡ Some j
-        → has w.medium.removed s ≡ false
+    system-now : (s : ℕ) (j : NodeState)
+        → IsThere (set g.view c.0 (viewed deck n' (g.due c.0))) w.medium.removed s j
         → IsSystem deck w.medium.words (items (w.fixed ++ fixed_by c fs)) s j (inbox w.medium s) (g.whole.later s)
         (g.whole.out s)
-    system-now s j found live =
+    system-now s j v =
         subst (λ U. IsSystem deck w.medium.words U s j (inbox w.medium s) (g.whole.later s) (g.whole.out s)) (sym grown)
         (by_node g.view c.0 k k' there (λ u z.
         has w.medium.removed u ≡ false
         → IsSystem deck w.medium.words T' u z (inbox w.medium u) (g.whole.later u) (g.whole.out u))
-        (λ l. own) (λ u z ne f l. others u z ne f l) s j found live)
+        (λ l. own) (λ u z ne f l. others u z ne (at_site f l)) s j v.at v.live)
 
     hands-now : (m : ℕ) (j : NodeState) (p : StarPart)
-        → slice_get (set g.view c.0 (viewed deck n' (g.due c.0))) m ≡ Some j → has w.medium.removed m ≡ false
+        → IsThere (set g.view c.0 (viewed deck n' (g.due c.0))) w.medium.removed m j
         → j.star ≡ Some p
         → Hands deck w.medium.words
         (λ s. lives (length (set g.view c.0 (viewed deck n' (g.due c.0)))) w.medium.removed s) g.whole.later g.whole.out
         m (in_hands p (inbox w.medium m))
-    hands-now m j p found live star =
+    hands-now m j p v star =
         subst (λ (count : ℕ).
         Hands deck w.medium.words (λ s. lives count w.medium.removed s) g.whole.later g.whole.out m
         (in_hands p (inbox w.medium m)))
@@ -214,8 +215,8 @@ module _ (deck : Deck) (w : World) (g : IsChanging deck w) (c : SysId) (n : Node
         has w.medium.removed u ≡ false → (q : StarPart) → z.star ≡ Some q
         → Hands deck w.medium.words (are_live (record w { nodes = g.view })) g.whole.later g.whole.out u
         (in_hands q (inbox w.medium u)))
-        (λ l q e. g.whole.hands c.0 k q there l (sym same-star ∙ e)) (λ u z ne f l q e. g.whole.hands u z q f l e) m j
-        found live p star)
+        (λ l q e. g.whole.hands c.0 k q (at_site there l) (sym same-star ∙ e))
+        (λ u z ne f l q e. g.whole.hands u z q (at_site f l) e) m j v.at v.live p star)
 
     pub waiting-moved : IsChanging deck (placed w c n o)
     unfolding placed
@@ -259,7 +260,7 @@ module _ (deck : Deck) (w : World) (g : IsChanging deck w) (c : SysId) (n : Node
       (placed w c n (record { medium = record w.medium { rest = flags }; step = record { node = n'; fixed = fs } }))
   same-moved n' flags waits fs none =
       waiting-moved n' fs T (ap (λ zs. items (w.fixed ++ fixed_by c zs)) none ∙ items-none w.fixed c) g.whole.right
-      none_fixed (λ e. refl) g.whole.near waits refl coming-now (λ s j ne found live. g.whole.system s j found live)
+      none_fixed (λ e. refl) g.whole.near waits refl coming-now (λ s j ne found. g.whole.system s j found)
       flags
 
   -- ---- nothing happens but to a flag of rest
@@ -365,8 +366,8 @@ module _ (deck : Deck) (w : World) (g : IsChanging deck w) (c : SysId) (n : Node
                   local-calm deck w.medium.words c.0 v f (inbox w.medium c.0) alone sys.fits,
                 ))
                 u home_u))
-                (λ s j ne found live.
-                others-item deck shown g.whole c k there unremoved f follow s j ne found live)
+                (λ s j ne found.
+                others-item deck shown g.whole c k (at_site there unremoved) f follow s j ne found)
                 w.medium.rest;
             news =
                 tells_tasks (subst (λ U.

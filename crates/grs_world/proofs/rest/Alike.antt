@@ -19,6 +19,7 @@ use Rattle.grs_world.proofs.star.Members.{all_lists}
 use Rattle.grs_world.proofs.star.Worlds.{in_hands}
 use Rattle.grs_world.specs.World.{World}
 use Rattle.grs_wire.specs.Masks.{has}
+use Rattle.grs_world.proofs.run.Site.{at_site}
 
 -- a system stood like this, with the same part and the same on record
 pub record IsBack (deck : Deck) (w : World) (s : ℕ) (k' : NodeState) : Type 0 where
@@ -46,26 +47,24 @@ pub record SameShown (deck : Deck) (w w' : World) : Type 0 where
 module _ (deck : Deck) (w w' : World) (z : SameShown deck w w') where
   hands-alike : (t : TaskId) → IsInHands w t → IsInHands w' t
   hands-alike t i =
-      let f = z.forth i.system i.node i.at i.live in
+      let f = z.forth i.system i.node i.site.at i.site.live in
       record {
         system = i.system;
         node = f.node;
         part = i.part;
-        at = f.at;
-        live = ap (λ m. has m i.system) z.removed ∙ i.live;
+        site = at_site f.at (ap (λ m. has m i.system) z.removed ∙ i.site.live);
         star = f.star ∙ i.star;
         among = ap (λ ms. is_among t (askers (in_hands i.part ms))) (z.boxes i.system) ∙ i.among;
       }
 
   untold-alike : (s : ℕ) (t : TaskId) (r : Res) → IsUntold w s t r → IsUntold w' s t r
   untold-alike s t r i =
-      let f = z.forth i.system i.node i.at i.live in
+      let f = z.forth i.system i.node i.site.at i.site.live in
       record {
         system = i.system;
         node = f.node;
         part = i.part;
-        at = f.at;
-        live = ap (λ m. has m i.system) z.removed ∙ i.live;
+        site = at_site f.at (ap (λ m. has m i.system) z.removed ∙ i.site.live);
         star = f.star ∙ i.star;
         apart = i.apart;
         untold = i.untold;
@@ -80,19 +79,19 @@ module _ (deck : Deck) (w w' : World) (z : SameShown deck w w') where
       →
       IsHeard deck w sent had → IsHeard deck w' sent' had'
   heard-alike sent sent' had had' less more h = record {
-    requests = λ s k' t at live home e. let l = was s live in
-        let b = z.back s k' at l in
-        by-request s t (h.requests s b.node t b.at l home (less s t l home e));
-    owners = λ s k' t r at live home wide own. let l = was s live in let b = z.back s k' at l in
-        by-owner s k' t r b home wide (λ e. more s k' t r at l home wide e)
-        (h.owners s b.node t r b.at l home wide (ap (λ es. owns es t) (sym (z.lists r wide)) ∙ own));
-    recorded = λ s k' t r at live home wide has_it. let l = was s live in let b = z.back s k' at l in
+    requests = λ s k' t v home e. let l = was s v.live in
+        let b = z.back s k' v.at l in
+        by-request s t (h.requests s b.node t (at_site b.at l) home (less s t l home e));
+    owners = λ s k' t r v home wide own. let l = was s v.live in let b = z.back s k' v.at l in
+        by-owner s k' t r b home wide (λ e. more s k' t r v.at l home wide e)
+        (h.owners s b.node t r (at_site b.at l) home wide (ap (λ es. owns es t) (sym (z.lists r wide)) ∙ own));
+    recorded = λ s k' t r v home wide has_it. let l = was s v.live in let b = z.back s k' v.at l in
         by-record s k' t r b home wide
-        (h.recorded s b.node t r b.at l home wide (ap (λ es. has_task es t) (sym (z.lists r wide)) ∙ has_it));
+        (h.recorded s b.node t r (at_site b.at l) home wide (ap (λ es. has_task es t) (sym (z.lists r wide)) ∙ has_it));
     mails = λ s. subst (AreAddressed deck) (sym (z.boxes s)) (h.mails s);
-    ranks = λ m k' p e x at live star managed. let l = was m live in
-        let b = z.back m k' at l in
-        let low = h.ranks m b.node p e x b.at l (sym b.star ∙ star) managed in
+    ranks = λ m k' p e x v star managed. let l = was m v.live in
+        let b = z.back m k' v.at l in
+        let low = h.ranks m b.node p e x (at_site b.at l) (sym b.star ∙ star) managed in
         let more = z.count in
         omega (arith, low, more);
   }

@@ -47,6 +47,7 @@ use Rattle.grs_world.proofs.star.Members.{IsStep}
 use Rattle.grs_world.proofs.star.Sound.{outcome}
 use Rattle.grs_world.proofs.star.steps.Outcome.{IsOutcome}
 use Rattle.grs_world.specs.World.{Turnout, World, chosen, counted, fixed_by, placed}
+use Rattle.grs_world.proofs.run.Site.{at_site}
 
 -- ---- what was sent and told, by the systems: who hasn't changed has sent nothing, and is to be told what its table
 -- says
@@ -144,11 +145,11 @@ module _ (deck : Deck) (w : World) (g : IsChanging deck w) (h : IsRestful deck w
 
     step : IsStep deck (record w { nodes = g.view }) c n (chosen deck w.medium c n choice)
     step =
-        good_choice deck some (record w { nodes = g.view }) c inside n there alive g.whole.roles
-        (g.whole.roles.node c.0 n there alive) choice
+        good_choice deck some (record w { nodes = g.view }) c inside n (at_site there alive) g.whole.roles
+        (g.whole.roles.node c.0 n (at_site there alive)) choice
 
     out : IsOutcome deck (record w { nodes = g.view }) g.whole c n (chosen deck w.medium c n choice)
-    out = outcome deck some (record w { nodes = g.view }) g.whole c inside n there alive choice step
+    out = outcome deck some (record w { nodes = g.view }) g.whole c inside n (at_site there alive) choice step
 
     changed : (chosen deck w.medium c n choice).step.node.star ≡ None → ⊥
     changed none = absurd (let no : Some step.member.part ≡ None = sym step.member.star ∙ none in cc)

@@ -47,6 +47,7 @@ use Rattle.grs_world.proofs.star.Worlds.{in_hands}
 use Rattle.grs_world.proofs.system.AtNode.{opens_of}
 use Rattle.grs_world.specs.Running.{at_rest, none_pending}
 use Rattle.grs_world.specs.World.{World}
+use Rattle.grs_world.proofs.run.Site.{at_site}
 
 -- ---- nothing is pending
 others-pass : (k removed : ℕ) (test : ℕ → Bool) (s : ℕ) → all_others k removed test ≡ true → s < k
@@ -172,15 +173,16 @@ module _ (deck : Deck) (w : World) (g : IsChanging deck w) (h : IsRestful deck w
 
   no-hands : (t : TaskId) → IsInHands (record w { nodes = g.view }) t → ⊥
   no-hands t i =
-      let at : slice_get w.nodes i.system ≡ Some i.node = view-nodes i.system i.live ∙ i.at in
-      let p = part-here i.system i.node at i.live in
+      let at : slice_get w.nodes i.system ≡ Some i.node = view-nodes i.system i.site.live ∙ i.site.at in
+      let p = part-here i.system i.node at i.site.live in
       let same : p.0 ≡ i.part = same_Some p.0 i.part (sym p.1 ∙ i.star) in
       let held : i.part.held ≡ [] =
       ap (λ (q : StarPart). q.held) (sym same)
       ∙ no_length p.0.held
-      (by_not (length p.0.held == 0) (or_parts (not (length p.0.held == 0)) _ (parts i.system i.node at i.live).2).0) in
+      (by_not (length p.0.held == 0)
+      (or_parts (not (length p.0.held == 0)) _ (parts i.system i.node at i.site.live).2).0) in
       absurd (let no : is_among t (askers (in_hands i.part [])) ≡ true =
-      ap (λ ms. is_among t (askers (in_hands i.part ms))) (sym (box-none i.system i.node at i.live)) ∙ i.among in
+      ap (λ ms. is_among t (askers (in_hands i.part ms))) (sym (box-none i.system i.node at i.site.live)) ∙ i.among in
       let none : is_among t (askers ([] ++ [])) ≡ true = ap (λ qs. is_among t (askers (qs ++ []))) (sym held) ∙ no in
       cc)
     where
@@ -190,16 +192,16 @@ module _ (deck : Deck) (w : World) (g : IsChanging deck w) (h : IsRestful deck w
 
   no-untold : (s : ℕ) (t : TaskId) (r : Res) → t.system.0 ≡ s → IsUntold (record w { nodes = g.view }) s t r → ⊥
   no-untold s t r home i =
-      let at : slice_get w.nodes i.system ≡ Some i.node = view-nodes i.system i.live ∙ i.at in
-      let p = part-here i.system i.node at i.live in
+      let at : slice_get w.nodes i.system ≡ Some i.node = view-nodes i.system i.site.live ∙ i.site.at in
+      let p = part-here i.system i.node at i.site.live in
       let same : p.0 ≡ i.part = same_Some p.0 i.part (sym p.1 ∙ i.star) in
-      let member = g.whole.roles.node i.system i.node i.at i.live in
+      let member = g.whole.roles.node i.system i.node i.site in
       let mine : member.part ≡ i.part = same_Some member.part i.part (sym member.star ∙ i.star) in
       let at_home : i.part.manager.system.0 ≡ i.system =
       ap (λ (q : StarPart). q.manager.system.0) (sym mine) ∙ member.fits.home in
       let told : any_untold_at i.part.manager.system.0 i.part.manager.entries ≡ false =
       subst (λ (q : StarPart). any_untold_at q.manager.system.0 q.manager.entries ≡ false) same
-      (or_parts (not (length p.0.held == 0)) _ (parts i.system i.node at i.live).2).1 in
+      (or_parts (not (length p.0.held == 0)) _ (parts i.system i.node at i.site.live).2).1 in
       untold-none i.part.manager.system.0 r t (λ e. i.apart (sym at_home ∙ (sym e ∙ home)))
       (items_of (managed_of i.part.manager r)) (untold-for i.part.manager.system.0 i.part.manager.entries _ told)
       i.untold
@@ -212,7 +214,7 @@ module _ (deck : Deck) (w : World) (g : IsChanging deck w) (h : IsRestful deck w
 
   module _ (s : ℕ) (n : NodeState) (at : slice_get w.nodes s ≡ Some n) (alive : has w.medium.removed s ≡ false) where
     sys : IsSystem deck w.medium.words (items w.fixed) s n (inbox w.medium s) (g.whole.later s) (g.whole.out s)
-    sys = g.whole.system s n (there s n at alive) alive
+    sys = g.whole.system s n (at_site (there s n at alive) alive)
 
     unsent : (t : TaskId) (ls : List Meaning) → IsOurs deck s n.tasks t ls
         → is_unsent (state_of n.tasks t).phase ≡ false
@@ -220,7 +222,7 @@ module _ (deck : Deck) (w : World) (g : IsChanging deck w) (h : IsRestful deck w
       where
         not-sent : (is_sent (state_of n.tasks t).phase ≡ true) → ⊥
         not-sent e =
-            by-request (H.requests s n t (there s n at alive) alive (ours-home deck s n.tasks t ls ours)
+            by-request (H.requests s n t (at_site (there s n at alive) alive) (ours-home deck s n.tasks t ls ours)
             (ap (λ o. sent_in o t) at ∙ (sent-star n (part-here s n at alive).0 t (part-here s n at alive).1 ∙ e)))
           where
             by-request : IsInHands (record w { nodes = g.view }) t ⊎ (list_any (is_timely t) (inbox w.medium s) ≡ true)
@@ -264,7 +266,8 @@ module _ (deck : Deck) (w : World) (g : IsChanging deck w) (h : IsRestful deck w
 
         go : (b : Bool) → is_systems r ≡ b → is_marked r (state_of n.tasks t).records ≡ true
         go true wide =
-            by-owner (H.owners s n t r (there s n at alive) alive (ours-home deck s n.tasks t ls ours) wide own)
+            by-owner (H.owners s n t r (at_site (there s n at alive) alive) (ours-home deck s n.tasks t ls ours) wide
+            own)
         go false narrow =
             let here : is_res_of s r ≡ true =
             subst (λ i. is_res_of i r ≡ true) ours.home

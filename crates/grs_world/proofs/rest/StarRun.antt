@@ -115,11 +115,11 @@ module _ (deck : Deck) (star : deck.star ≡ true) where
         absurd (first-star deck s star (ap (λ (k : NodeState). k.star) (sym (first_of deck s n at)) ∙ none));
     read = λ s n at live none. read_at s n at;
     heard = λ g. record {
-      requests = λ s n t at live home e. absurd (unsent-first s t e);
-      owners = λ s n t r at live home wide own. absurd (none-owns t r own);
-      recorded = λ s n t r at live home wide has_it. absurd (none-has t r has_it);
+      requests = λ s n t v home e. absurd (unsent-first s t e);
+      owners = λ s n t r v home wide own. absurd (none-owns t r own);
+      recorded = λ s n t r v home wide has_it. absurd (none-has t r has_it);
       mails = λ s. subst (AreAddressed deck) (sym (first-boxes deck s)) tt;
-      ranks = λ m k p e x at live has_part managed. absurd (first-view g m k p e x at live has_part managed);
+      ranks = λ m k p e x v has_part managed. absurd (first-view g m k p e x v.at v.live has_part managed);
     };
   }
     where

@@ -280,19 +280,19 @@ module _ (deck : Deck) (some : 0 < deck.entries) (few : length deck.systems ≤ 
       (had_of deck w.medium.message.entries (set w.nodes c.0 (switched deck n)))
   unfolding placed closed_by
   heard-begun g' = record {
-    requests = λ s x t f l home e. absurd (sent-none s t home e);
-    owners = λ s x t r f l home wide own. let z = node-of deck (placed w c n o) g' s x f l in
+    requests = λ s x t v home e. absurd (sent-none s t home e);
+    owners = λ s x t r v home wide own. let z = node-of deck (placed w c n o) g' s x v.at v.live in
         inl (ap (λ y. had_in deck es s y t r) z.1
-        ∙ had-all s z.0 z.1 l t r home wide (ap (λ U. owns (list_of (lists U) r) t) (sym same) ∙ own));
-    recorded = λ s x t r f l home wide has_it. let z = node-of deck (placed w c n o) g' s x f l in
-        let a = arrives-shown s z.0 z.1 l in
+        ∙ had-all s z.0 z.1 v.live t r home wide (ap (λ U. owns (list_of (lists U) r) t) (sym same) ∙ own));
+    recorded = λ s x t r v home wide has_it. let z = node-of deck (placed w c n o) g' s x v.at v.live in
+        let a = arrives-shown s z.0 z.1 v.live in
         inl (arriving-has s x a.0 (subst (λ y. IsArriving deck s P y a.0) (sym z.2) a.1) t r home wide
         (ap (λ U. has_task (list_of (lists U) r) t) (sym same) ∙ has_it));
     mails = λ s. subst (AreAddressed deck) (sym (no_box s)) tt;
-    ranks = λ s x p e y f l star managed. let z = node-of deck (placed w c n o) g' s x f l in
-        let a = arrives-shown s z.0 z.1 l in
+    ranks = λ s x p e y v star managed. let z = node-of deck (placed w c n o) g' s x v.at v.live in
+        let a = arrives-shown s z.0 z.1 v.live in
         subst (λ U. y.next ≤ suc (enq_count U)) (sym same)
-        (arriving-ranks s x a.0 (subst (λ v. IsArriving deck s P v a.0) (sym z.2) a.1) p e y star managed);
+        (arriving-ranks s x a.0 (subst (λ q. IsArriving deck s P q a.0) (sym z.2) a.1) p e y star managed);
   }
 
   pub restful-begun :

@@ -17,6 +17,7 @@ use Rattle.grs_world.proofs.move.Moved.{alive as lives-on}
 use Rattle.grs_world.proofs.move.Waiting.{comes-to}
 use Rattle.grs_world.specs.World.{World}
 use Rattle.grs_wire.specs.Masks.{has}
+use Rattle.grs_world.proofs.run.Site.{at_site}
 
 -- ---- lists
 pub past-none : {X : Type 0} (xs : List X) (i : ℕ) → length xs ≤ i → slice_get xs i ≡ None
@@ -56,7 +57,7 @@ module _ (deck : Deck) (w : World) (g : IsChanging deck w) where
         by_shown k m here there (has_changed none) =
             there
             ∙ ap (λ (z : NodeState). Some z) (sym (shown-star deck w.medium.message.entries s k
-            (g.whole.roles.node s k there alive).part (g.whole.roles.node s k there alive).star))
+            (g.whole.roles.node s k (at_site there alive)).part (g.whole.roles.node s k (at_site there alive)).star))
         by_shown k m here there (waits_yet x h is empty) =
             let done : change_to_star deck (read_by deck w.medium.message.entries s x) ≡ k =
             comes-to deck w g (system_of s) x here alive k there h is empty
@@ -111,8 +112,8 @@ module _ (deck : Deck) (w : World) (g : IsChanging deck w) where
           → Shown deck s (items w.fixed) (g.before s) (g.due s) g.since (g.whole.out s) k m → m.star ≡ None
           → IsWaitingHere s m
       by_shown k m there (has_changed none) alone =
-          absurd (let no : Some (g.whole.roles.node s k there alive).part ≡ None =
-          sym (g.whole.roles.node s k there alive).star ∙ alone in
+          absurd (let no : Some (g.whole.roles.node s k (at_site there alive)).part ≡ None =
+          sym (g.whole.roles.node s k (at_site there alive)).star ∙ alone in
           cc)
       by_shown k m there (waits_yet x h is empty)
           alone = record { shows = k; there = there; waits = h; is = is; empty = empty }

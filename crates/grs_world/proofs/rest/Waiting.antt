@@ -37,6 +37,7 @@ use Rattle.grs_world.proofs.system.AtNode.{QuietStep, Seen, fixes, keeps}
 use Rattle.grs_world.proofs.system.Quiet.{quiet}
 use Rattle.grs_world.specs.World.{Turnout, World, fixed_by, placed}
 use Rattle.grs_wire.specs.Masks.{has}
+use Rattle.grs_world.proofs.run.Site.{at_site}
 
 -- ---- its desk is told
 pub desk-shared : (n : NodeState) (said : Said) → (desk_told n said).shared ≡ n.shared
@@ -94,7 +95,8 @@ module _ (deck : Deck) (w : World) (g : IsChanging deck w) (h : IsRestful deck w
           → list_of (after_fixed s f) r ≡ list_of s r
       elsewhere s r wide (fixing.Asked q) away =
           list_of-want_other s q.task q.want r (other-kind deck (record w { nodes = g.view }) g.whole c
-          (shown_at deck w.medium.message.entries c.0 n) (view-of deck w g c.0 n at alive) alive q.want r wide away)
+          (shown_at deck w.medium.message.entries c.0 n) (at_site (view-of deck w g c.0 n at alive) alive) q.want r wide
+          away)
       elsewhere s r wide (fixing.LocalLook u filter) away = refl
       elsewhere s r wide (fixing.Purged target) away = absurd (cc)
 

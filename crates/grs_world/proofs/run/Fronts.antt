@@ -34,6 +34,7 @@ use Rattle.grs_world.specs.Running.{is_live}
 use Rattle.grs_node.specs.Star.{StarPart}
 use Rattle.grs_wire.specs.Masks.{has, lives}
 use Rattle.std.proofs.lemmas.Bool.{and_parts, not-true}
+use Rattle.grs_world.proofs.run.Site.{at_site}
 
 -- ---- fronts by number
 -- The items that went with the message before this number are so many first ones.
@@ -169,8 +170,8 @@ tables_fronts deck fits es s n at keeps = by_run (every_run deck fits es)
         → Shown deck s.0 (items (run deck es).fixed) (g.before s.0) (g.due s.0) g.since (g.whole.out s.0) k m
         → m.shared ≡ systems_part (replay deck.limit (answered (processed (run deck es) s)))
     by_shown g k m here none there (has_changed z) =
-        absurd (let e : None ≡ Some (g.whole.roles.node s.0 k there unremoved).part =
-        sym none ∙ (g.whole.roles.node s.0 k there unremoved).star in
+        absurd (let e : None ≡ Some (g.whole.roles.node s.0 k (at_site there unremoved)).part =
+        sym none ∙ (g.whole.roles.node s.0 k (at_site there unremoved)).star in
         cc)
     by_shown g k m here none there (waits_yet x h is empty) =
         table_is deck w g.whole.right g.before g.log g.since (g.due s.0) s x g.rounds_are (g.parts s.0)

@@ -71,10 +71,10 @@ use Rattle.grs_wire.specs.declared.told.Said.TheVariants as saids
 use Rattle.grs_wire.specs.declared.told.Told.{Told}
 use Rattle.std.proofs.lemmas.Option.{slice_get_within}
 use Rattle.grs_world.proofs.run.InRing.{CameInRing, IsRing, changed, each_in_ring, informed, live-there, no_such}
-use Rattle.grs_world.proofs.run.InRing.{nothing}
-use Rattle.grs_world.proofs.run.InRing.{removes_one, turn, went_on}
+use Rattle.grs_world.proofs.run.InRing.{nothing, removes_one, turn, went_on}
 use Rattle.grs_world.proofs.run.Removals.{taken_out}
 use Rattle.grs_world.proofs.run.Sound.{removed-told}
+use Rattle.grs_world.proofs.run.Site.{at_site}
 
 -- ---- the entries of the message, one of them
 home_of : (before behind : List RingEntry) (e : RingEntry) → AllHome (before ++ e ∷ behind) → IsHome e.from e.body
@@ -402,8 +402,8 @@ module _ (deck : Deck) (begins : deck.star ≡ false) (fits : may_be_star deck �
           by_shown k m here there (has_changed none) =
               let o : Turnout = chosen deck w.medium e.system k e.choice in
               let step : IsStep deck (record w { nodes = g.view }) e.system k o =
-              good_choice deck some (record w { nodes = g.view }) e.system (inside k here) k there unremoved
-              g.whole.roles (g.whole.roles.node s k there unremoved) e.choice in
+              good_choice deck some (record w { nodes = g.view }) e.system (inside k here) k
+              (at_site there unremoved) g.whole.roles (g.whole.roles.node s k (at_site there unremoved)) e.choice in
               let rest : (t : TaskId) → t.system.0 ≡ s
               → Last t = λ t home.
               at_rest k (lives_at k here) (g.due s) (given_star (lives_at k here)) t home

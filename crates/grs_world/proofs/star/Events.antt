@@ -1,7 +1,7 @@
 -- Each event of a system in star mode keeps what is said of words, roles and lists.
 use Rattle.std.proofs.Common.{◌≡◌, ◌≢◌, ◌<◌, ℕ, Bool, true, false, cond, not, ◌&&◌, ◌||◌, List, [], ◌∷◌, ◌++◌, length}
 use Rattle.std.proofs.Common.{Option, Some, None, refl, ap, sym, ◌∙◌, subst, arith}
-use Rattle.std.specs.Prelude.{drop, ◌==◌, is_some, slice_get, unwrap_or}
+use Rattle.std.specs.Prelude.{drop, ◌==◌, is_some, unwrap_or}
 use Rattle.std.specs.List.{list_any}
 use Rattle.std.proofs.lemmas.Bool.{and_parts, eqb-true, eq-eqb, ne_eqb}
 use Rattle.std.proofs.lemmas.List.{length-set}
@@ -23,7 +23,6 @@ use Rattle.grs_node.specs.Star.{answer_for, rank_of, may_leave, is_busy_in, is_d
 use Rattle.grs_node.specs.Star.{begun, with_held, took_mail, settled_first, told_by, left_at}
 use Rattle.lock_structure.specs.Entries.{is_entry}
 use Rattle.grs_wire.specs.LockWords.{manager, is_manager, leave_reply, interest}
-use Rattle.grs_wire.specs.Masks.{has}
 use Rattle.grs_wire.specs.Wants.{after_want}
 use Rattle.grs_wire.specs.declared.deck.Choice.{Choice}
 use Rattle.grs_wire.specs.declared.deck.Deck.{Deck}
@@ -57,10 +56,10 @@ use Rattle.grs_world.proofs.run.Came.{rejoined, no_part, no_such, nothing, refus
 use Rattle.grs_world.proofs.run.Came.{took, turn, went_on, Result}
 use Rattle.std.proofs.lemmas.Option.{same_Some}
 use Rattle.grs_world.proofs.run.Chosen.{came}
+use Rattle.grs_world.proofs.run.Site.{Site}
 
 module _ (deck : Deck) (some : 0 < deck.entries) (w : World) (c : SysId) (few : c.0 < most_systems) (n : NodeState)
-    (at : slice_get w.nodes c.0 ≡ Some n) (alive : has w.medium.removed c.0 ≡ false) (g : IsStar deck w)
-    (me : IsMember deck w.medium.words (all_lists w) c.0 n) where
+    (at : Site w c.0 n) (g : IsStar deck w) (me : IsMember deck w.medium.words (all_lists w) c.0 n) where
   abbrev words : List ℕ
   words = w.medium.words
 
@@ -551,4 +550,4 @@ module _ (deck : Deck) (some : 0 < deck.entries) (w : World) (c : SysId) (few : 
       (subst (λ z. Acts deck w.medium c n z choice b o) (same_Some q me.part (sym is ∙ me.star)) acts)
 
   pub good_choice : (choice : Choice) → IsStep deck w c n (chosen deck w.medium c n choice)
-  good_choice choice = good_came choice _ _ (came deck w.medium c n alive choice)
+  good_choice choice = good_came choice _ _ (came deck w.medium c n at.live choice)

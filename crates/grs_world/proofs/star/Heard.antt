@@ -2,7 +2,7 @@
 -- of each owner, that its system knows that it owns, or that this comes to it, or that its manager has still to tell
 -- it. So nothing is lost.
 use Rattle.std.specs.Prelude.{◌≡◌, ◌≢◌, ◌<◌, ◌≤◌, ◌⊎◌, ℕ, suc, Bool, true, false, cond, not, ◌&&◌, ◌||◌, nat_le, List}
-use Rattle.std.specs.Prelude.{[], ◌∷◌, ◌++◌, length, filter, Some, slice_get}
+use Rattle.std.specs.Prelude.{[], ◌∷◌, ◌++◌, length, filter, Some}
 use Rattle.std.specs.List.{list_any}
 use Rattle.contention_mgr.specs.Manager.{Managed, is_of, items_of, managed_at, managed_of, entry_wanted}
 use Rattle.grs_base.specs.Limits.{last_number}
@@ -35,7 +35,7 @@ use Rattle.grs_world.proofs.rest.Marks.{is_marked}
 use Rattle.grs_world.proofs.star.Members.{all_lists}
 use Rattle.grs_world.proofs.star.Worlds.{in_hands}
 use Rattle.grs_world.specs.World.{World, Turnout, fixed_by, placed}
-use Rattle.grs_wire.specs.Masks.{has}
+use Rattle.grs_world.proofs.run.Site.{Site}
 
 -- ---- how a system stands by itself
 -- whether a task of a system has sent its request, and whether its system told it control of a resource
@@ -82,8 +82,7 @@ pub record IsInHands (w : World) (t : TaskId) : Type 0 where
   pub system : ℕ
   pub node : NodeState
   pub part : StarPart
-  pub at : slice_get w.nodes system ≡ Some node
-  pub live : has w.medium.removed system ≡ false
+  pub site : Site w system node
   pub star : node.star ≡ Some part
   pub among : is_among t (askers (in_hands part (inbox w.medium system))) ≡ true
 
@@ -92,8 +91,7 @@ pub record IsUntold (w : World) (s : ℕ) (t : TaskId) (r : Res) : Type 0 where
   pub system : ℕ
   pub node : NodeState
   pub part : StarPart
-  pub at : slice_get w.nodes system ≡ Some node
-  pub live : has w.medium.removed system ≡ false
+  pub site : Site w system node
   pub star : node.star ≡ Some part
   pub apart : system ≢ s
   pub untold : list_any (λ y. is_of r t y && y.untold) (items_of (managed_of part.manager r)) ≡ true
@@ -117,24 +115,23 @@ enq_count T = length (filter (λ x. is_enq x.fixed) T)
 -- `had` who was told control of what.
 pub record IsHeard (deck : Deck) (w : World) (sent : ℕ → TaskId → Bool) (had : ℕ → TaskId → Res → Bool) : Type 0 where
   -- a request that was sent is in somebody's hands, or its answer comes
-  pub requests : (s : ℕ) (n : NodeState) (t : TaskId) → slice_get w.nodes s ≡ Some n → has w.medium.removed s ≡ false
-      → is_home_at deck s t ≡ true → sent s t ≡ true →
+  pub requests : (s : ℕ) (n : NodeState) (t : TaskId) → Site w s n → is_home_at deck s t ≡ true → sent s t ≡ true →
       IsInHands w t ⊎ (list_any (is_timely t) (inbox w.medium s) ≡ true)
   -- an owner was told so, or hears it, or is still to be told
-  pub owners : (s : ℕ) (n : NodeState) (t : TaskId) (r : Res) → slice_get w.nodes s ≡ Some n
-      → has w.medium.removed s ≡ false → is_home_at deck s t ≡ true → is_systems r ≡ true
+  pub owners : (s : ℕ) (n : NodeState) (t : TaskId) (r : Res) → Site w s n → is_home_at deck s t ≡ true
+      → is_systems r ≡ true
       → owns (list_of (all_lists w) r) t ≡ true →
       (had s t r ≡ true)
       ⊎ ((hears t r (has_res r (state_of n.tasks t).records) (inbox w.medium s) ≡ true) ⊎ IsUntold w s t r)
   -- an element is on record, or the answer comes that makes its record
-  pub recorded : (s : ℕ) (n : NodeState) (t : TaskId) (r : Res) → slice_get w.nodes s ≡ Some n
-      → has w.medium.removed s ≡ false → is_home_at deck s t ≡ true → is_systems r ≡ true
+  pub recorded : (s : ℕ) (n : NodeState) (t : TaskId) (r : Res) → Site w s n → is_home_at deck s t ≡ true
+      → is_systems r ≡ true
       → has_task (list_of (all_lists w) r) t ≡ true →
       (has_res r (state_of n.tasks t).records ≡ true) ⊎ (list_any (is_timely t) (inbox w.medium s) ≡ true)
   pub mails : (s : ℕ) → AreAddressed deck (inbox w.medium s)
   -- no rank is past the number of requests that could queue an element
-  pub ranks : (m : ℕ) (k : NodeState) (p : StarPart) (e : ℕ) (x : Managed) → slice_get w.nodes m ≡ Some k
-      → has w.medium.removed m ≡ false → k.star ≡ Some p → managed_at p.manager e ≡ Some x
+  pub ranks : (m : ℕ) (k : NodeState) (p : StarPart) (e : ℕ) (x : Managed) → Site w m k → k.star ≡ Some p
+      → managed_at p.manager e ≡ Some x
       → x.next ≤ suc (enq_count (items w.fixed))
 
 -- where system c stands like this, and the others as said

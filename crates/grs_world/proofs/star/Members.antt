@@ -2,11 +2,11 @@
 -- an event of one system keeps it. In star mode no event removes a system.
 use Rattle.std.proofs.Common.{◌≡◌, ◌≢◌, ◌<◌, ℕ, Bool, true, false, List, [], ◌∷◌, ◌++◌, length, Option, Some, None}
 use Rattle.std.proofs.Common.{refl, ap, sym, ◌∙◌, subst}
-use Rattle.std.specs.Prelude.{set, slice_get, nat_lt, ◌==◌}
+use Rattle.std.specs.Prelude.{set, nat_lt}
 use Rattle.std.specs.List.{All}
-use Rattle.std.proofs.lemmas.Bool.{eqb-true, eqb-false, eq-eqb, lt-ltb}
+use Rattle.std.proofs.lemmas.Bool.{eqb-true, eq-eqb, lt-ltb}
 use Rattle.std.proofs.lemmas.List.{length-set}
-use Rattle.std.proofs.lemmas.Option.{slice_get_within, same_Some}
+use Rattle.std.proofs.lemmas.Option.{same_Some}
 use Rattle.grs_known.proofs.lists.Truths.{false_by, no_truth}
 use Rattle.grs_wire.specs.Masks.{has, lives}
 use Rattle.contention_mgr.specs.Laws.{AreWellKept}
@@ -23,10 +23,10 @@ use Rattle.lock_structure.specs.Laws.{IsManaged, is_interested, manager_at}
 use Rattle.grs_known.specs.Items.{lists, lists_from, items, items_from}
 use Rattle.grs_known.proofs.known.Histories.{items-append}
 use Rattle.grs_known.proofs.known.ItemLaws.{lists_from-append}
-use Rattle.grs_known.proofs.lists.Facts.{slice_get-set, slice_get-set_other}
 use Rattle.grs_world.specs.World.{World, Turnout, fixed_by, placed}
 use Rattle.grs_world.proofs.star.Under.{under}
 use Rattle.grs_known.proofs.lists.Alike.{Alike}
+use Rattle.grs_world.proofs.run.Site.{Site, site-below, each_site}
 
 -- whether a system manages an entry, by the words
 abbrev pub has_manager : List ℕ → ℕ → ℕ → Bool
@@ -97,8 +97,7 @@ pub record IsStar (deck : Deck) (w : World) : Type 0 where
       → (is_interested w.medium.words e s ≡ false) × (has_manager w.medium.words e s ≡ false)
   -- where there is no manager nothing is queued
   pub free : (e : ℕ) → manager_at w.medium.words e ≡ None → under deck.entries e (all_lists w) ≡ []
-  pub node : (s : ℕ) (n : NodeState) → slice_get w.nodes s ≡ Some n → has w.medium.removed s ≡ false
-      → IsMember deck w.medium.words (all_lists w) s n
+  pub node : (s : ℕ) (n : NodeState) → Site w s n → IsMember deck w.medium.words (all_lists w) s n
 
 -- What an event of system c does to words and lists: nothing to the others' interest and roles, and nothing to the
 -- lists of an entry that c doesn't manage.
@@ -157,8 +156,8 @@ member-other deck c words words' L L' u n ne m k = record {
     alone ws e h = false_by (has_manager ws e c) (λ mine. absurd (ne (one-manages ws e u c h mine)))
 
 -- the world after the event
-module _ (deck : Deck) (w : World) (c : SysId) (n : NodeState) (at : slice_get w.nodes c.0 ≡ Some n)
-    (alive : has w.medium.removed c.0 ≡ false) (g : IsStar deck w) (o : Turnout) (h : IsStep deck w c n o) where
+module _ (deck : Deck) (w : World) (c : SysId) (n : NodeState) (at : Site w c.0 n) (g : IsStar deck w) (o : Turnout)
+    (h : IsStep deck w c n o) where
   grown : all_lists (placed w c n o) ≡ lists_after (all_lists w) o.step.fixed
   unfolding placed
   grown = lists-grown w.fixed c o.step.fixed
@@ -167,25 +166,7 @@ module _ (deck : Deck) (w : World) (c : SysId) (n : NodeState) (at : slice_get w
   count = length-set w.nodes c.0 o.step.node
 
   here : c.0 < length w.nodes
-  here = slice_get_within w.nodes c.0 n at
-
-  node_at : (s : ℕ) (k : NodeState) → slice_get (set w.nodes c.0 o.step.node) s ≡ Some k
-      → has w.medium.removed s ≡ false → IsMember deck o.medium.words (lists_after (all_lists w) o.step.fixed) s k
-  node_at s k f live = go (s == c.0) refl
-    where
-      go : (b : Bool) → (s == c.0) ≡ b → IsMember deck o.medium.words (lists_after (all_lists w) o.step.fixed) s k
-      go true e =
-          let same : s ≡ c.0 = eqb-true s c.0 e in
-          let is : o.step.node ≡ k =
-          same_Some o.step.node k (sym (slice_get-set w.nodes c.0 n o.step.node at)
-          ∙ (ap (slice_get (set w.nodes c.0 o.step.node)) (sym same) ∙ f)) in
-          subst (λ (z : NodeState). IsMember deck o.medium.words (lists_after (all_lists w) o.step.fixed) s z) is
-          (subst (λ (z : ℕ). IsMember deck o.medium.words (lists_after (all_lists w) o.step.fixed) z o.step.node)
-          (sym same) h.member)
-      go false e =
-          let ne : s ≢ c.0 = eqb-false s c.0 e in
-          member-other deck c.0 w.medium.words o.medium.words (all_lists w) (lists_after (all_lists w) o.step.fixed) s k
-          ne h.moves (g.node s k (sym (slice_get-set_other w.nodes c.0 s o.step.node ne) ∙ f) live)
+  here = site-below w c.0 n at
 
   -- who isn't live now wasn't before, and is another system
   beyond : (s : ℕ) → lives (length (set w.nodes c.0 o.step.node)) o.medium.removed s ≡ false
@@ -196,7 +177,7 @@ module _ (deck : Deck) (w : World) (c : SysId) (n : NodeState) (at : slice_get w
       ∙ (ap (λ i. lives (length (set w.nodes c.0 o.step.node)) i s) (sym h.removed) ∙ gone) in
       let within : nat_lt c.0 (length w.nodes) ≡ true = lt-ltb c.0 (length w.nodes) here in (
         λ e.
-            no_truth (lives (length w.nodes) w.medium.removed c.0) (rw (within, alive) refl)
+            no_truth (lives (length w.nodes) w.medium.removed c.0) (rw (within, at.live) refl)
             (ap (lives (length w.nodes) w.medium.removed) (sym e) ∙ was),
         was,
       )
@@ -214,7 +195,12 @@ module _ (deck : Deck) (w : World) (c : SysId) (n : NodeState) (at : slice_get w
       h.moves.managers e s (beyond s past).0 ∙ (g.nobody e s (beyond s past).1).1,
     );
     free = λ e none. ap (under deck.entries e) grown ∙ h.moves.free e none;
-    node = λ s k f live.
-        subst (λ L. IsMember deck o.medium.words L s k) (sym grown)
-        (node_at s k f (sym (ap (λ i. has i s) h.removed) ∙ live));
+    node = λ s k u.
+        subst (λ L. IsMember deck o.medium.words L s k) (sym grown) (each_site w c n at o
+        (λ i l. sym (ap (λ z. has z i) h.removed) ∙ l)
+        (IsMember deck o.medium.words (lists_after (all_lists w) o.step.fixed)) h.member
+        (λ i z ne found.
+        member-other deck c.0 w.medium.words o.medium.words (all_lists w) (lists_after (all_lists w) o.step.fixed) i z
+        ne h.moves (g.node i z found))
+        s k u);
   }

@@ -30,6 +30,7 @@ use Rattle.grs_world.proofs.star.Members.{IsPart, IsMember, IsStar, has_manager,
 use Rattle.grs_world.proofs.star.Under.{in_entry, under, entry-same, list-under}
 use Rattle.grs_known.proofs.lists.Alike.{Alike, alike-itself}
 use Rattle.grs_world.proofs.run.InRing.{count_first}
+use Rattle.grs_world.proofs.run.Site.{at_site}
 
 -- ---- one event
 -- an event that is only counted
@@ -104,8 +105,8 @@ first_star deck star = record {
   nobody = λ e s past.
       (no_interest deck.entries e s, ap (λ o. is_manager o (record { 0 = s })) (no_manager deck.entries e));
   free = λ e none. refl;
-  node = λ s n f live.
-      subst (λ (k : NodeState). IsMember deck (replicate deck.entries 0) [] s k) (sym (first_is deck s n f))
+  node = λ s n v.
+      subst (λ (k : NodeState). IsMember deck (replicate deck.entries 0) [] s k) (sym (first_is deck s n v.at))
       (first_member deck s star);
 }
 
@@ -149,8 +150,8 @@ kept_lists deck w g s (Systems q r) all =
         → at_node deck w m (Some n) (Systems q r) ≡ list_of (all_lists w) (Systems q r)
     at_member m n at is =
         let k =
-        g.node m.0 n at
-        (not-true _ (and_parts (nat_lt m.0 (length w.nodes)) (not (has w.medium.removed m.0)) (lives_here m is)).1) in
+        g.node m.0 n (at_site at
+        (not-true _ (and_parts (nat_lt m.0 (length w.nodes)) (not (has w.medium.removed m.0)) (lives_here m is)).1)) in
         let mine : manages k.part x ≡ true = k.fits.roles x ∙ manager-here w.medium.words x m is in
         let entry : entry_of_res (length k.part.manager.entries) res ≡ Some x =
         ap (λ i. Some (entry_of (slice_of q r) i)) (k.fits.entries ∙ sym g.words) in

@@ -4,7 +4,6 @@ use Rattle.std.proofs.Common.{length, Option, Some, None, refl, ap, sym, ◌∙�
 use Rattle.std.specs.Prelude.{◌==◌, is_some, slice_get, unwrap_or}
 use Rattle.std.specs.List.{All}
 use Rattle.std.proofs.lemmas.Bool.{and_parts, eqb-true, eqb-false, eq-eqb, or_left, or_right}
-use Rattle.std.proofs.lemmas.List.{get_or-set_same, get_or-set_other}
 use Rattle.std.proofs.lemmas.Option.{slice_get_within, same_Some}
 use Rattle.contention_mgr.specs.Manager.{entry_wanted}
 use Rattle.lock_structure.specs.Entries.{entry_of_res}
@@ -70,6 +69,8 @@ use Rattle.grs_world.proofs.rest.StarTasks.{dated-by, keeps-decided, keeps-sent}
 use Rattle.grs_legal.specs.Asks.{lines_of}
 use Rattle.grs_world.proofs.star.Ghosts.{others-fix}
 use Rattle.grs_world.proofs.system.AtNode.{own_ask}
+use Rattle.grs_world.proofs.run.Site.{Site}
+use Rattle.grs_world.proofs.star.Boxes.{other-box, by_box}
 
 -- ---- the words grow
 -- By other words each manager manages what it did, and what matters to a system stays.
@@ -233,12 +234,11 @@ requests-push (Answered t a rank ∷ ms) e from q = requests-push ms e from q
 requests-push (Granted t r ∷ ms) e from q = requests-push ms e from q
 
 -- ---- A system c and a request of its task t, where the words become these.
-module _ (deck : Deck) (w : World) (g : IsWhole deck w) (c : SysId) (n : NodeState)
-    (at : slice_get w.nodes c.0 ≡ Some n) (alive : has w.medium.removed c.0 ≡ false) (words : List ℕ)
-    (grow : WordsGrow w.medium.words words) (flags : ℕ)
-    (t : TaskId) (ls : List Meaning) (ours : IsOurs deck c.0 n.tasks t ls) (home : is_home_at deck c.0 t ≡ true)
-    (a : Asked) (is : (state_of n.tasks t).outstanding ≡ Some a) (free : is_among t (askers (g.out c.0)) ≡ false)
-    (entry : ℕ) (of_entry : entry_wanted deck.entries a.req.want ≡ Some entry) where
+module _ (deck : Deck) (w : World) (g : IsWhole deck w) (c : SysId) (n : NodeState) (at : Site w c.0 n) (words : List ℕ)
+    (grow : WordsGrow w.medium.words words) (flags : ℕ) (t : TaskId) (ls : List Meaning)
+    (ours : IsOurs deck c.0 n.tasks t ls) (home : is_home_at deck c.0 t ≡ true) (a : Asked)
+    (is : (state_of n.tasks t).outstanding ≡ Some a) (free : is_among t (askers (g.out c.0)) ≡ false) (entry : ℕ)
+    (of_entry : entry_wanted deck.entries a.req.want ≡ Some entry) where
   abbrev T : List RunItem
   T = items w.fixed
 
@@ -255,11 +255,11 @@ module _ (deck : Deck) (w : World) (g : IsWhole deck w) (c : SysId) (n : NodeSta
       by_entry u None h = refl
       by_entry u (Some e) h = (grow.keeps u.system.0).near e h
 
-  system-grown : (s : ℕ) (k : NodeState) → slice_get w.nodes s ≡ Some k → has w.medium.removed s ≡ false
+  system-grown : (s : ℕ) (k : NodeState) → Site w s k
       → IsSystem deck words T s k (inbox w.medium s) (g.later s) (g.out s)
-  system-grown s k found lives =
+  system-grown s k found =
       system-words deck w.medium.words words T s k (inbox w.medium s) (g.later s) (g.out s) (grow.keeps s)
-      (g.system s k found lives)
+      (g.system s k found)
 
   -- ---- it goes to the manager of its entry
   module _ (interested : is_interested words entry c.0 ≡ true) (s : SysId)
@@ -280,15 +280,6 @@ module _ (deck : Deck) (w : World) (g : IsWhole deck w) (c : SysId) (n : NodeSta
 
     box_there : s.0 < length w.medium.inboxes
     box_there = let k = below in omega (arith, k, g.roles.systems, g.roles.inboxes)
-
-    its_box : (u : ℕ) → u ≡ s.0 → inbox sent_on u ≡ inbox w.medium u ++ mail ∷ []
-    its_box u same =
-        ap (inbox sent_on) same
-        ∙ (get_or-set_same w.medium.inboxes s.0 (inbox w.medium s.0 ++ mail ∷ []) [] box_there
-        ∙ ap (λ z. inbox w.medium z ++ mail ∷ []) (sym same))
-
-    other_box : (u : ℕ) → u ≢ s.0 → inbox sent_on u ≡ inbox w.medium u
-    other_box u ne = get_or-set_other w.medium.inboxes s.0 u (inbox w.medium s.0 ++ mail ∷ []) [] ne
 
     own_out : out' c.0 ≡ g.out c.0 ++ q ∷ []
     own_out = put_here g.out c.0 (g.out c.0 ++ q ∷ [])
@@ -312,69 +303,57 @@ module _ (deck : Deck) (w : World) (g : IsWhole deck w) (c : SysId) (n : NodeSta
         (inbox w.medium c.0) (g.later c.0) (g.out c.0 ++ q ∷ [])
     sender o =
         system-sent deck w.medium.words T g.right c.0 n (inbox w.medium c.0) (g.later c.0) (g.out c.0)
-        (g.system c.0 n at alive) t ls ours home a is free words o (grow.keeps c.0)
+        (g.system c.0 n at) t ls ours home a is free words o (grow.keeps c.0)
         (ap (near_at words c.0) of_entry ∙ interested)
 
     -- and it comes to the manager
-    others : (u : ℕ) (k : NodeState) → u ≢ c.0 → slice_get w.nodes u ≡ Some k → has w.medium.removed u ≡ false
+    others : (u : ℕ) (k : NodeState) → u ≢ c.0 → Site w u k
         → IsSystem deck words T u k (inbox sent_on u) (g.later u) (out' u)
-    others u k ne found lives =
+    others u k ne found =
         subst (λ qs. IsSystem deck words T u k (inbox sent_on u) (g.later u) qs) (sym (other_out u ne))
-        (go (u == s.0) refl)
-      where
-        go : (b : Bool) → (u == s.0) ≡ b → IsSystem deck words T u k (inbox sent_on u) (g.later u) (g.out u)
-        go true e =
-            subst (λ ms. IsSystem deck words T u k ms (g.later u) (g.out u)) (sym (its_box u (eqb-true u s.0 e)))
-            (system-requested deck words T u k (inbox w.medium u) (g.later u) (g.out u) (system-grown u k found lives)
-            entry c q)
-        go false e =
-            subst (λ ms. IsSystem deck words T u k ms (g.later u) (g.out u)) (sym (other_box u (eqb-false u s.0 e)))
-            (system-grown u k found lives)
+        (by_box w.medium.inboxes s.0 mail (λ ms. IsSystem deck words T u k ms (g.later u) (g.out u)) box_there u
+        (λ same.
+        system-requested deck words T u k (inbox w.medium u) (g.later u) (g.out u) (system-grown u k found) entry c q)
+        (λ ne. system-grown u k found))
 
     -- in whose hands it is now
     hand : IsHand deck words (are_live w) g.later out' s.0 q
     hand = record {
       apart = λ e. apart (sym e ∙ ours.home);
-      below = subst (λ i. are_live w i ≡ true) (sym ours.home) (live-here w c.0 n at alive);
+      below = subst (λ i. are_live w i ≡ true) (sym ours.home) (live-here w c.0 n at);
       among = subst (λ i. IsIn q (out' i)) (sym ours.home) (subst (IsIn q) (sym own_out) (in-last q (g.out c.0)));
-      idle = subst (λ i. mine t (g.later i) ≡ []) (sym ours.home) ((g.system c.0 n at alive).sent t free);
+      idle = subst (λ i. mine t (g.later i) ≡ []) (sym ours.home) ((g.system c.0 n at).sent t free);
       entry = entry;
       at = of_entry;
       managed = grow.managed entry s.0 managing;
     }
 
-    hands_grown : (m : ℕ) (k : NodeState) (v : StarPart) → slice_get w.nodes m ≡ Some k → has w.medium.removed m ≡ false
+    hands_grown : (m : ℕ) (k : NodeState) (v : StarPart) → Site w m k
         → k.star ≡ Some v → Hands deck words (are_live w) g.later out' m (in_hands v (inbox w.medium m))
-    hands_grown m k v found lives star =
+    hands_grown m k v found star =
         hands-grow deck w.medium.words words grow (are_live w) g.later g.out out' more_out m
-        (in_hands v (inbox w.medium m)) (g.hands m k v found lives star)
+        (in_hands v (inbox w.medium m)) (g.hands m k v found star)
 
-    hands_others : (m : ℕ) (k : NodeState) (v : StarPart) → slice_get w.nodes m ≡ Some k
-        → has w.medium.removed m ≡ false → k.star ≡ Some v
+    hands_others : (m : ℕ) (k : NodeState) (v : StarPart) → Site w m k → k.star ≡ Some v
         → Hands deck words (are_live w) g.later out' m (in_hands v (inbox sent_on m))
-    hands_others m k v found lives star = go (m == s.0) refl
-      where
-        go : (b : Bool) → (m == s.0) ≡ b → Hands deck words (are_live w) g.later out' m (in_hands v (inbox sent_on m))
-        go false e =
-            subst (λ ms. Hands deck words (are_live w) g.later out' m (in_hands v ms))
-            (sym (other_box m (eqb-false m s.0 e))) (hands_grown m k v found lives star)
-        go true e =
-            let same : m ≡ s.0 = eqb-true m s.0 e in
-            let h = hands_grown m k v found lives star in
-            let none_there =
-            not-handed deck w.medium.words (are_live w) g.later g.out t
-            (subst (λ i. is_among t (askers (g.out i)) ≡ false) (sym ours.home) free) m (in_hands v (inbox w.medium m))
-            (g.hands m k v found lives star).each in
-            subst (Hands deck words (are_live w) g.later out' m)
-            (sym (ap (in_hands v) (its_box m same)
-            ∙ (ap (λ zs. v.held ++ zs) (requests-push (inbox w.medium m) entry c q)
-            ∙ sym (append_assoc v.held (requests_in (inbox w.medium m)) (q ∷ [])))))
-            (record {
-              each =
-                  all-push deck words (are_live w) g.later out' m (in_hands v (inbox w.medium m)) q h.each
-                  (subst (λ i. IsHand deck words (are_live w) g.later out' i q) (sym same) hand);
-              apart = apart-push (in_hands v (inbox w.medium m)) q h.apart none_there;
-            })
+    hands_others m k v found star =
+        let h = hands_grown m k v found star in
+        by_box w.medium.inboxes s.0 mail (λ ms. Hands deck words (are_live w) g.later out' m (in_hands v ms)) box_there
+        m (λ same.
+        let none_there =
+        not-handed deck w.medium.words (are_live w) g.later g.out t
+        (subst (λ i. is_among t (askers (g.out i)) ≡ false) (sym ours.home) free) m (in_hands v (inbox w.medium m))
+        (g.hands m k v found star).each in
+        subst (Hands deck words (are_live w) g.later out' m)
+        (sym (ap (λ zs. v.held ++ zs) (requests-push (inbox w.medium m) entry c q)
+        ∙ sym (append_assoc v.held (requests_in (inbox w.medium m)) (q ∷ []))))
+        (record {
+          each =
+              all-push deck words (are_live w) g.later out' m (in_hands v (inbox w.medium m)) q h.each
+              (subst (λ i. IsHand deck words (are_live w) g.later out' i q) (sym same) hand);
+          apart = apart-push (in_hands v (inbox w.medium m)) q h.apart none_there;
+        }))
+        (λ ne. h)
 
     pub outcome-sent : (p p' : StarPart) → n.star ≡ Some p → p'.held ≡ p.held → p'.manager ≡ p.manager →
         IsStep deck w c n (record {
@@ -388,8 +367,9 @@ module _ (deck : Deck) (w : World) (g : IsWhole deck w) (c : SysId) (n : NodeSta
         })
     outcome-sent p p' star held manager step = record {
       stays =
-          let own_box : inbox sent_on c.0 ≡ inbox w.medium c.0 = other_box c.0 (λ e. apart (sym e)) in
-          whole-placed deck w g c n at alive (record {
+          let own_box : inbox sent_on c.0 ≡ inbox w.medium c.0 =
+          other-box w.medium.inboxes s.0 mail c.0 (λ e. apart (sym e)) in
+          whole-placed deck w g c n at (record {
             medium = sent_on;
             step = record { node = record n { tasks = with_phase n.tasks t phases.Sent; star = Some p' }; fixed = [] };
           })
@@ -408,11 +388,11 @@ module _ (deck : Deck) (w : World) (g : IsWhole deck w) (c : SysId) (n : NodeSta
           subst (λ (y : StarPart). Hands deck words (are_live w) g.later out' c.0 (in_hands y (inbox sent_on c.0)))
           (same_Some p' k found)
           (subst (λ hs. Hands deck words (are_live w) g.later out' c.0 (hs ++ requests_in (inbox sent_on c.0)))
-          (sym held) (hands_others c.0 n p at alive star)))
-          (λ m k v ne found lives known. hands_others m k v found lives known);
+          (sym held) (hands_others c.0 n p at star)))
+          (λ m k v ne found known. hands_others m k v found known);
       news = tells_tasks (still-told (told-phase n.tasks t phases.Sent)) refl refl;
       heard =
-          heard-sent deck w g c n at alive words flags t home ours.here a entry of_entry s apart
+          heard-sent deck w g c n at words flags t home ours.here a entry of_entry s apart
           (manager-live deck w g.roles entry s.0 managing) p p' star held manager;
       dated = λ h.
           dated-by deck c.0 n (record n { tasks = with_phase n.tasks t phases.Sent; star = Some p' }) refl h
@@ -435,19 +415,18 @@ module _ (deck : Deck) (w : World) (g : IsWhole deck w) (c : SysId) (n : NodeSta
         }
 
     -- its item is another system's to the others
-    others-item : MayFollow deck T item → (s : ℕ) (k : NodeState) → s ≢ c.0 → slice_get w.nodes s ≡ Some k
-        → has w.medium.removed s ≡ false
+    others-item : MayFollow deck T item → (s : ℕ) (k : NodeState) → s ≢ c.0 → Site w s k
         → IsSystem deck words (T ++ item ∷ []) s k (inbox w.medium s) (g.later s) (g.out s)
-    others-item m s k ne found lives =
+    others-item m s k ne found =
         system-other deck words T s k (inbox w.medium s) (g.later s) (g.out s) item
         (others-fix deck c.0 s c T (fixing.Asked q) (own_ask q ours.home m) (λ e. ne (sym e)))
-        (system-grown s k found lives)
+        (system-grown s k found)
 
-    hands_same : (m : ℕ) (k : NodeState) (v : StarPart) → slice_get w.nodes m ≡ Some k → has w.medium.removed m ≡ false
+    hands_same : (m : ℕ) (k : NodeState) (v : StarPart) → Site w m k
         → k.star ≡ Some v → Hands deck words (are_live w) g.later g.out m (in_hands v (inbox w.medium m))
-    hands_same m k v found lives known =
+    hands_same m k v found known =
         hands-grow deck w.medium.words words grow (are_live w) g.later g.out g.out (λ u z h. h) m
-        (in_hands v (inbox w.medium m)) (g.hands m k v found lives known)
+        (in_hands v (inbox w.medium m)) (g.hands m k v found known)
 
     pub outcome-decided :
         ((r : Res) → res_wanted a.req.want ≡ Some r → (u : TaskId) → is_among u ts ≡ true
@@ -471,7 +450,7 @@ module _ (deck : Deck) (w : World) (g : IsWhole deck w) (c : SysId) (n : NodeSta
           step = record { node = decided; fixed = fixing.Asked (request_of t a) ∷ [] };
         })
     outcome-decided owned heard step =
-        let h = system-grown c.0 n at alive in
+        let h = system-grown c.0 n at in
         let m =
         may-follow deck words T g.right c.0 n (inbox w.medium c.0) (g.later c.0) (g.out c.0) h t ls ours home a is free
         c in
@@ -480,7 +459,7 @@ module _ (deck : Deck) (w : World) (g : IsWhole deck w) (c : SysId) (n : NodeSta
         free c entry of_entry managing ts rank (Some p') owned in
         record {
           stays =
-              whole-placed deck w g c n at alive (record {
+              whole-placed deck w g c n at (record {
                 medium = record w.medium { words = words; rest = flags };
                 step = record { node = decided; fixed = fixing.Asked q ∷ [] };
               })
@@ -495,8 +474,8 @@ module _ (deck : Deck) (w : World) (g : IsWhole deck w) (c : SysId) (n : NodeSta
               Hands deck words (are_live w) g.later g.out c.0 (in_hands y (inbox w.medium c.0)))
               (same_Some p' k found)
               (subst (λ hs. Hands deck words (are_live w) g.later g.out c.0 (hs ++ requests_in (inbox w.medium c.0)))
-              (sym held) (hands_same c.0 n p at alive star)))
-              (λ k y v ne found lives known. hands_same k y v found lives known);
+              (sym held) (hands_same c.0 n p at star)))
+              (λ k y v ne found known. hands_same k y v found known);
           news =
               tells_tasks (subst (λ U. ToldNews deck c.0 (history U) n.tasks.told decided.tasks.told)
               (sym (items-one w.fixed c (fixing.Asked q))) (told-news z.told))

@@ -7,7 +7,6 @@ use Rattle.grs_wire.specs.declared.request.Answer.{Answer}
 use Rattle.grs_world.specs.World.{World, placed}
 use Rattle.grs_medium.specs.Inboxes.{with_mail}
 use Rattle.grs_medium.specs.Medium.{MediumState, inbox}
-use Rattle.std.proofs.lemmas.List.{get_or-set_same, get_or-set_other}
 use Rattle.std.specs.Prelude.{◌==◌, get_or, slice_get}
 use Rattle.grs_wire.specs.declared.request.Fixed.TheVariants as fixing
 use Rattle.grs_wire.specs.declared.medium.Mail.TheVariants.{Answered, Request, Granted}
@@ -50,8 +49,10 @@ use Rattle.grs_world.proofs.star.OwnEvents.{Goes, late-calm}
 use Rattle.grs_world.proofs.star.Systems.{IsSystem, system-other, Away, near_at, is_near, gives_want, system-settled}
 use Rattle.grs_world.proofs.star.Systems.{requests_in, here}
 use Rattle.grs_world.proofs.star.Worlds.{IsIn, IsHand, AllHands, IsWhole, Hands, are_live, in_hands, items-one}
-use Rattle.grs_world.proofs.star.Worlds.{live-below, whole-placed, Fixes, StaysWhole, one_fixed}
+use Rattle.grs_world.proofs.star.Worlds.{live-below, whole-placed, Fixes, StaysWhole, one_fixed, live-site}
 use Rattle.grs_wire.specs.declared.request.Want.{Want}
+use Rattle.grs_world.proofs.run.Site.{Site}
+use Rattle.grs_world.proofs.star.Boxes.{its-box, other-box, by_box}
 
 -- the manager: another system's item is fixed, and its own tasks that became owners are told
 pub system-manages :
@@ -222,8 +223,7 @@ requests-answered (Answered u b n ∷ ms) t a rank = requests-answered ms t a ra
 requests-answered (Granted u r ∷ ms) t a rank = requests-answered ms t a rank
 
 -- ---- The world after a Settle.
-module _ (deck : Deck) (w : World) (g : IsWhole deck w) (c : SysId) (n : NodeState)
-    (at : slice_get w.nodes c.0 ≡ Some n) (alive : has w.medium.removed c.0 ≡ false) (p : StarPart)
+module _ (deck : Deck) (w : World) (g : IsWhole deck w) (c : SysId) (n : NodeState) (at : Site w c.0 n) (p : StarPart)
     (star : n.star ≡ Some p) (q : Req) (qs : List Req) (held : p.held ≡ q ∷ qs) where
   abbrev T : List RunItem
   T = items w.fixed
@@ -235,7 +235,7 @@ module _ (deck : Deck) (w : World) (g : IsWhole deck w) (c : SysId) (n : NodeSta
       Hands deck w.medium.words (are_live w) g.later g.out c.0 (q ∷ (qs ++ requests_in (inbox w.medium c.0)))
   mine_hands =
       subst (λ zs. Hands deck w.medium.words (are_live w) g.later g.out c.0 (zs ++ requests_in (inbox w.medium c.0)))
-      held (g.hands c.0 n p at alive star)
+      held (g.hands c.0 n p at star)
 
   pub hand : IsHand deck w.medium.words (are_live w) g.later g.out c.0 q
   hand = mine_hands.each.0
@@ -252,7 +252,7 @@ module _ (deck : Deck) (w : World) (g : IsWhole deck w) (c : SysId) (n : NodeSta
   it_is = live-below w s hand.below
 
   its : IsSystem deck w.medium.words T s other (inbox w.medium s) (g.later s) (g.out s)
-  its = g.system s other (slice_get-get_or w.nodes s n it_is.0) it_is.1
+  its = g.system s other (live-site w s n hand.below)
 
   -- the request may be fixed now
   pub follows-now : MayFollow deck T item
@@ -280,7 +280,7 @@ module _ (deck : Deck) (w : World) (g : IsWhole deck w) (c : SysId) (n : NodeSta
   manager-after ts owned o =
       system-manages deck w.medium.words T c.0 n (inbox w.medium c.0) (g.later c.0) (g.out c.0) item
       (item-others c.0 (λ e. hand.apart (sym e))) (follows deck T item g.right follows-now)
-      (g.system c.0 n at alive) q.want hand.entry hand.at hand.managed ts owned o
+      (g.system c.0 n at) q.want hand.entry hand.at hand.managed ts owned o
 
   module _ (rank : ℕ) (plain : gives_want q.want ≡ true → rank ≡ 0) (flags : ℕ) where
     abbrev answer : Mail
@@ -293,10 +293,10 @@ module _ (deck : Deck) (w : World) (g : IsWhole deck w) (c : SysId) (n : NodeSta
     box_there = let there = it_is.0 in omega (arith, there, g.roles.systems, g.roles.inboxes)
 
     its_box : inbox sent_on s ≡ inbox w.medium s ++ answer ∷ []
-    its_box = get_or-set_same w.medium.inboxes s (inbox w.medium s ++ answer ∷ []) [] box_there
+    its_box = its-box w.medium.inboxes s answer box_there
 
     other_box : (u : ℕ) → u ≢ s → inbox sent_on u ≡ inbox w.medium u
-    other_box u ne = get_or-set_other w.medium.inboxes s u (inbox w.medium s ++ answer ∷ []) [] ne
+    other_box u ne = other-box w.medium.inboxes s answer u ne
 
     its_later : later-with g.later s item s ≡ g.later s ++ item ∷ []
     its_later = put_here g.later s (g.later s ++ item ∷ [])
@@ -305,9 +305,9 @@ module _ (deck : Deck) (w : World) (g : IsWhole deck w) (c : SysId) (n : NodeSta
     other_later u ne = put_other g.later s (g.later s ++ item ∷ []) u ne
 
     -- a system that isn't the asker's, nor the manager
-    others : (u : ℕ) (k : NodeState) → u ≢ c.0 → slice_get w.nodes u ≡ Some k → has w.medium.removed u ≡ false
+    others : (u : ℕ) (k : NodeState) → u ≢ c.0 → Site w u k
         → IsSystem deck w.medium.words (T ++ item ∷ []) u k (inbox sent_on u) (later-with g.later s item u) (g.out u)
-    others u k ne found lives = go (u == s) refl
+    others u k ne found = go (u == s) refl
       where
         go : (b : Bool) → (u == s) ≡ b
             → IsSystem deck w.medium.words (T ++ item ∷ []) u k (inbox sent_on u) (later-with g.later s item u)
@@ -316,7 +316,7 @@ module _ (deck : Deck) (w : World) (g : IsWhole deck w) (c : SysId) (n : NodeSta
             let same : u ≡ s = eqb-true u s e in
             let node : other ≡ k =
             same_Some other k
-            (sym (slice_get-get_or w.nodes s n it_is.0) ∙ (ap (slice_get w.nodes) (sym same) ∙ found)) in
+            (sym (slice_get-get_or w.nodes s n it_is.0) ∙ (ap (slice_get w.nodes) (sym same) ∙ found.at)) in
             subst (λ z.
             IsSystem deck w.medium.words (T ++ item ∷ []) z k (inbox sent_on z) (later-with g.later s item z) (g.out z))
             (sym same)
@@ -338,7 +338,7 @@ module _ (deck : Deck) (w : World) (g : IsWhole deck w) (c : SysId) (n : NodeSta
             (subst (λ xs. IsSystem deck w.medium.words (T ++ item ∷ []) u k (inbox w.medium u) xs (g.out u))
             (sym (other_later u apart))
             (system-other deck w.medium.words T u k (inbox w.medium u) (g.later u) (g.out u) item (item-others u apart)
-            (g.system u k found lives)))
+            (g.system u k found)))
 
     -- the manager with the part that it has then
     abbrev told_on : List TaskId → StarPart → NodeState
@@ -360,7 +360,7 @@ module _ (deck : Deck) (w : World) (g : IsWhole deck w) (c : SysId) (n : NodeSta
         (here deck s T (g.later s) (g.out s) other its.at q.task
         (asker-home deck w.medium.words T g.right s other (inbox w.medium s) (g.later s) (g.out s) its q hand.among
         hand.idle c hand.entry hand.at hand.managed hand.apart)).asked in
-        whole-placed deck w g c n at alive
+        whole-placed deck w g c n at
         (record { medium = sent_on; step = record { node = told_on ts p'; fixed = fixing.Asked q ∷ [] } }) step
         (T ++ item ∷ [])
         (items-one w.fixed c (fixing.Asked q)) (later-with g.later s item) g.out (λ u ne. refl) asker_sent
@@ -398,7 +398,7 @@ module _ (deck : Deck) (w : World) (g : IsWhole deck w) (c : SysId) (n : NodeSta
               (not-true (is_among q.task (askers (qs ++ requests_in (inbox w.medium c.0)))) both.0) mine_hands.each.1;
           apart = both.1;
         }))))
-        (λ m k v ne found lives is. hands_others m k v ne found lives is asked)
+        (λ m k v ne found is. hands_others m k v ne found is asked)
       where
         -- a system whose tasks sent nothing isn't the asker's
         asker_sent : Fixes deck c.0 g.out T (T ++ item ∷ [])
@@ -413,19 +413,18 @@ module _ (deck : Deck) (w : World) (g : IsWhole deck w) (c : SysId) (n : NodeSta
             ∙ (asker-away deck w.medium.words T g.right s other (inbox w.medium s) (g.later s) (g.out s) its q
             hand.among hand.idle c hand.entry hand.at hand.managed hand.apart).1
 
-        hands_others : (m : ℕ) (k : NodeState) (v : StarPart) → m ≢ c.0 → slice_get w.nodes m ≡ Some k
-            → has w.medium.removed m ≡ false → k.star ≡ Some v
+        hands_others : (m : ℕ) (k : NodeState) (v : StarPart) → m ≢ c.0 → Site w m k → k.star ≡ Some v
             → IsAskedBy q.task (state_of other.tasks q.task).outstanding (g.out s ++ [])
             → Hands deck w.medium.words (are_live w) (later-with g.later s item) g.out m (in_hands v (inbox sent_on m))
-        hands_others m k v ne found lives is asked =
+        hands_others m k v ne found is asked =
             let h : Hands deck w.medium.words (are_live w) g.later g.out m (in_hands v (inbox w.medium m)) =
-            g.hands m k v found lives is in
+            g.hands m k v found is in
             let none_there =
             not-theirs deck w.medium.words (are_live w) g.later g.out q (state_of other.tasks q.task).outstanding c.0
             hand (subst (IsAskedBy q.task (state_of other.tasks q.task).outstanding) (append-nil (g.out s)) asked) m ne
             (in_hands v (inbox w.medium m)) h.each in
             subst (Hands deck w.medium.words (are_live w) (later-with g.later s item) g.out m)
-            (ap (λ zs. v.held ++ zs) (same_requests m (m == s) refl))
+            (ap (λ zs. v.held ++ zs) (same_requests m))
             (record {
               each =
                   hands-later deck w.medium.words (are_live w) g.later g.out q item refl m
@@ -433,11 +432,8 @@ module _ (deck : Deck) (w : World) (g : IsWhole deck w) (c : SysId) (n : NodeSta
               apart = h.apart;
             })
           where
-            same_requests : (u : ℕ) (b : Bool) → (u == s) ≡ b
-                → requests_in (inbox w.medium u) ≡ requests_in (inbox sent_on u)
-            same_requests u true e =
-                let same : u ≡ s = eqb-true u s e in
-                subst (λ z. requests_in (inbox w.medium z) ≡ requests_in (inbox sent_on z)) (sym same)
-                (requests-answered (inbox w.medium s) q.task (answer_to (lists T) q.task q.want) rank
-                ∙ ap requests_in (sym its_box))
-            same_requests u false e = ap requests_in (sym (other_box u (eqb-false u s e)))
+            same_requests : (u : ℕ) → requests_in (inbox w.medium u) ≡ requests_in (inbox sent_on u)
+            same_requests u =
+                by_box w.medium.inboxes s answer (λ ms. requests_in (inbox w.medium u) ≡ requests_in ms) box_there u
+                (λ same. requests-answered (inbox w.medium u) q.task (answer_to (lists T) q.task q.want) rank)
+                (λ ne. refl)

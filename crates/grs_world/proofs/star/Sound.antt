@@ -1,14 +1,13 @@
 -- What any event comes to in star mode, and that the first world of a deck in star mode is as it should be.
 use Rattle.std.proofs.Common.{◌≡◌, ◌<◌, ℕ, zero, suc, true, cond, List, [], ◌++◌, length, Some, None, refl, ap, sym}
-use Rattle.std.proofs.Common.{◌∙◌, subst, false}
-use Rattle.std.specs.Prelude.{replicate, slice_get, slice_index_or}
+use Rattle.std.proofs.Common.{◌∙◌, subst}
+use Rattle.std.specs.Prelude.{replicate, slice_index_or}
 use Rattle.std.proofs.lemmas.Option.{same_Some}
 use Rattle.grs_base.specs.Limits.{most_systems}
 use Rattle.grs_base.specs.declared.resource.SysId.{SysId}
 use Rattle.grs_medium.specs.Medium.{first_medium, inbox}
 use Rattle.grs_node.specs.Node.{NodeState, first_node}
 use Rattle.grs_node.specs.Star.{StarPart, first_part, manages}
-use Rattle.grs_wire.specs.Masks.{has}
 use Rattle.grs_wire.specs.declared.deck.Choice.{Choice}
 use Rattle.grs_wire.specs.declared.deck.Deck.{Deck}
 use Rattle.grs_wire.specs.declared.medium.Mail.{Mail}
@@ -33,50 +32,50 @@ use Rattle.grs_world.proofs.run.Came.{took, turn, went_on, Result}
 use Rattle.grs_known.proofs.lists.Truths.{no_truth}
 use Rattle.grs_wire.specs.LockWords.{is_manager}
 use Rattle.grs_world.proofs.run.Chosen.{came}
+use Rattle.grs_world.proofs.run.Site.{Site, IsThere}
 
 -- ---- one event
 -- what an event of a system comes to, whichever it chooses
 module _ (deck : Deck) (some : 0 < deck.entries) (w : World) (g : IsWhole deck w) (c : SysId)
-    (inside : c.0 < most_systems) (n : NodeState) (at : slice_get w.nodes c.0 ≡ Some n)
-    (alive : has w.medium.removed c.0 ≡ false) where
+    (inside : c.0 < most_systems) (n : NodeState) (at : Site w c.0 n) where
   abbrev p : StarPart
-  p = part deck w g c n at alive
+  p = part deck w g c n at
 
   acts-outcome : (choice : Choice) (b : Result) (o : Turnout)
-      → Acts deck w.medium c n (part deck w g c n at alive) choice b o
+      → Acts deck w.medium c n (part deck w g c n at) choice b o
       → Comes deck w g c n o
   acts-outcome choice b o (decided t a x asked mine) =
-      outcome-own deck some w g c inside n at alive t asked.may a asked.asks x asked.entry mine
+      outcome-own deck some w g c inside n at t asked.may a asked.asks x asked.entry mine
   acts-outcome choice b o (began t a x asked other none) =
-      outcome-began deck some w g c inside n at alive t asked.may a asked.asks x asked.entry other none
+      outcome-began deck some w g c inside n at t asked.may a asked.asks x asked.entry other none
   acts-outcome choice b o (rejoined t a x asked other to is same) =
       no_truth (manages p x)
-      ((g.roles.node c.0 n at alive).fits.roles x ∙ (ap (λ z. is_manager z (record { 0 = c.0 })) is ∙ same)) other
+      ((g.roles.node c.0 n at).fits.roles x ∙ (ap (λ z. is_manager z (record { 0 = c.0 })) is ∙ same)) other
   acts-outcome choice b o (sent t a x asked other to is apart) =
-      outcome-away deck some w g c inside n at alive t asked.may a asked.asks x asked.entry other to is apart
-  acts-outcome choice b o (took mail rest is) = outcome-take deck w g c n at alive mail rest is
-  acts-outcome choice b o (settled q first serving) = outcome-settle deck w g c n at alive q first
-  acts-outcome choice b o (told e x first) = outcome-tell deck w g c n at alive e x first
-  acts-outcome choice b o (left x flags free by) = outcome-leave deck some w g c inside n at alive x free by flags
+      outcome-away deck some w g c inside n at t asked.may a asked.asks x asked.entry other to is apart
+  acts-outcome choice b o (took mail rest is) = outcome-take deck w g c n at mail rest is
+  acts-outcome choice b o (settled q first serving) = outcome-settle deck w g c n at q first
+  acts-outcome choice b o (told e x first) = outcome-tell deck w g c n at e x first
+  acts-outcome choice b o (left x flags free by) = outcome-leave deck some w g c inside n at x free by flags
 
   came-outcome : (choice : Choice) (b : Result) (o : Turnout) → Came deck w.medium c n choice b o → Comes deck w g c n o
-  came-outcome choice b o (nothing k r silent flags) = comes-nothing deck w g c n at alive flags
-  came-outcome choice b o (informed k known) = comes-known deck w g c n at alive known
-  came-outcome choice b o (went_on t may) = outcome-task deck w g c n at alive t may
-  came-outcome choice b o (turn flags alone unclosed here) = no_part n p (g.roles.node c.0 n at alive).star alone
-  came-outcome choice b o (last_turn flags alone shut here) = no_part n p (g.roles.node c.0 n at alive).star alone
+  came-outcome choice b o (nothing k r silent flags) = comes-nothing deck w g c n at flags
+  came-outcome choice b o (informed k known) = comes-known deck w g c n at known
+  came-outcome choice b o (went_on t may) = outcome-task deck w g c n at t may
+  came-outcome choice b o (turn flags alone unclosed here) = no_part n p (g.roles.node c.0 n at).star alone
+  came-outcome choice b o (last_turn flags alone shut here) = no_part n p (g.roles.node c.0 n at).star alone
   came-outcome choice b o (changed ring next seen) = no_truth w.medium.star g.roles.mode ring
-  came-outcome choice b o (already mode next) = outcome-already deck w g c n at alive next
+  came-outcome choice b o (already mode next) = outcome-already deck w g c n at next
   came-outcome choice b o (removes_one target ring next lives) = no_truth w.medium.star g.roles.mode ring
   came-outcome choice b o (no_such target ring next gone) = no_truth w.medium.star g.roles.mode ring
-  came-outcome choice b o (refused target mode next) = outcome-refused deck w g c n at alive target next
+  came-outcome choice b o (refused target mode next) = outcome-refused deck w g c n at target next
   came-outcome choice b o (acted q is k r x acts) =
       acts-outcome choice b o
       (subst (λ z. Acts deck w.medium c n z choice b o)
-      (same_Some q p (sym is ∙ (g.roles.node c.0 n at alive).star)) acts)
+      (same_Some q p (sym is ∙ (g.roles.node c.0 n at).star)) acts)
 
   pub outcome : (choice : Choice) → Comes deck w g c n (chosen deck w.medium c n choice)
-  outcome choice = came-outcome choice _ _ (came deck w.medium c n alive choice)
+  outcome choice = came-outcome choice _ _ (came deck w.medium c n at.live choice)
 
 -- ---- the first world
 pub no_mail : (k s : ℕ) → slice_index_or (replicate {A = List Mail} k []) s [] ≡ []
@@ -115,21 +114,22 @@ first_whole deck star = record {
   later = λ s. [];
   out = λ s. [];
   near = refl;
-  system = λ s n h live.
+  system = λ s n v.
       subst (λ ms. IsSystem deck (replicate deck.entries 0) [] s n ms [] []) (sym (first_inbox deck s))
-      (subst (λ (k : NodeState). IsSystem deck (replicate deck.entries 0) [] s k [] [] []) (sym (first_is deck s n h))
+      (subst (λ (k : NodeState). IsSystem deck (replicate deck.entries 0) [] s k [] [] [])
+      (sym (first_is deck s n v.at))
       (first_system deck s));
   hands = first_hands;
 }
   where
-    first_hands : (m : ℕ) (n : NodeState) (p : StarPart) → slice_get (first_nodes deck 0 deck.systems) m ≡ Some n
-        → has 0 m ≡ false → n.star ≡ Some p →
+    first_hands : (m : ℕ) (n : NodeState) (p : StarPart) → IsThere (first_nodes deck 0 deck.systems) 0 m n
+        → n.star ≡ Some p →
         Hands deck (replicate deck.entries 0) (are_live (first_world deck)) (λ s. []) (λ s. []) m
         (in_hands p (inbox (first_medium (length deck.systems) deck.entries deck.star) m))
-    first_hands m n p h live is =
+    first_hands m n p v is =
         subst (λ ms.
         Hands deck (replicate deck.entries 0) (are_live (first_world deck)) (λ s. []) (λ s. []) m (in_hands p ms))
         (sym (first_inbox deck m))
         (subst (λ hs.
         Hands deck (replicate deck.entries 0) (are_live (first_world deck)) (λ s. []) (λ s. []) m (hs ++ []))
-        (sym (none_held deck star m n p (first_is deck m n h) is)) (record { each = tt; apart = refl }))
+        (sym (none_held deck star m n p (first_is deck m n v.at) is)) (record { each = tt; apart = refl }))

@@ -1,11 +1,11 @@
 -- The systems of a run in star mode together: whose hands each request is in, and how an event of one system is placed.
 use Rattle.std.proofs.Common.{◌≡◌, ◌≢◌, ◌⊎◌, ◌<◌, ℕ, Bool, true, false, List, [], ◌∷◌, ◌++◌, length, Some, refl, ap}
 use Rattle.std.proofs.Common.{sym, ◌∙◌, subst, append-nil, None, Option}
-use Rattle.std.specs.Prelude.{not, nat_lt, set, slice_get, ◌==◌}
+use Rattle.std.specs.Prelude.{not, nat_lt, get_or}
 use Rattle.grs_wire.specs.Masks.{has, lives}
-use Rattle.std.proofs.lemmas.Bool.{and_parts, eqb-true, eqb-false, lt-ltb, ltb-true, not-true}
+use Rattle.std.proofs.lemmas.Bool.{and_parts, lt-ltb, ltb-true, not-true}
 use Rattle.std.proofs.lemmas.List.{length-set}
-use Rattle.std.proofs.lemmas.Option.{same_Some, slice_get_within}
+use Rattle.std.proofs.lemmas.Option.{slice_get-get_or}
 use Rattle.contention_mgr.specs.Manager.{entry_wanted}
 use Rattle.grs_base.specs.State.{list_of, is_systems}
 use Rattle.grs_base.specs.declared.resource.Res.{Res}
@@ -25,7 +25,6 @@ use Rattle.grs_wire.specs.History.{replay, after_fixed}
 use Rattle.grs_known.specs.Items.{RunItem, goes_round, mine, lists, items, history}
 use Rattle.grs_known.proofs.known.Histories.{IsHistory, made_item, items-append, replayed, wants-round}
 use Rattle.grs_known.proofs.known.ItemLaws.{lists-push}
-use Rattle.grs_known.proofs.lists.Facts.{slice_get-set, slice_get-set_other}
 use Rattle.grs_world.specs.Kept.{kept}
 use Rattle.grs_world.specs.World.{World, Turnout, fixed_by, placed, counted}
 use Rattle.grs_known.proofs.system.Says.{askers, stand_apart}
@@ -42,6 +41,7 @@ use Rattle.lock_structure.specs.Entries.{is_entry}
 use Rattle.grs_wire.specs.declared.told.Told.{Told}
 use Rattle.rsa_message.specs.Message.{Message}
 use Rattle.grs_world.proofs.star.Under.{under, under-other}
+use Rattle.grs_world.proofs.run.Site.{Site, site-below, each_site}
 
 -- a request is one of these
 abbrev pub IsIn : Req → List Req → Type 0
@@ -87,11 +87,14 @@ live-below w s h =
     let both = and_parts (nat_lt s (length w.nodes)) (not (has w.medium.removed s)) h in
     (ltb-true s (length w.nodes) both.0, not-true (has w.medium.removed s) both.1)
 
-pub live-here : (w : World) (s : ℕ) (n : NodeState) → slice_get w.nodes s ≡ Some n → has w.medium.removed s ≡ false
-    → are_live w s ≡ true
-live-here w s n at alive =
-    let within : nat_lt s (length w.nodes) ≡ true = lt-ltb s (length w.nodes) (slice_get_within w.nodes s n at) in
-    rw (within, alive) refl
+pub live-here : (w : World) (s : ℕ) (n : NodeState) → Site w s n → are_live w s ≡ true
+live-here w s n at =
+    let within : nat_lt s (length w.nodes) ≡ true = lt-ltb s (length w.nodes) (site-below w s n at) in
+    rw (within, at.live) refl
+
+-- so there is a system of its number
+pub live-site : (w : World) (s : ℕ) (d : NodeState) → are_live w s ≡ true → Site w s (get_or w.nodes s d)
+live-site w s d h = record { at = slice_get-get_or w.nodes s d (live-below w s h).0; live = (live-below w s h).1 }
 
 -- who manages is one of them
 pub manager-live : (deck : Deck) (w : World) → IsStar deck w → (e s : ℕ) → has_manager w.medium.words e s ≡ true
@@ -110,9 +113,9 @@ pub record IsWhole (deck : Deck) (w : World) : Type 0 where
   pub out : ℕ → List Req
   -- each element is of a system with interest in its entry
   pub near : AreNear deck w.medium.words (all_lists w)
-  pub system : (s : ℕ) (n : NodeState) → slice_get w.nodes s ≡ Some n → has w.medium.removed s ≡ false
+  pub system : (s : ℕ) (n : NodeState) → Site w s n
       → IsSystem deck w.medium.words (items w.fixed) s n (inbox w.medium s) (later s) (out s)
-  pub hands : (m : ℕ) (n : NodeState) (p : StarPart) → slice_get w.nodes m ≡ Some n → has w.medium.removed m ≡ false
+  pub hands : (m : ℕ) (n : NodeState) (p : StarPart) → Site w m n
       → n.star ≡ Some p → Hands deck w.medium.words (are_live w) later out m (in_hands p (inbox w.medium m))
 
 -- ---- what an event leaves
@@ -137,62 +140,44 @@ pub items-none : (xs : List (SysId × Fixed)) (c : SysId) → items (xs ++ fixed
 items-none xs c = ap items (append-nil xs)
 
 -- ---- the world after an event of system c, where the items become these
-module _ (deck : Deck) (w : World) (g : IsWhole deck w) (c : SysId) (n : NodeState)
-    (at : slice_get w.nodes c.0 ≡ Some n) (alive : has w.medium.removed c.0 ≡ false) (o : Turnout)
+module _ (deck : Deck) (w : World) (g : IsWhole deck w) (c : SysId) (n : NodeState) (at : Site w c.0 n) (o : Turnout)
     (step : IsStep deck w c n o) (T : List RunItem) (grown : items (w.fixed ++ fixed_by c o.step.fixed) ≡ T)
     (later : ℕ → List RunItem) (out : ℕ → List Req) (sent : (u : ℕ) → u ≢ c.0 → out u ≡ g.out u)
     (fixes : Fixes deck c.0 g.out (items w.fixed) T) where
   abbrev words : List ℕ
   words = o.medium.words
 
-  -- by systems: that of the event, and the others
-  by_system : (P : ℕ → NodeState → Type 0) → P c.0 o.step.node
-      → ((s : ℕ) (k : NodeState) → s ≢ c.0 → slice_get w.nodes s ≡ Some k → P s k) → (s : ℕ) (k : NodeState)
-      → slice_get (set w.nodes c.0 o.step.node) s ≡ Some k → P s k
-  by_system P own others s k f = go (s == c.0) refl
-    where
-      go : (b : Bool) → (s == c.0) ≡ b → P s k
-      go true e =
-          let same : s ≡ c.0 = eqb-true s c.0 e in
-          let is : o.step.node ≡ k =
-          same_Some o.step.node k (sym (slice_get-set w.nodes c.0 n o.step.node at)
-          ∙ (ap (slice_get (set w.nodes c.0 o.step.node)) (sym same) ∙ f)) in
-          subst (P s) is (subst (λ z. P z o.step.node) (sym same) own)
-      go false e =
-          let ne : s ≢ c.0 = eqb-false s c.0 e in
-          others s k ne (sym (slice_get-set_other w.nodes c.0 s o.step.node ne) ∙ f)
-
   pub whole-placed : IsHistory deck T → AreNear deck o.medium.words (lists T) →
       IsSystem deck o.medium.words T c.0 o.step.node (inbox o.medium c.0) (later c.0) (out c.0) →
-      ((s : ℕ) (k : NodeState) → s ≢ c.0 → slice_get w.nodes s ≡ Some k → has w.medium.removed s ≡ false
+      ((s : ℕ) (k : NodeState) → s ≢ c.0 → Site w s k
       → IsSystem deck o.medium.words T s k (inbox o.medium s) (later s) (out s))
       →
       ((p : StarPart) → o.step.node.star ≡ Some p
       → Hands deck o.medium.words (are_live w) later out c.0 (in_hands p (inbox o.medium c.0)))
       →
-      ((m : ℕ) (k : NodeState) (p : StarPart) → m ≢ c.0 → slice_get w.nodes m ≡ Some k → has w.medium.removed m ≡ false
+      ((m : ℕ) (k : NodeState) (p : StarPart) → m ≢ c.0 → Site w m k
       → k.star ≡ Some p → Hands deck o.medium.words (are_live w) later out m (in_hands p (inbox o.medium m)))
       →
       StaysWhole deck w g c (placed w c n o)
   unfolding placed
   whole-placed right near own others hands_own hands_others = record {
     whole = record {
-      roles = framed deck w c n at alive g.roles o step;
+      roles = framed deck w c n at g.roles o step;
       right = subst (IsHistory deck) (sym grown) right;
       later = later;
       out = out;
       near = subst (λ U. AreNear deck o.medium.words (lists U)) (sym grown) near;
-      system = λ s k f live.
+      system = λ s k u.
           subst (λ U. IsSystem deck o.medium.words U s k (inbox o.medium s) (later s) (out s)) (sym grown)
-          (by_system (λ u z.
-          has w.medium.removed u ≡ false → IsSystem deck o.medium.words T u z (inbox o.medium u) (later u) (out u))
-          (λ l. own) others s k f (was_live s live));
-      hands = λ m k p f live is.
-          subst (λ alive. Hands deck o.medium.words alive later out m (in_hands p (inbox o.medium m))) (sym same_live)
-          (by_system (λ u z.
-          has w.medium.removed u ≡ false → (q : StarPart) → z.star ≡ Some q
-          → Hands deck o.medium.words (are_live w) later out u (in_hands q (inbox o.medium u)))
-          (λ l. hands_own) (λ u z ne found l q star. hands_others u z q ne found l star) m k f (was_live m live) p is);
+          (each_site w c n at o was_live
+          (λ i z. IsSystem deck o.medium.words T i z (inbox o.medium i) (later i) (out i))
+          own others s k u);
+      hands = λ m k p u is.
+          subst (λ live. Hands deck o.medium.words live later out m (in_hands p (inbox o.medium m))) (sym same_live)
+          (each_site w c n at o was_live (λ i z.
+          (q : StarPart) → z.star ≡ Some q
+          → Hands deck o.medium.words (are_live w) later out i (in_hands q (inbox o.medium i)))
+          hands_own (λ i z ne found q star. hands_others i z q ne found star) m k u p is);
     };
     sent = sent;
     fixes = subst (Fixes deck c.0 g.out (items w.fixed)) (sym grown) fixes;
@@ -241,15 +226,15 @@ whole-still deck w g message flags events fixed told same = (
       managed = g.roles.managed;
       nobody = g.roles.nobody;
       free = λ e none. subst (λ T. under deck.entries e (lists T) ≡ []) (sym same) (g.roles.free e none);
-      node = λ s k f live. subst (λ T. IsMember deck w.medium.words (lists T) s k) (sym same) (g.roles.node s k f live);
+      node = λ s k u. subst (λ T. IsMember deck w.medium.words (lists T) s k) (sym same) (g.roles.node s k u);
     };
     right = subst (IsHistory deck) (sym same) g.right;
     later = g.later;
     out = g.out;
     near = subst (λ T. AreNear deck w.medium.words (lists T)) (sym same) g.near;
-    system = λ s k f live.
+    system = λ s k u.
         subst (λ T. IsSystem deck w.medium.words T s k (inbox w.medium s) (g.later s) (g.out s)) (sym same)
-        (g.system s k f live);
+        (g.system s k u);
     hands = g.hands;
   },
   λ u. refl,
@@ -303,18 +288,16 @@ under-local deck T c f away e = ap (under deck.entries e) (lists-push T (made_it
     by_fixed (fixing.Purged target) alone = absurd (cc)
 
 -- ---- events of a system c
-module _ (deck : Deck) (w : World) (g : IsWhole deck w) (c : SysId) (n : NodeState)
-    (at : slice_get w.nodes c.0 ≡ Some n) (alive : has w.medium.removed c.0 ≡ false) where
+module _ (deck : Deck) (w : World) (g : IsWhole deck w) (c : SysId) (n : NodeState) (at : Site w c.0 n) where
   abbrev T : List RunItem
   T = items w.fixed
 
   -- its own item is another system's to the others
-  pub others-item : (f : Fixed) → MayFix deck c.0 c T f → (s : ℕ) (k : NodeState) → s ≢ c.0
-      → slice_get w.nodes s ≡ Some k → has w.medium.removed s ≡ false →
+  pub others-item : (f : Fixed) → MayFix deck c.0 c T f → (s : ℕ) (k : NodeState) → s ≢ c.0 → Site w s k →
       IsSystem deck w.medium.words (T ++ made_item c T f ∷ []) s k (inbox w.medium s) (g.later s) (g.out s)
-  others-item f may s k ne found live =
+  others-item f may s k ne found =
       system-other deck w.medium.words T s k (inbox w.medium s) (g.later s) (g.out s) (made_item c T f)
-      (others-fix deck c.0 s c T f may (λ e. ne (sym e))) (g.system s k found live)
+      (others-fix deck c.0 s c T f may (λ e. ne (sym e))) (g.system s k found)
 
   -- a task goes on by itself
   pub whole-task : (t : TaskId) → may_go deck n t ≡ true
@@ -323,13 +306,13 @@ module _ (deck : Deck) (w : World) (g : IsWhole deck w) (c : SysId) (n : NodeSta
       (placed w c n (record { medium = w.medium; step = task_step deck.limit n t (lines_of deck t) }))
   whole-task t goes step =
       by_task (system-task deck w.medium.words T g.right c.0 n (inbox w.medium c.0) (g.later c.0) (g.out c.0)
-      (g.system c.0 n at alive) c t me.part me.star goes)
+      (g.system c.0 n at) c t me.part me.star goes)
     where
       me : IsMember deck w.medium.words (all_lists w) c.0 n
-      me = g.roles.node c.0 n at alive
+      me = g.roles.node c.0 n at
 
       same_star : (task_step deck.limit n t (lines_of deck t)).node.star ≡ n.star
-      same_star = by_part (g.roles.node c.0 n at alive)
+      same_star = by_part (g.roles.node c.0 n at)
         where
           by_part : IsMember deck w.medium.words (all_lists w) c.0 n
               → (task_step deck.limit n t (lines_of deck t)).node.star ≡ n.star
@@ -337,24 +320,24 @@ module _ (deck : Deck) (w : World) (g : IsWhole deck w) (c : SysId) (n : NodeSta
 
       by_task :
           Task deck w.medium.words T g.right c.0 n (inbox w.medium c.0) (g.later c.0) (g.out c.0)
-          (g.system c.0 n at alive) c (task_step deck.limit n t (lines_of deck t))
+          (g.system c.0 n at) c (task_step deck.limit n t (lines_of deck t))
           → StaysWhole deck w g c
           (placed w c n (record { medium = w.medium; step = task_step deck.limit n t (lines_of deck t) }))
       by_task (idle_task nothing z) =
-          whole-placed deck w g c n at alive
+          whole-placed deck w g c n at
           (record { medium = w.medium; step = task_step deck.limit n t (lines_of deck t) })
           step T (ap (λ fs. items (w.fixed ++ fixed_by c fs)) nothing ∙ items-none w.fixed c) g.later g.out
           (λ u ne. refl) none_fixed
-          g.right g.near z.system (λ s k ne found lives. g.system s k found lives)
-          (λ p is. g.hands c.0 n p at alive (sym same_star ∙ is))
-          (λ m k p ne found lives is. g.hands m k p found lives is)
+          g.right g.near z.system (λ s k ne found. g.system s k found)
+          (λ p is. g.hands c.0 n p at (sym same_star ∙ is))
+          (λ m k p ne found is. g.hands m k p found is)
       by_task (local_task f is_item away may z) =
           let item : RunItem = made_item c T f in
-          whole-placed deck w g c n at alive
+          whole-placed deck w g c n at
           (record { medium = w.medium; step = task_step deck.limit n t (lines_of deck t) })
           step (T ++ item ∷ [])
           (ap (λ fs. items (w.fixed ++ fixed_by c fs)) is_item ∙ items-one w.fixed c f) g.later g.out
           (λ u ne. refl) (fixes-own deck c g.out T f may)
           (fix-history g.right may) (near-local deck w.medium.words T c f away g.near) z.system
-          (others-item f may) (λ p is. g.hands c.0 n p at alive (sym same_star ∙ is))
-          (λ k j p ne found lives is. g.hands k j p found lives is)
+          (others-item f may) (λ p is. g.hands c.0 n p at (sym same_star ∙ is))
+          (λ k j p ne found is. g.hands k j p found is)

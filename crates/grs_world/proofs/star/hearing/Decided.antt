@@ -2,7 +2,7 @@
 -- those of other systems are still to be told.
 use Rattle.std.proofs.Common.{inl, inr, ◌≡◌, ◌≢◌, ◌≤◌, ℕ, suc, Bool, true, false, List, [], ◌∷◌, ◌++◌, Option, Some}
 use Rattle.std.proofs.Common.{None, refl, ap, sym, ◌∙◌, subst, append-nil}
-use Rattle.std.specs.Prelude.{◌⊎◌, ◌==◌, is_some, slice_get}
+use Rattle.std.specs.Prelude.{◌⊎◌, ◌==◌, is_some}
 use Rattle.std.proofs.lemmas.Bool.{and_parts, eqb-true, eqb-false}
 use Rattle.std.proofs.lemmas.Option.{same_Some}
 use Rattle.contention_mgr.specs.Manager.{Managed, after_request, entry_wanted, managed_at}
@@ -30,7 +30,6 @@ use Rattle.grs_known.specs.Items.{RunItem, items, lists, mine}
 use Rattle.grs_known.proofs.known.Histories.{made_item}
 use Rattle.grs_known.proofs.known.ItemLaws.{lists-push}
 use Rattle.grs_known.proofs.lists.All.{owns-has}
-use Rattle.grs_known.proofs.lists.Facts.{slice_get-set}
 use Rattle.grs_known.proofs.lists.Owners.{is_among}
 use Rattle.grs_known.proofs.lists.Truths.{false_by, no_truth}
 use Rattle.grs_known.proofs.system.Ours.{same_place}
@@ -52,23 +51,24 @@ use Rattle.grs_world.proofs.star.hearing.Passing.{Grown, Hearable, Requested, en
 use Rattle.grs_world.proofs.star.hearing.Passing.{is_untold_by, own-recorded-ready, untold-here, untold-own}
 use Rattle.grs_world.specs.World.{World, Turnout, fixed_by, placed}
 use Rattle.grs_wire.specs.Masks.{has}
+use Rattle.grs_world.proofs.run.Site.{Site, own-site}
 
 -- two tasks of a system are one, or stand at two places
-pub one-place : (deck : Deck) (w : World) (g : IsWhole deck w) (s : ℕ) (n : NodeState) → slice_get w.nodes s ≡ Some n
-    → has w.medium.removed s ≡ false → (t u : TaskId) → is_home_at deck s t ≡ true → is_home_at deck s u ≡ true
+pub one-place : (deck : Deck) (w : World) (g : IsWhole deck w) (s : ℕ) (n : NodeState) → Site w s n → (t u : TaskId)
+    → is_home_at deck s t ≡ true → is_home_at deck s u ≡ true
     → (u ≡ t) ⊎ (u.task ≢ t.task)
-one-place deck w g s n at alive t u home own = go (u.task == t.task) refl
+one-place deck w g s n at t u home own = go (u.task == t.task) refl
   where
     go : (b : Bool) → (u.task == t.task) ≡ b → (u ≡ t) ⊎ (u.task ≢ t.task)
     go false e = inr (eqb-false u.task t.task e)
     go true e =
-        let k = (g.system s n at alive).at in
+        let k = (g.system s n at).at in
         let x = ours deck s (items w.fixed) (g.later s) (g.out s) n k u own in
         let y = ours deck s (items w.fixed) (g.later s) (g.out s) n k t home in
         inl (same_task-exact u t (same_place deck s n.tasks u t x.0 y.0 x.1 y.1 (eqb-true u.task t.task e)))
 
 module _ (deck : Deck) (w : World) (g : IsWhole deck w) (c : SysId) (n : NodeState)
-    (at : slice_get w.nodes c.0 ≡ Some n) (alive : has w.medium.removed c.0 ≡ false) (words : List ℕ) (flags : ℕ)
+    (at : Site w c.0 n) (words : List ℕ) (flags : ℕ)
     (t : TaskId) (home : is_home_at deck c.0 t ≡ true) (a : Asked) (free : is_among t (askers (g.out c.0)) ≡ false)
     (entry : ℕ) (of_entry : entry_wanted deck.entries a.req.want ≡ Some entry)
     (managing : has_manager words entry c.0 ≡ true) (rank : ℕ)
@@ -123,7 +123,7 @@ module _ (deck : Deck) (w : World) (g : IsWhole deck w) (c : SysId) (n : NodeSta
   }
 
   here : (u : TaskId) → is_home_at deck c.0 u ≡ true → is_task n.tasks u ≡ true
-  here u own = (g.system c.0 n at alive).at.good.here u own
+  here u own = (g.system c.0 n at).at.good.here u own
 
   k :
       Answered n.tasks (tell_answer_ranked n.tasks t a (answer_to (lists (items w.fixed)) t a.req.want) rank) t
@@ -163,12 +163,12 @@ module _ (deck : Deck) (w : World) (g : IsWhole deck w) (c : SysId) (n : NodeSta
       go None e h = absurd (let f : false ≡ true = sym (ap is_some e) ∙ h in cc)
 
   idle : mine t (g.later c.0) ≡ []
-  idle = (g.system c.0 n at alive).sent t free
+  idle = (g.system c.0 n at).sent t free
 
   silent : answers t (inbox w.medium c.0) ≡ false
   silent =
       idle-silent deck w.medium.words T g.right c.0 n (inbox w.medium c.0) (g.later c.0) (g.out c.0)
-      (g.system c.0 n at alive) t home idle
+      (g.system c.0 n at) t home idle
 
   -- another own task that becomes owner has a record, which is marked
   owner-marked : IsWhole deck (placed w c n o) → (u : TaskId) (v : Res) → is_home_at deck c.0 u ≡ true → u.task ≢ t.task
@@ -180,7 +180,7 @@ module _ (deck : Deck) (w : World) (g : IsWhole deck w) (c : SysId) (n : NodeSta
       false_by (same_task t u) (λ e. absurd (ne (ap (λ (z : TaskId). z.task) (sym (same_task-exact t u e))))) in
       let asks = gain-asks (lists T) t want v u before after in
       let new = gained-among (lists T) t want asks.0 v u asks.1 apart before after in
-      let sys' = g'.system c.0 n' (slice_get-set w.nodes c.0 n n' at) alive in
+      let sys' = g'.system c.0 n' (own-site w c n at o at.live) in
       let has =
       recorded-here deck words (items (w.fixed ++ fixed_by c (fixing.Asked (request_of t a) ∷ []))) g'.right c.0 n'
       (inbox w.medium c.0) (g'.later c.0) (g'.out c.0) sys' u own v
@@ -196,7 +196,7 @@ module _ (deck : Deck) (w : World) (g : IsWhole deck w) (c : SysId) (n : NodeSta
       (after : owns (list_of (after_want (lists (items w.fixed)) t a.req.want) v) t ≡ true) where
     asker-recorded : has_res v (state_of n'.tasks t).records ≡ true
     asker-recorded =
-        own-recorded-ready deck w g c n at alive o refl g' t home v
+        own-recorded-ready deck w g c n at o refl g' t home v
         (owns-has (list_of (lists (items (w.fixed ++ fixed_by c (fixing.Asked (request_of t a) ∷ [])))) v) t
         (ap (λ es. owns es t) (lists-are v) ∙ after))
         unsent
@@ -215,12 +215,12 @@ module _ (deck : Deck) (w : World) (g : IsWhole deck w) (c : SysId) (n : NodeSta
     unfolding placed
     asker-stays (inl e) =
         inl (asker-marks (k.replied.kept (records-distinct deck w.medium.words T g.right c.0 n (inbox w.medium c.0)
-        (g.later c.0) (g.out c.0) (g.system c.0 n at alive) t home)
+        (g.later c.0) (g.out c.0) (g.system c.0 n at) t home)
         v asker-has e))
     asker-stays (inr (inl e)) =
         inr (inl (ap (λ b. hears t v b (inbox w.medium c.0)) asker-recorded
         ∙ hears-recorded t v (has_res v (state_of n.tasks t).records) (inbox w.medium c.0) silent e))
-    asker-stays (inr (inr u)) = inr (inr (untold-own deck w g c n at alive o refl t v u))
+    asker-stays (inr (inr u)) = inr (inr (untold-own deck w g c n at o refl t v u))
 
     -- it owns by this answer
     asker-gains : owns (list_of (lists (items w.fixed)) v) t ≡ false → had_by n' t v ≡ true
@@ -231,40 +231,40 @@ module _ (deck : Deck) (w : World) (g : IsWhole deck w) (c : SysId) (n : NodeSta
         let none : has_res v (state_of n.tasks t).records ≡ false = false_by (has_res v (state_of n.tasks t).records)
         (λ e.
         no_truth (has_task (list_of (lists T) v) t) (idle-element deck w.medium.words T g.right c.0 n
-        (inbox w.medium c.0) (g.later c.0) (g.out c.0) (g.system c.0 n at alive) t home idle v e)
+        (inbox w.medium c.0) (g.later c.0) (g.out c.0) (g.system c.0 n at) t home idle v e)
         gain.1) in
         asker-marks (k.replied.made v (asks.1 ∙ ap Some (sym res)) gain.0 none asker-has)
 
   pub heard-decided : IsWhole deck (placed w c n o) → StaysHeard deck w c n o
   unfolding placed
-  heard-decided g' sent had few h = heard-placed deck w g c n at alive o refl sent had h g' (record {
+  heard-decided g' sent had few h = heard-placed deck w g c n at o refl sent had h g' (record {
     boxes = grown;
-    own_box = own-addressed deck w g c n at alive o refl sent had h grown refl;
-    requests = λ u own is. request u own is (one-place deck w g c.0 n at alive t u home own);
+    own_box = own-addressed deck w g c n at o refl sent had h grown refl;
+    requests = λ u own is. request u own is (one-place deck w g c.0 n at t u home own);
     passed = λ s u v ne own known among.
-        hands-kept deck w g c n at alive o refl sent had h grown refl s u p p' refl held
+        hands-kept deck w g c n at o refl sent had h grown refl s u p p' refl held
         (ap (λ z. is_among u (askers (in_hands z (inbox w.medium c.0)))) (part v known) ∙ among);
     owners = λ u v own wide owned.
         owner u v own wide (sym (ap (λ es. owns es u) (lists-are v)) ∙ owned)
-        (one-place deck w g c.0 n at alive t u home own) (owns (list_of (lists T) v) u) refl;
-    told = λ s y u v z ne found l own wide owned known untold.
-        inr (untold-here deck w g c n at alive o refl s u v p' ne refl
+        (one-place deck w g c.0 n at t u home own) (owns (list_of (lists T) v) u) refl;
+    told = λ s y u v z ne found own wide owned known untold.
+        inr (untold-here deck w g c n at o refl s u v p' ne refl
         (untold-then deck words (lists T) c.0 q fits t want entry of_entry managed.0 managed.1 v u
         (sym (ap (λ es. owns es u) (lists-are v)) ∙ owned)
         (begins v u (ap (λ x. is_untold_by x u v) (part z known) ∙ untold))));
-    gained = λ s y u v ne found l own wide before after.
-        inr (untold-here deck w g c n at alive o refl s u v p' ne refl
+    gained = λ s y u v ne found own wide before after.
+        inr (untold-here deck w g c n at o refl s u v p' ne refl
         (gained-then deck words (lists T) c.0 q fits t want entry of_entry managed.0 managed.1 v u
         (false_by (same_task t u) (λ e. absurd (ne (elsewhere s u own e))))
         (λ same. ne (sym (eqb-true u.system.0 s (and_parts (u.system.0 == s) _ own).0) ∙ same)) before
         (sym (ap (λ es. owns es u) (lists-are v)) ∙ after)));
-    queued = λ s y u v ne found l own wide before after.
+    queued = λ s y u v ne found own wide before after.
         absurd (ne (elsewhere s u own (ap (same_task t) (same_task-exact u t
         (has-gain (lists T) t want v u before (sym (ap (λ es. has_task es u) (lists-are v)) ∙ after)))
         ∙ same_task-itself t)));
     ranks = λ v e x known is. subst (λ xs. x.next ≤ suc (enq_count xs)) (sym grown_items)
         (next-then deck words (lists T) c.0 q fits t want entry of_entry managed.0 managed.1 T item (λ z. z)
-        (enq_count-grown T (item ∷ [])) (low (enq_count T) (λ i z managed. h.ranks c.0 n p i z at alive star managed)) e
+        (enq_count-grown T (item ∷ [])) (low (enq_count T) (λ i z managed. h.ranks c.0 n p i z at star managed)) e
         x (ap (λ (z : StarPart). managed_at z.manager e) (same_Some p' v known) ∙ is));
   })
     where
@@ -282,19 +282,19 @@ module _ (deck : Deck) (w : World) (g : IsWhole deck w) (c : SysId) (n : NodeSta
           → Requested (placed w c n o) c.0 u
       request u own is (inl same) = no_truth (sent_by n' t) (ap (sent_by n') (sym same) ∙ is) unsent
       request u own is (inr ne) =
-          request-kept deck w g c n at alive o refl sent had h grown refl u own ((gentle-other u ne).sent is)
+          request-kept deck w g c n at o refl sent had h grown refl u own ((gentle-other u ne).sent is)
 
       owner : (u : TaskId) (v : Res) → is_home_at deck c.0 u ≡ true → is_systems v ≡ true
           → owns (list_of (after_want (lists T) t want) v) u ≡ true → (u ≡ t) ⊎ (u.task ≢ t.task) → (b : Bool)
           → owns (list_of (lists T) v) u ≡ b → (had_by n' u v ≡ true) ⊎ Hearable (placed w c n o) c.0 n' u v
       owner u v own wide after (inr ne) true e =
-          owner-by deck w g c n at alive o refl sent had h grown refl u v own wide e ((gentle-other u ne).marked v wide)
+          owner-by deck w g c n at o refl sent had h grown refl u v own wide e ((gentle-other u ne).marked v wide)
           ((gentle-other u ne).has v wide)
       owner u v own wide after (inr ne) false e = inl (owner-marked g' u v own ne wide e after)
       owner u v own wide after (inl same) true e =
           subst (λ z. (had_by n' z v ≡ true) ⊎ Hearable (placed w c n o) c.0 n' z v) (sym same)
           (asker-stays g' v wide (ap (λ z. owns (list_of (after_want (lists T) t want) v) z) (sym same) ∙ after)
-          (own-owner deck w g c n at alive o refl sent had h t v home wide
+          (own-owner deck w g c n at o refl sent had h t v home wide
           (ap (λ z. owns (list_of (lists T) v) z) (sym same) ∙ e)))
       owner u v own wide after (inl same) false e =
           inl (subst (λ z. had_by n' z v ≡ true) (sym same) (asker-gains g' v wide

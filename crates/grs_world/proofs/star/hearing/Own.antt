@@ -1,8 +1,8 @@
 -- What is still to be heard of a system's own tasks, where its inbox stays as it is; and the events that leave all
 -- mail, what the system holds, and the lists of the resources of the whole complex.
 use Rattle.std.proofs.Common.{inl, inr, ◌≡◌, ◌≢◌, ◌≤◌, ℕ, suc, Bool, true, List, [], ◌++◌, Some, ap, sym, ◌∙◌, subst}
-use Rattle.std.proofs.Common.{append-nil, false}
-use Rattle.std.specs.Prelude.{◌⊎◌, slice_get}
+use Rattle.std.proofs.Common.{append-nil}
+use Rattle.std.specs.Prelude.{◌⊎◌}
 use Rattle.std.specs.List.{list_any}
 use Rattle.std.proofs.lemmas.Option.{same_Some}
 use Rattle.contention_mgr.specs.Manager.{Managed, managed_at}
@@ -32,20 +32,20 @@ use Rattle.grs_world.proofs.star.hearing.Passing.{Grown, Hearable, Requested, ha
 use Rattle.grs_world.proofs.star.hearing.Passing.{is_untold_by, lists_then, untold-here, untold-own}
 use Rattle.grs_world.specs.World.{World, Turnout, fixed_by, placed}
 use Rattle.grs_wire.specs.Masks.{has}
+use Rattle.grs_world.proofs.run.Site.{Site}
 
-module _ (deck : Deck) (w : World) (g : IsWhole deck w) (c : SysId) (n : NodeState)
-    (at : slice_get w.nodes c.0 ≡ Some n) (alive : has w.medium.removed c.0 ≡ false) (o : Turnout)
+module _ (deck : Deck) (w : World) (g : IsWhole deck w) (c : SysId) (n : NodeState) (at : Site w c.0 n) (o : Turnout)
     (same_removed : o.medium.removed ≡ w.medium.removed) (sent : ℕ → TaskId → Bool) (had : ℕ → TaskId → Res → Bool)
     (h : IsHeard deck w (sent_with sent c n) (had_with had c n)) where
   -- what holds of the system's own tasks before
   pub own-request : (t : TaskId) → is_home_at deck c.0 t ≡ true → sent_by n t ≡ true → Requested w c.0 t
-  own-request t home is = h.requests c.0 n t at alive home (ap (λ f. f t) (put_here sent c.0 (sent_by n)) ∙ is)
+  own-request t home is = h.requests c.0 n t at home (ap (λ f. f t) (put_here sent c.0 (sent_by n)) ∙ is)
 
   pub own-owner : (t : TaskId) (r : Res) → is_home_at deck c.0 t ≡ true → is_systems r ≡ true
       → owns (list_of (all_lists w) r) t ≡ true → (had_by n t r ≡ true) ⊎ Hearable w c.0 n t r
   own-owner t r home wide owned =
       subst (λ b. (b ≡ true) ⊎ Hearable w c.0 n t r) (ap (λ f. f t r) (put_here had c.0 (had_by n)))
-      (h.owners c.0 n t r at alive home wide owned)
+      (h.owners c.0 n t r at home wide owned)
 
   -- ---- the inbox of the system stays
   module _ (boxes : (u : ℕ) → u ≢ c.0 → Grown deck (inbox w.medium u) (inbox o.medium u))
@@ -59,7 +59,7 @@ module _ (deck : Deck) (w : World) (g : IsWhole deck w) (c : SysId) (n : NodeSta
     request-kept t home is = go (own-request t home is)
       where
         go : Requested w c.0 t → Requested (placed w c n o) c.0 t
-        go (inl i) = inl (handed-own deck w g c n at alive o same_removed boxes t home i)
+        go (inl i) = inl (handed-own deck w g c n at o same_removed boxes t home i)
         go (inr e) = inr (ap (list_any (is_timely t)) same ∙ e)
 
     -- an owner whose marks stay, and whose record does
@@ -76,7 +76,7 @@ module _ (deck : Deck) (w : World) (g : IsWhole deck w) (c : SysId) (n : NodeSta
         go (inr (inl e)) =
             inr (inl (ap (hears t r (has_res r (state_of o.step.node.tasks t).records)) same
             ∙ (ap (λ b. hears t r b (inbox w.medium c.0)) has ∙ e)))
-        go (inr (inr u)) = inr (inr (untold-own deck w g c n at alive o same_removed t r u))
+        go (inr (inr u)) = inr (inr (untold-own deck w g c n at o same_removed t r u))
 
     pub owner-kept : (t : TaskId) (r : Res) → is_home_at deck c.0 t ≡ true → is_systems r ≡ true
         → owns (list_of (all_lists w) r) t ≡ true → GentleTo (state_of n.tasks t) (state_of o.step.node.tasks t) →
@@ -87,7 +87,7 @@ module _ (deck : Deck) (w : World) (g : IsWhole deck w) (c : SysId) (n : NodeSta
     pub hands-kept : (s : ℕ) (t : TaskId) (p p' : StarPart) → o.step.node.star ≡ Some p' → p'.held ≡ p.held
         → is_among t (askers (in_hands p (inbox w.medium c.0))) ≡ true → Requested (placed w c n o) s t
     hands-kept s t p p' star held among =
-        inl (handed-here deck w g c n at alive o same_removed t p' star
+        inl (handed-here deck w g c n at o same_removed t p' star
         (ap (λ qs. is_among t (askers (qs ++ requests_in (inbox o.medium c.0)))) held
         ∙ (ap (λ ms. is_among t (askers (p.held ++ requests_in ms))) same ∙ among)))
 
@@ -99,8 +99,7 @@ pub record Holds (p p' : StarPart) (T : List RunItem) : Type 0 where
   pub ranks : (e : ℕ) (x : Managed) → managed_at p'.manager e ≡ Some x → x.next ≤ suc (enq_count T)
 
 -- ---- an event that leaves all mail
-module _ (deck : Deck) (w : World) (g : IsWhole deck w) (c : SysId) (n : NodeState)
-    (at : slice_get w.nodes c.0 ≡ Some n) (alive : has w.medium.removed c.0 ≡ false) (o : Turnout)
+module _ (deck : Deck) (w : World) (g : IsWhole deck w) (c : SysId) (n : NodeState) (at : Site w c.0 n) (o : Turnout)
     (same_removed : o.medium.removed ≡ w.medium.removed) where
   pub heard-calm : ((u : ℕ) → inbox o.medium u ≡ inbox w.medium u) → Gentle n.tasks o.step.node.tasks
       → ((r : Res) → is_systems r ≡ true → list_of (lists_then w c o) r ≡ list_of (all_lists w) r) →
@@ -110,24 +109,24 @@ module _ (deck : Deck) (w : World) (g : IsWhole deck w) (c : SysId) (n : NodeSta
       →
       IsWhole deck (placed w c n o) → StaysHeard deck w c n o
   heard-calm boxes gentle same p p' star star' holds g' sent had few h =
-      heard-placed deck w g c n at alive o same_removed sent had h g' (record {
+      heard-placed deck w g c n at o same_removed sent had h g' (record {
         boxes = grown;
-        own_box = own-addressed deck w g c n at alive o same_removed sent had h grown (boxes c.0);
+        own_box = own-addressed deck w g c n at o same_removed sent had h grown (boxes c.0);
         requests = λ t home is.
-            request-kept deck w g c n at alive o same_removed sent had h grown (boxes c.0) t home
+            request-kept deck w g c n at o same_removed sent had h grown (boxes c.0) t home
             ((gentle.each t).sent is);
         passed = λ s t v ne home known among.
-            hands-kept deck w g c n at alive o same_removed sent had h grown (boxes c.0) s t p p' star' k.held
+            hands-kept deck w g c n at o same_removed sent had h grown (boxes c.0) s t p p' star' k.held
             (ap (λ z. is_among t (askers (in_hands z (inbox w.medium c.0)))) (part v known) ∙ among);
         owners = λ t r home wide owned.
-            owner-kept deck w g c n at alive o same_removed sent had h grown (boxes c.0) t r home wide
+            owner-kept deck w g c n at o same_removed sent had h grown (boxes c.0) t r home wide
             (sym (ap (λ es. owns es t) (same r wide)) ∙ owned) (gentle.each t);
-        told = λ s y t r v ne found lives home wide owned known untold.
-            inr (untold-here deck w g c n at alive o same_removed s t r p' ne star'
+        told = λ s y t r v ne found home wide owned known untold.
+            inr (untold-here deck w g c n at o same_removed s t r p' ne star'
             (k.untold t r (ap (λ z. is_untold_by z t r) (part v known) ∙ untold)));
-        gained = λ s y t r ne found lives home wide before after.
+        gained = λ s y t r ne found home wide before after.
             no_truth (owns (list_of (all_lists w) r) t) (sym (ap (λ es. owns es t) (same r wide)) ∙ after) before;
-        queued = λ s y t r ne found lives home wide before after.
+        queued = λ s y t r ne found home wide before after.
             no_truth (has_task (list_of (all_lists w) r) t) (sym (ap (λ es. has_task es t) (same r wide)) ∙ after)
             before;
         ranks = λ v e x known managed.
@@ -138,7 +137,7 @@ module _ (deck : Deck) (w : World) (g : IsWhole deck w) (c : SysId) (n : NodeSta
       grown u ne = ([], boxes u ∙ sym (append-nil (inbox w.medium u)), tt)
 
       k : Holds p p' (items (w.fixed ++ fixed_by c o.step.fixed))
-      k = holds (λ e x managed. h.ranks c.0 n p e x at alive star managed)
+      k = holds (λ e x managed. h.ranks c.0 n p e x at star managed)
 
       part : (v : StarPart) → n.star ≡ Some v → p ≡ v
       part v known = same_Some p v (sym star ∙ known)

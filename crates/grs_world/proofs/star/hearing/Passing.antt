@@ -1,8 +1,8 @@
 -- What an event of one system has to show for what is still to be heard, beside what is the same for all events: that
 -- of its own tasks, and of what was in its hands; and that nothing is lost then.
 use Rattle.std.proofs.Common.{inl, inr, ◌≡◌, ◌≢◌, ◌≤◌, ℕ, suc, Bool, true, false, cond, ◌&&◌, ◌||◌, List, [], ◌∷◌, ◌++◌}
-use Rattle.std.proofs.Common.{length, Some, refl, ap, sym, ◌∙◌, subst, arith}
-use Rattle.std.specs.Prelude.{◌⊎◌, ◌==◌, filter, set, slice_get}
+use Rattle.std.proofs.Common.{length, Some, refl, ap, sym, ◌∙◌, subst, arith, append-nil, ◌<◌}
+use Rattle.std.specs.Prelude.{◌⊎◌, ◌==◌, filter, slice_get}
 use Rattle.std.specs.List.{list_any}
 use Rattle.std.proofs.lemmas.Bool.{and_parts, eqb-true, eqb-false}
 use Rattle.std.proofs.lemmas.Option.{same_Some}
@@ -23,23 +23,32 @@ use Rattle.grs_wire.specs.declared.request.Req.{Req}
 use Rattle.task_state.specs.View.{state_of}
 use Rattle.grs_known.specs.Items.{RunItem, items, items_from, lists, mine}
 use Rattle.grs_known.proofs.known.Histories.{items-append}
-use Rattle.grs_known.proofs.lists.Facts.{slice_get-set, slice_get-set_other}
 use Rattle.grs_known.proofs.lists.Owners.{is_among}
 use Rattle.grs_known.proofs.lists.Placed.{put_here, put_other}
 use Rattle.grs_known.proofs.system.Says.{askers, is_home_at}
 use Rattle.grs_known.proofs.tasks.Invariant.{has_res}
 use Rattle.grs_world.proofs.star.Heard.{AreAddressed, IsHeard, IsInHands, IsUntold, enq_count, had_by, had_with, hears}
-use Rattle.grs_world.proofs.star.Heard.{is_enq, is_timely, sent_by, sent_with}
+use Rattle.grs_world.proofs.star.Heard.{is_enq, is_timely, sent_by, sent_with, IsAddressed}
 use Rattle.grs_world.proofs.star.Members.{all_lists}
 use Rattle.grs_world.proofs.star.Worlds.{AllHands, IsHand, IsWhole, in_hands, are_live}
 use Rattle.grs_world.proofs.star.hearing.Elements.{IsDueOn, due-sent, recorded-or-due}
 use Rattle.grs_world.proofs.star.hearing.Mails.{addressed-grown, among-grown, any-grown, hears-grown}
 use Rattle.grs_world.specs.World.{World, Turnout, fixed_by, placed}
 use Rattle.grs_wire.specs.Masks.{has}
+use Rattle.grs_world.proofs.run.Site.{Site, own-site, other-site, each_site}
+use Rattle.grs_world.proofs.star.Boxes.{by_box}
+use Rattle.grs_medium.specs.Inboxes.{inbox_of, with_mail}
 
 -- more mails came to an inbox, each under its entry
 abbrev pub Grown : Deck → List Mail → List Mail → Type 0
 Grown deck old new = (more : List Mail) × (new ≡ old ++ more) × AreAddressed deck more
+
+-- so each inbox has grown where a mail came last in one
+pub box-grown : (deck : Deck) (boxes : List (List Mail)) (s : ℕ) (mail : Mail) → s < length boxes
+    → IsAddressed deck mail → (u : ℕ) → Grown deck (inbox_of boxes u) (inbox_of (with_mail boxes s mail) u)
+box-grown deck boxes s mail there addressed u =
+    by_box boxes s mail (Grown deck (inbox_of boxes u)) there u (λ same. (mail ∷ [], refl, (addressed, tt)))
+    (λ ne. ([], sym (append-nil (inbox_of boxes u)), tt))
 
 -- where the request of a task of system s is
 abbrev pub Requested : World → ℕ → TaskId → Type 0
@@ -70,17 +79,17 @@ pub record Passes (deck : Deck) (w : World) (c : SysId) (n : NodeState) (o : Tur
   pub owners : (t : TaskId) (r : Res) → is_home_at deck c.0 t ≡ true → is_systems r ≡ true
       → owns (list_of (lists_then w c o) r) t ≡ true
       → (had_by o.step.node t r ≡ true) ⊎ Hearable (placed w c n o) c.0 o.step.node t r
-  pub told : (s : ℕ) (k : NodeState) (t : TaskId) (r : Res) (p : StarPart) → s ≢ c.0 → slice_get w.nodes s ≡ Some k
-      → has w.medium.removed s ≡ false → is_home_at deck s t ≡ true → is_systems r ≡ true
+  pub told : (s : ℕ) (k : NodeState) (t : TaskId) (r : Res) (p : StarPart) → s ≢ c.0 → Site w s k
+      → is_home_at deck s t ≡ true → is_systems r ≡ true
       → owns (list_of (lists_then w c o) r) t ≡ true → n.star ≡ Some p → is_untold_by p t r ≡ true →
       Hearable (placed w c n o) s k t r
-  pub gained : (s : ℕ) (k : NodeState) (t : TaskId) (r : Res) → s ≢ c.0 → slice_get w.nodes s ≡ Some k
-      → has w.medium.removed s ≡ false → is_home_at deck s t ≡ true → is_systems r ≡ true
+  pub gained : (s : ℕ) (k : NodeState) (t : TaskId) (r : Res) → s ≢ c.0 → Site w s k → is_home_at deck s t ≡ true
+      → is_systems r ≡ true
       → owns (list_of (all_lists w) r) t ≡ false → owns (list_of (lists_then w c o) r) t ≡ true →
       Hearable (placed w c n o) s k t r
   -- a new element's answer comes
-  pub queued : (s : ℕ) (k : NodeState) (t : TaskId) (r : Res) → s ≢ c.0 → slice_get w.nodes s ≡ Some k
-      → has w.medium.removed s ≡ false → is_home_at deck s t ≡ true → is_systems r ≡ true
+  pub queued : (s : ℕ) (k : NodeState) (t : TaskId) (r : Res) → s ≢ c.0 → Site w s k → is_home_at deck s t ≡ true
+      → is_systems r ≡ true
       → has_task (list_of (all_lists w) r) t ≡ false → has_task (list_of (lists_then w c o) r) t ≡ true →
       list_any (is_timely t) (inbox o.medium s) ≡ true
   pub ranks : (p : StarPart) (e : ℕ) (x : Managed) → o.step.node.star ≡ Some p → managed_at p.manager e ≡ Some x
@@ -108,7 +117,7 @@ pub not-handed : (deck : Deck) (w : World) (g : IsWhole deck w) (s : ℕ) (t : T
 not-handed deck w g s t y home due h =
     let z =
     hand-found deck w.medium.words (are_live w) g.later g.out h.system t (in_hands h.part (inbox w.medium h.system))
-    (g.hands h.system h.node h.part h.at h.live h.star).each h.among in
+    (g.hands h.system h.node h.part h.site h.star).each h.among in
     let at_home : t.system.0 ≡ s = eqb-true t.system.0 s (and_parts (t.system.0 == s) _ home).0 in
     let idle : mine t (g.later s) ≡ [] =
     ap (λ u. mine t (g.later u)) (sym at_home) ∙ (ap (λ (v : TaskId). mine v (g.later v.system.0)) z.1 ∙ z.2.idle) in
@@ -121,7 +130,7 @@ pub handed-elsewhere : (deck : Deck) (w : World) (g : IsWhole deck w) (s : ℕ) 
 handed-elsewhere deck w g s t home h same =
     let z =
     hand-found deck w.medium.words (are_live w) g.later g.out h.system t (in_hands h.part (inbox w.medium h.system))
-    (g.hands h.system h.node h.part h.at h.live h.star).each h.among in
+    (g.hands h.system h.node h.part h.site h.star).each h.among in
     let at_home : t.system.0 ≡ s = eqb-true t.system.0 s (and_parts (t.system.0 == s) _ home).0 in
     z.2.apart (ap (λ (v : TaskId). v.system.0) (sym z.1) ∙ (at_home ∙ sym same))
 
@@ -136,12 +145,14 @@ enq_count-grown (x ∷ xs) ys = go (is_enq x.fixed) (enq_count-grown xs ys)
     go false h = h
 
 -- ---- the world after an event of system c
-module _ (deck : Deck) (w : World) (g : IsWhole deck w) (c : SysId) (n : NodeState)
-    (at : slice_get w.nodes c.0 ≡ Some n) (alive : has w.medium.removed c.0 ≡ false) (o : Turnout)
+module _ (deck : Deck) (w : World) (g : IsWhole deck w) (c : SysId) (n : NodeState) (at : Site w c.0 n) (o : Turnout)
     (same_removed : o.medium.removed ≡ w.medium.removed) where
   -- who is removed stays so
   still-live : (s : ℕ) → has w.medium.removed s ≡ false → has o.medium.removed s ≡ false
   still-live s live = ap (λ i. has i s) same_removed ∙ live
+
+  now : Site (placed w c n o) c.0 o.step.node
+  now = own-site w c n at o (still-live c.0 at.live)
 
   -- what is in the hands of others stays there, and so does what they have to tell
   module _ (boxes : (u : ℕ) → u ≢ c.0 → Grown deck (inbox w.medium u) (inbox o.medium u)) where
@@ -153,8 +164,7 @@ module _ (deck : Deck) (w : World) (g : IsWhole deck w) (c : SysId) (n : NodeSta
           system = h.system;
           node = h.node;
           part = h.part;
-          at = slice_get-set_other w.nodes c.0 h.system o.step.node ne ∙ h.at;
-          live = still-live h.system h.live;
+          site = other-site w c n at o h.system h.node ne h.site (still-live h.system h.site.live);
           star = h.star;
           among =
               ap (λ ms. is_among t (askers (in_hands h.part ms))) b.1
@@ -174,7 +184,7 @@ module _ (deck : Deck) (w : World) (g : IsWhole deck w) (c : SysId) (n : NodeSta
         go : (b : Bool) → (h.system == c.0) ≡ b → X
         go true e =
             let same : h.system ≡ c.0 = eqb-true h.system c.0 e in
-            let node : n ≡ h.node = same_Some n h.node (sym at ∙ (ap (slice_get w.nodes) (sym same) ∙ h.at)) in
+            let node : n ≡ h.node = same_Some n h.node (sym at.at ∙ (ap (slice_get w.nodes) (sym same) ∙ h.site.at)) in
             own h.part (ap (λ (z : NodeState). z.star) node ∙ h.star)
             (ap (λ u. is_among t (askers (in_hands h.part (inbox w.medium u)))) (sym same) ∙ h.among)
         go false e = others (handed-on t h (eqb-false h.system c.0 e))
@@ -185,8 +195,7 @@ module _ (deck : Deck) (w : World) (g : IsWhole deck w) (c : SysId) (n : NodeSta
     system = h.system;
     node = h.node;
     part = h.part;
-    at = slice_get-set_other w.nodes c.0 h.system o.step.node ne ∙ h.at;
-    live = still-live h.system h.live;
+    site = other-site w c n at o h.system h.node ne h.site (still-live h.system h.site.live);
     star = h.star;
     apart = h.apart;
     untold = h.untold;
@@ -202,7 +211,7 @@ module _ (deck : Deck) (w : World) (g : IsWhole deck w) (c : SysId) (n : NodeSta
       go : (b : Bool) → (h.system == c.0) ≡ b → X
       go true e =
           let same : h.system ≡ c.0 = eqb-true h.system c.0 e in
-          let node : n ≡ h.node = same_Some n h.node (sym at ∙ (ap (slice_get w.nodes) (sym same) ∙ h.at)) in
+          let node : n ≡ h.node = same_Some n h.node (sym at.at ∙ (ap (slice_get w.nodes) (sym same) ∙ h.site.at)) in
           own h.part (ap (λ (z : NodeState). z.star) node ∙ h.star) h.untold
       go false e = others (untold-on s t r h (eqb-false h.system c.0 e))
 
@@ -214,8 +223,7 @@ module _ (deck : Deck) (w : World) (g : IsWhole deck w) (c : SysId) (n : NodeSta
     system = c.0;
     node = o.step.node;
     part = p;
-    at = slice_get-set w.nodes c.0 n o.step.node at;
-    live = still-live c.0 alive;
+    site = now;
     star = star;
     apart = λ e. ne (sym e);
     untold = untold;
@@ -229,8 +237,7 @@ module _ (deck : Deck) (w : World) (g : IsWhole deck w) (c : SysId) (n : NodeSta
     system = c.0;
     node = o.step.node;
     part = p;
-    at = slice_get-set w.nodes c.0 n o.step.node at;
-    live = still-live c.0 alive;
+    site = now;
     star = star;
     among = among;
   }
@@ -242,7 +249,7 @@ module _ (deck : Deck) (w : World) (g : IsWhole deck w) (c : SysId) (n : NodeSta
       ⊎ ((y : RunItem) × (mine t (g'.later c.0) ≡ y ∷ []) × (sent_by o.step.node t ≡ true))
   unfolding placed
   own-recorded g' t home r has =
-      let h = g'.system c.0 o.step.node (slice_get-set w.nodes c.0 n o.step.node at) (still-live c.0 alive) in
+      let h = g'.system c.0 o.step.node now in
       go (recorded-or-due deck o.medium.words (items (w.fixed ++ fixed_by c o.step.fixed)) g'.right c.0 o.step.node
       (inbox o.medium c.0) (g'.later c.0) (g'.out c.0) h t home r has)
     where
@@ -257,7 +264,7 @@ module _ (deck : Deck) (w : World) (g : IsWhole deck w) (c : SysId) (n : NodeSta
             d.due,
             (due-sent deck o.medium.words (items (w.fixed ++ fixed_by c o.step.fixed)) g'.right c.0 o.step.node
                 (inbox o.medium c.0) (g'.later c.0) (g'.out c.0)
-                (g'.system c.0 o.step.node (slice_get-set w.nodes c.0 n o.step.node at) (still-live c.0 alive)) t home
+                (g'.system c.0 o.step.node now) t home
                 d.item d.due).1,
           )
 
@@ -277,23 +284,6 @@ module _ (deck : Deck) (w : World) (g : IsWhole deck w) (c : SysId) (n : NodeSta
   module _ (sent : ℕ → TaskId → Bool) (had : ℕ → TaskId → Res → Bool)
       (h : IsHeard deck w (sent_with sent c n) (had_with had c n)) (g' : IsWhole deck (placed w c n o))
       (z : Passes deck w c n o) where
-    -- by systems: that of the event, and the others
-    by-system : (P : ℕ → NodeState → Type 0) → P c.0 o.step.node
-        → ((s : ℕ) (k : NodeState) → s ≢ c.0 → slice_get w.nodes s ≡ Some k → P s k) → (s : ℕ) (k : NodeState)
-        → slice_get (set w.nodes c.0 o.step.node) s ≡ Some k → P s k
-    by-system P own others s k f = go (s == c.0) refl
-      where
-        go : (b : Bool) → (s == c.0) ≡ b → P s k
-        go true e =
-            let same : s ≡ c.0 = eqb-true s c.0 e in
-            let is : o.step.node ≡ k =
-            same_Some o.step.node k (sym (slice_get-set w.nodes c.0 n o.step.node at)
-            ∙ (ap (slice_get (set w.nodes c.0 o.step.node)) (sym same) ∙ f)) in
-            subst (P s) is (subst (λ u. P u o.step.node) (sym same) own)
-        go false e =
-            let ne : s ≢ c.0 = eqb-false s c.0 e in
-            others s k ne (sym (slice_get-set_other w.nodes c.0 s o.step.node ne) ∙ f)
-
     grown_count : enq_count (items w.fixed) ≤ enq_count (items (w.fixed ++ fixed_by c o.step.fixed))
     grown_count =
         subst (λ xs. enq_count (items w.fixed) ≤ enq_count xs) (sym (items-append w.fixed (fixed_by c o.step.fixed)))
@@ -312,19 +302,19 @@ module _ (deck : Deck) (w : World) (g : IsWhole deck w) (c : SysId) (n : NodeSta
         (λ j. inl j)
     requests-others s ne t home (inr e) = inr (timely-on s ne t e)
 
-    owners-others : (s : ℕ) (k : NodeState) → s ≢ c.0 → slice_get w.nodes s ≡ Some k → has w.medium.removed s ≡ false
+    owners-others : (s : ℕ) (k : NodeState) → s ≢ c.0 → Site w s k
         → (t : TaskId) (r : Res) → is_home_at deck s t ≡ true → is_systems r ≡ true
         → owns (list_of (lists_then w c o) r) t ≡ true →
         (had s t r ≡ true) ⊎ Hearable w s k t r → (had s t r ≡ true) ⊎ Hearable (placed w c n o) s k t r
     unfolding placed
-    owners-others s k ne found lives t r home wide owned (inl e) = inl e
-    owners-others s k ne found lives t r home wide owned (inr (inl e)) =
+    owners-others s k ne found t r home wide owned (inl e) = inl e
+    owners-others s k ne found t r home wide owned (inr (inl e)) =
         let b = z.boxes s ne in
         inr (inl (ap (hears t r (has_res r (state_of k.tasks t).records)) b.1
         ∙ hears-grown t r (has_res r (state_of k.tasks t).records) (inbox w.medium s) b.0 e))
-    owners-others s k ne found lives t r home wide owned (inr (inr u)) =
+    owners-others s k ne found t r home wide owned (inr (inr u)) =
         by-untold s t r ((had s t r ≡ true) ⊎ Hearable (placed w c n o) s k t r) u
-        (λ p star untold. inr (z.told s k t r p ne found lives home wide owned star untold)) (λ v. inr (inr v))
+        (λ p star untold. inr (z.told s k t r p ne found home wide owned star untold)) (λ v. inr (inr v))
 
     recorded-own : (t : TaskId) (r : Res) → is_home_at deck c.0 t ≡ true
         → has_task (list_of (lists_then w c o) r) t ≡ true
@@ -346,11 +336,11 @@ module _ (deck : Deck) (w : World) (g : IsWhole deck w) (c : SysId) (n : NodeSta
             by-request (inl i) = absurd (not-handed deck (placed w c n o) g' c.0 t y.0 home y.1 i)
             by-request (inr e) = inr e
 
-    recorded-others : (s : ℕ) (k : NodeState) → s ≢ c.0 → slice_get w.nodes s ≡ Some k → has w.medium.removed s ≡ false
+    recorded-others : (s : ℕ) (k : NodeState) → s ≢ c.0 → Site w s k
         → (t : TaskId) (r : Res) → is_home_at deck s t ≡ true → is_systems r ≡ true
         → has_task (list_of (lists_then w c o) r) t ≡ true →
         (has_res r (state_of k.tasks t).records ≡ true) ⊎ (list_any (is_timely t) (inbox o.medium s) ≡ true)
-    recorded-others s k ne found lives t r home wide has = go (has_task (list_of (all_lists w) r) t) refl
+    recorded-others s k ne found t r home wide has = go (has_task (list_of (all_lists w) r) t) refl
       where
         before : (has_res r (state_of k.tasks t).records ≡ true) ⊎ (list_any (is_timely t) (inbox w.medium s) ≡ true)
             → (has_res r (state_of k.tasks t).records ≡ true) ⊎ (list_any (is_timely t) (inbox o.medium s) ≡ true)
@@ -359,8 +349,8 @@ module _ (deck : Deck) (w : World) (g : IsWhole deck w) (c : SysId) (n : NodeSta
 
         go : (b : Bool) → has_task (list_of (all_lists w) r) t ≡ b
             → (has_res r (state_of k.tasks t).records ≡ true) ⊎ (list_any (is_timely t) (inbox o.medium s) ≡ true)
-        go true e = before (h.recorded s k t r found lives home wide e)
-        go false e = inr (z.queued s k t r ne found lives home wide e has)
+        go true e = before (h.recorded s k t r found home wide e)
+        go false e = inr (z.queued s k t r ne found home wide e has)
 
     mails-now : (s : ℕ) → AreAddressed deck (inbox o.medium s)
     mails-now s = go (s == c.0) refl
@@ -374,57 +364,55 @@ module _ (deck : Deck) (w : World) (g : IsWhole deck w) (c : SysId) (n : NodeSta
     pub heard-placed : IsHeard deck (placed w c n o) (sent_with sent c o.step.node) (had_with had c o.step.node)
     unfolding placed
     heard-placed = record {
-      requests = λ s k t found live home is.
-          by-system (λ u y.
-          has w.medium.removed u ≡ false → is_home_at deck u t ≡ true → sent_with sent c o.step.node u t ≡ true
-          → Requested (placed w c n o) u t)
-          (λ l own is_sent. z.requests t own (sym (ap (λ f. f t) (put_here sent c.0 (sent_by o.step.node))) ∙ is_sent))
-          (λ u y ne at_u l there is_sent.
-          requests-others u ne t there (h.requests u y t at_u l there
+      requests = λ s k t found home is.
+          each_site w c n at o was-live (λ u y.
+          is_home_at deck u t ≡ true → sent_with sent c o.step.node u t ≡ true → Requested (placed w c n o) u t)
+          (λ own is_sent. z.requests t own (sym (ap (λ f. f t) (put_here sent c.0 (sent_by o.step.node))) ∙ is_sent))
+          (λ u y ne there own is_sent.
+          requests-others u ne t own (h.requests u y t there own
           (ap (λ f. f t) (put_other sent c.0 (sent_by n) u ne)
           ∙ (sym (ap (λ f. f t) (put_other sent c.0 (sent_by o.step.node) u ne)) ∙ is_sent))))
-          s k found (was-live s live) home is;
-      owners = λ s k t r found live home wide owned.
-          by-system (λ u y.
-          has w.medium.removed u ≡ false → is_home_at deck u t ≡ true
+          s k found home is;
+      owners = λ s k t r found home wide owned.
+          each_site w c n at o was-live (λ u y.
+          is_home_at deck u t ≡ true
           → (had_with had c o.step.node u t r ≡ true) ⊎ Hearable (placed w c n o) u y t r)
-          (λ l own.
+          (λ own.
           subst (λ b. (b ≡ true) ⊎ Hearable (placed w c n o) c.0 o.step.node t r)
           (sym (ap (λ f. f t r) (put_here had c.0 (had_by o.step.node)))) (z.owners t r own wide owned))
-          (λ u y ne at_u l there.
+          (λ u y ne there own.
           subst (λ b. (b ≡ true) ⊎ Hearable (placed w c n o) u y t r)
           (sym (ap (λ f. f t r) (put_other had c.0 (had_by o.step.node) u ne)))
-          (by-owner u y ne at_u l t r there wide owned))
-          s k found (was-live s live) home;
-      recorded = λ s k t r found live home wide has_it.
-          by-system (λ u y.
-          has w.medium.removed u ≡ false → is_home_at deck u t ≡ true
+          (by-owner u y ne there t r own wide owned))
+          s k found home;
+      recorded = λ s k t r found home wide has_it.
+          each_site w c n at o was-live (λ u y.
+          is_home_at deck u t ≡ true
           → (has_res r (state_of y.tasks t).records ≡ true) ⊎ (list_any (is_timely t) (inbox o.medium u) ≡ true))
-          (λ l own. recorded-own t r own has_it)
-          (λ u y ne at_u l there. recorded-others u y ne at_u l t r there wide has_it)
-          s k found (was-live s live) home;
+          (λ own. recorded-own t r own has_it)
+          (λ u y ne there own. recorded-others u y ne there t r own wide has_it)
+          s k found home;
       mails = mails-now;
-      ranks = λ m k p e x found live star managed.
-          by-system (λ u y.
-          has w.medium.removed u ≡ false → y.star ≡ Some p
-          → x.next ≤ suc (enq_count (items (w.fixed ++ fixed_by c o.step.fixed))))
-          (λ l own. z.ranks p e x own managed)
-          (λ u y ne at_u l own. let old = h.ranks u y p e x at_u l own managed in omega (arith, old, grown_count))
-          m k found (was-live m live) star;
+      ranks = λ m k p e x found star managed.
+          each_site w c n at o was-live (λ u y.
+          y.star ≡ Some p → x.next ≤ suc (enq_count (items (w.fixed ++ fixed_by c o.step.fixed))))
+          (λ own. z.ranks p e x own managed)
+          (λ u y ne there own. let old = h.ranks u y p e x there own managed in omega (arith, old, grown_count))
+          m k found star;
     }
       where
         was-live : (s : ℕ) → has o.medium.removed s ≡ false → has w.medium.removed s ≡ false
         was-live s live = sym (ap (λ i. has i s) same_removed) ∙ live
 
-        by-owner : (u : ℕ) (y : NodeState) → u ≢ c.0 → slice_get w.nodes u ≡ Some y → has w.medium.removed u ≡ false
+        by-owner : (u : ℕ) (y : NodeState) → u ≢ c.0 → Site w u y
             → (t : TaskId) (r : Res) → is_home_at deck u t ≡ true → is_systems r ≡ true
             → owns (list_of (lists_then w c o) r) t ≡ true → (had u t r ≡ true) ⊎ Hearable (placed w c n o) u y t r
-        by-owner u y ne at_u lives t r there wide owned = go (owns (list_of (all_lists w) r) t) refl
+        by-owner u y ne found t r there wide owned = go (owns (list_of (all_lists w) r) t) refl
           where
             go : (b : Bool) → owns (list_of (all_lists w) r) t ≡ b
                 → (had u t r ≡ true) ⊎ Hearable (placed w c n o) u y t r
             go true e =
-                owners-others u y ne at_u lives t r there wide owned
+                owners-others u y ne found t r there wide owned
                 (subst (λ b. (b ≡ true) ⊎ Hearable w u y t r) (ap (λ f. f t r) (put_other had c.0 (had_by n) u ne))
-                (h.owners u y t r at_u lives there wide e))
-            go false e = inr (z.gained u y t r ne at_u lives there wide e owned)
+                (h.owners u y t r found there wide e))
+            go false e = inr (z.gained u y t r ne found there wide e owned)

@@ -1,7 +1,7 @@
 -- Events that leave all mail: nothing happens, a task goes on by itself, or a system gives up its interest in an entry.
 use Rattle.std.proofs.Common.{◌≡◌, ◌≤◌, ℕ, suc, true, false, ◌&&◌, List, [], ◌∷◌, ◌++◌, length, Some, refl, ap, sym}
 use Rattle.std.proofs.Common.{◌∙◌, subst, arith}
-use Rattle.std.specs.Prelude.{◌==◌, slice_get}
+use Rattle.std.specs.Prelude.{◌==◌}
 use Rattle.std.proofs.lemmas.Bool.{and_parts}
 use Rattle.contention_mgr.specs.Manager.{Managed, items_of, managed_at}
 use Rattle.grs_base.specs.Same.{same_res}
@@ -35,9 +35,9 @@ use Rattle.grs_world.proofs.star.hearing.Gentle.{Gentle, gentle-none, gentle-tas
 use Rattle.grs_world.proofs.star.hearing.Own.{Holds, heard-calm}
 use Rattle.grs_world.proofs.star.hearing.Passing.{enq_count-grown}
 use Rattle.grs_world.specs.World.{World, fixed_by, placed}
-use Rattle.grs_wire.specs.Masks.{has}
 use Rattle.grs_wire.specs.declared.request.Fixed.{Fixed}
 use Rattle.grs_wire.specs.History.{after_fixed}
+use Rattle.grs_world.proofs.run.Site.{Site}
 
 -- the same part
 pub holds-same : (p : StarPart) (T T' : List RunItem) → enq_count T ≤ enq_count T'
@@ -48,10 +48,9 @@ holds-same p T T' more ranks = record {
   ranks = λ e x managed. let low = ranks e x managed in omega (arith, low, more);
 }
 
-module _ (deck : Deck) (w : World) (g : IsWhole deck w) (c : SysId) (n : NodeState)
-    (at : slice_get w.nodes c.0 ≡ Some n) (alive : has w.medium.removed c.0 ≡ false) where
+module _ (deck : Deck) (w : World) (g : IsWhole deck w) (c : SysId) (n : NodeState) (at : Site w c.0 n) where
   abbrev me : IsMember deck w.medium.words (all_lists w) c.0 n
-  me = g.roles.node c.0 n at alive
+  me = g.roles.node c.0 n at
 
   -- ---- nothing happens to mail, tasks and the part, whatever happens to the medium else
   pub heard-still : (m : MediumState) → m.inboxes ≡ w.medium.inboxes → m.removed ≡ w.medium.removed → (k : NodeState)
@@ -59,7 +58,7 @@ module _ (deck : Deck) (w : World) (g : IsWhole deck w) (c : SysId) (n : NodeSta
       IsWhole deck (placed w c n (record { medium = m; step = record { node = k; fixed = [] } }))
       → StaysHeard deck w c n (record { medium = m; step = record { node = k; fixed = [] } })
   heard-still m boxes removed k gentle star =
-      heard-calm deck w g c n at alive (record { medium = m; step = record { node = k; fixed = [] } }) removed
+      heard-calm deck w g c n at (record { medium = m; step = record { node = k; fixed = [] } }) removed
       (λ u. ap (λ bs. inbox_of bs u) boxes) gentle
       (λ r wide. ap (λ T. list_of (lists T) r) (items-none w.fixed c))
       me.part me.part me.star (star ∙ me.star)
@@ -98,12 +97,12 @@ module _ (deck : Deck) (w : World) (g : IsWhole deck w) (c : SysId) (n : NodeSta
 
   pub heard-task : (t : TaskId) → may_go deck n t ≡ true
       → Task deck w.medium.words (items w.fixed) g.right c.0 n (inbox w.medium c.0) (g.later c.0) (g.out c.0)
-      (g.system c.0 n at alive) c (task_step deck.limit n t (lines_of deck t))
+      (g.system c.0 n at) c (task_step deck.limit n t (lines_of deck t))
       →
       IsWhole deck (placed w c n (record { medium = w.medium; step = task_step deck.limit n t (lines_of deck t) }))
       → StaysHeard deck w c n (record { medium = w.medium; step = task_step deck.limit n t (lines_of deck t) })
   heard-task t goes z =
-      heard-calm deck w g c n at alive (record { medium = w.medium; step = task_step deck.limit n t (lines_of deck t) })
+      heard-calm deck w g c n at (record { medium = w.medium; step = task_step deck.limit n t (lines_of deck t) })
       refl
       (λ u. refl) (task_gentle t goes)
       (λ r wide. (by-fixed z).0 r wide)
@@ -115,7 +114,7 @@ module _ (deck : Deck) (w : World) (g : IsWhole deck w) (c : SysId) (n : NodeSta
     where
       by-fixed :
           Task deck w.medium.words (items w.fixed) g.right c.0 n (inbox w.medium c.0) (g.later c.0) (g.out c.0)
-          (g.system c.0 n at alive) c (task_step deck.limit n t (lines_of deck t))
+          (g.system c.0 n at) c (task_step deck.limit n t (lines_of deck t))
           →
           ((r : Res) → is_systems r ≡ true
           → list_of (lists (items (w.fixed ++ fixed_by c (task_step deck.limit n t (lines_of deck t)).fixed))) r
@@ -150,7 +149,7 @@ module _ (deck : Deck) (w : World) (g : IsWhole deck w) (c : SysId) (n : NodeSta
       (record { medium = m; step = record { node = record n { star = Some (left_at me.part x) }; fixed = [] } })
   heard-left x done m boxes removed =
       let empty = (and_parts (length (items_of (managed_at me.part.manager x)) == 0) _ done).0 in
-      heard-calm deck w g c n at alive
+      heard-calm deck w g c n at
       (record { medium = m; step = record { node = record n { star = Some (left_at me.part x) }; fixed = [] } }) removed
       (λ u. ap (λ bs. inbox_of bs u) boxes) (gentle-none n.tasks)
       (λ r wide. ap (λ T. list_of (lists T) r) (items-none w.fixed c))

@@ -1,10 +1,9 @@
 -- A system sends a request of its own task to the manager of its entry: it is in that system's hands.
 use Rattle.std.proofs.Common.{inl, inr, ◌≡◌, ◌≢◌, ◌≤◌, ◌<◌, ℕ, suc, Bool, true, false, List, [], ◌∷◌, ◌++◌, length}
-use Rattle.std.proofs.Common.{Some, refl, ap, sym, ◌∙◌, subst, append-nil, arith}
-use Rattle.std.specs.Prelude.{◌==◌, get_or, slice_get}
+use Rattle.std.proofs.Common.{Some, refl, ap, sym, ◌∙◌, subst, arith}
+use Rattle.std.specs.Prelude.{◌==◌, get_or}
 use Rattle.std.proofs.lemmas.Bool.{eqb-true, eqb-false, or_left}
-use Rattle.std.proofs.lemmas.List.{get_or-set_same, get_or-set_other}
-use Rattle.std.proofs.lemmas.Option.{same_Some, slice_get-get_or, slice_get_within}
+use Rattle.std.proofs.lemmas.Option.{same_Some}
 use Rattle.contention_mgr.specs.Manager.{ManagerView, entry_wanted, managed_at}
 use Rattle.grs_base.specs.Lists.{has_task, owns}
 use Rattle.grs_base.specs.Same.{same_task}
@@ -25,7 +24,6 @@ use Rattle.task_state.specs.declared.state.Asked.{Asked}
 use Rattle.task_state.specs.declared.state.Phase.TheVariants as phases
 use Rattle.task_state.specs.declared.state.TaskState.{TaskState}
 use Rattle.grs_known.specs.Items.{items, lists}
-use Rattle.grs_known.proofs.lists.Facts.{slice_get-set_other}
 use Rattle.grs_known.proofs.lists.Owners.{is_among}
 use Rattle.grs_known.proofs.lists.Truths.{no_truth}
 use Rattle.grs_known.proofs.system.Ours.{same_place}
@@ -35,20 +33,20 @@ use Rattle.grs_world.proofs.rest.Marks.{is_marked}
 use Rattle.grs_world.proofs.star.Heard.{IsInHands, StaysHeard, enq_count}
 use Rattle.grs_world.proofs.star.Members.{all_lists}
 use Rattle.grs_world.proofs.star.Systems.{ours, requests_in}
-use Rattle.grs_world.proofs.star.Worlds.{IsWhole, in_hands, items-none, are_live, live-below}
+use Rattle.grs_world.proofs.star.Worlds.{IsWhole, in_hands, items-none, are_live, live-below, live-site}
 use Rattle.grs_world.proofs.star.hearing.Gentle.{phase-others, phase-records}
 use Rattle.grs_world.proofs.star.hearing.Mails.{among-last, requests-grown}
 use Rattle.grs_world.proofs.star.hearing.Own.{hands-kept, own-addressed, owner-by, request-kept}
-use Rattle.grs_world.proofs.star.hearing.Passing.{Grown, Requested, heard-placed, is_untold_by, untold-here}
+use Rattle.grs_world.proofs.star.hearing.Passing.{Grown, Requested, heard-placed, is_untold_by, untold-here, box-grown}
 use Rattle.grs_world.specs.World.{World, Turnout, fixed_by, placed}
-use Rattle.grs_wire.specs.Masks.{has}
+use Rattle.grs_world.proofs.run.Site.{Site, site-below, other-site}
+use Rattle.grs_world.proofs.star.Boxes.{its-box, other-box}
 
-module _ (deck : Deck) (w : World) (g : IsWhole deck w) (c : SysId) (n : NodeState)
-    (at : slice_get w.nodes c.0 ≡ Some n) (alive : has w.medium.removed c.0 ≡ false) (words : List ℕ) (flags : ℕ)
-    (t : TaskId) (home : is_home_at deck c.0 t ≡ true) (here : is_task n.tasks t ≡ true) (a : Asked) (entry : ℕ)
-    (of_entry : entry_wanted deck.entries a.req.want ≡ Some entry)
-    (s : SysId) (apart : s.0 ≢ c.0) (lives : are_live w s.0 ≡ true) (p p' : StarPart) (star : n.star ≡ Some p)
-    (held : p'.held ≡ p.held) (manager : p'.manager ≡ p.manager) where
+module _ (deck : Deck) (w : World) (g : IsWhole deck w) (c : SysId) (n : NodeState) (at : Site w c.0 n) (words : List ℕ)
+    (flags : ℕ) (t : TaskId) (home : is_home_at deck c.0 t ≡ true) (here : is_task n.tasks t ≡ true) (a : Asked)
+    (entry : ℕ) (of_entry : entry_wanted deck.entries a.req.want ≡ Some entry) (s : SysId) (apart : s.0 ≢ c.0)
+    (lives : are_live w s.0 ≡ true) (p p' : StarPart) (star : n.star ≡ Some p) (held : p'.held ≡ p.held)
+    (manager : p'.manager ≡ p.manager) where
   abbrev mail : Mail
   mail = Request entry c (request_of t a)
 
@@ -68,28 +66,20 @@ module _ (deck : Deck) (w : World) (g : IsWhole deck w) (c : SysId) (n : NodeSta
   inside : s.0 < length w.nodes
   inside = (live-below w s.0 lives).0
 
-  its_box : inbox sent_on s.0 ≡ inbox w.medium s.0 ++ mail ∷ []
-  its_box =
-      get_or-set_same w.medium.inboxes s.0 (inbox w.medium s.0 ++ mail ∷ []) []
-      (omega (arith, inside, g.roles.systems, g.roles.inboxes))
+  box_there : s.0 < length w.medium.inboxes
+  box_there = omega (arith, inside, g.roles.systems, g.roles.inboxes)
 
-  other_box : (u : ℕ) → u ≢ s.0 → inbox sent_on u ≡ inbox w.medium u
-  other_box u ne = get_or-set_other w.medium.inboxes s.0 u (inbox w.medium s.0 ++ mail ∷ []) [] ne
+  its_box : inbox sent_on s.0 ≡ inbox w.medium s.0 ++ mail ∷ []
+  its_box = its-box w.medium.inboxes s.0 mail box_there
 
   known_system : c.0 < length deck.systems
-  known_system = let there = slice_get_within w.nodes c.0 n at in omega (arith, there, g.roles.systems)
+  known_system = let there = site-below w c.0 n at in omega (arith, there, g.roles.systems)
 
   grown : (u : ℕ) → u ≢ c.0 → Grown deck (inbox w.medium u) (inbox sent_on u)
-  grown u ne = go (u == s.0) refl
-    where
-      go : (b : Bool) → (u == s.0) ≡ b → Grown deck (inbox w.medium u) (inbox sent_on u)
-      go true e =
-          subst (λ i. Grown deck (inbox w.medium i) (inbox sent_on i)) (sym (eqb-true u s.0 e))
-          (mail ∷ [], its_box, ((of_entry, known_system), tt))
-      go false e = ([], other_box u (eqb-false u s.0 e) ∙ sym (append-nil (inbox w.medium u)), tt)
+  grown u ne = box-grown deck w.medium.inboxes s.0 mail box_there (of_entry, known_system) u
 
   same_box : inbox sent_on c.0 ≡ inbox w.medium c.0
-  same_box = other_box c.0 (λ e. apart (sym e))
+  same_box = other-box w.medium.inboxes s.0 mail c.0 (λ e. apart (sym e))
 
   same_items : items (w.fixed ++ fixed_by c []) ≡ items w.fixed
   same_items = items-none w.fixed c
@@ -99,17 +89,13 @@ module _ (deck : Deck) (w : World) (g : IsWhole deck w) (c : SysId) (n : NodeSta
   unfolding placed
   in-manager =
       let k : NodeState = get_or w.nodes s.0 n in
-      let found : slice_get w.nodes s.0 ≡ Some k = slice_get-get_or w.nodes s.0 n inside in
-      let m = g.roles.node s.0 k found (live-below w s.0 lives).1 in
+      let found : Site w s.0 k = live-site w s.0 n lives in
+      let m = g.roles.node s.0 k found in
       record {
         system = s.0;
         node = k;
         part = m.part;
-        at =
-            slice_get-set_other w.nodes c.0 s.0 (record n { tasks = with_phase n.tasks t phases.Sent; star = Some p' })
-            apart
-            ∙ found;
-        live = (live-below w s.0 lives).1;
+        site = other-site w c n at o s.0 k apart found found.live;
         star = m.star;
         among =
             among-last t m.part.held (requests_in (inbox sent_on s.0)) (ap (λ ms. is_among t (askers (requests_in ms)))
@@ -120,28 +106,28 @@ module _ (deck : Deck) (w : World) (g : IsWhole deck w) (c : SysId) (n : NodeSta
       }
 
   pub heard-sent : IsWhole deck (placed w c n o) → StaysHeard deck w c n o
-  heard-sent g' sent had few h = heard-placed deck w g c n at alive o refl sent had h g' (record {
+  heard-sent g' sent had few h = heard-placed deck w g c n at o refl sent had h g' (record {
     boxes = grown;
-    own_box = own-addressed deck w g c n at alive o refl sent had h grown same_box;
+    own_box = own-addressed deck w g c n at o refl sent had h grown same_box;
     requests = λ u own is. sends u own is (u.task == t.task) refl;
     passed = λ i u v ne own known among.
-        hands-kept deck w g c n at alive o refl sent had h grown same_box i u p p' refl held
+        hands-kept deck w g c n at o refl sent had h grown same_box i u p p' refl held
         (ap (λ z. is_among u (askers (in_hands z (inbox w.medium c.0)))) (part v known) ∙ among);
     owners = λ u q own wide owned.
-        owner-by deck w g c n at alive o refl sent had h grown same_box u q own wide (before u q owned)
+        owner-by deck w g c n at o refl sent had h grown same_box u q own wide (before u q owned)
         (λ marked. ap (is_marked q) (phase-records n.tasks t phases.Sent here u) ∙ marked)
         (ap (has_res q) (phase-records n.tasks t phases.Sent here u));
-    told = λ i y u q v ne found l own wide owned known untold.
-        inr (untold-here deck w g c n at alive o refl i u q p' ne refl
+    told = λ i y u q v ne found own wide owned known untold.
+        inr (untold-here deck w g c n at o refl i u q p' ne refl
         (keeps u q (ap (λ z. is_untold_by z u q) (part v known) ∙ untold)));
-    gained = λ i y u q ne found l own wide absent present.
+    gained = λ i y u q ne found own wide absent present.
         no_truth (owns (list_of (all_lists w) q) u) (before u q present) absent;
-    queued = λ i y u q ne found l own wide absent present.
+    queued = λ i y u q ne found own wide absent present.
         no_truth (has_task (list_of (all_lists w) q) u)
         (sym (ap (λ T. has_task (list_of (lists T) q) u) same_items) ∙ present) absent;
     ranks = λ v e x known managed.
         subst (λ T. x.next ≤ suc (enq_count T)) (sym same_items)
-        (h.ranks c.0 n p e x at alive star (sym (ap (λ (z : ManagerView). managed_at z e) manager)
+        (h.ranks c.0 n p e x at star (sym (ap (λ (z : ManagerView). managed_at z e) manager)
         ∙ (ap (λ (z : StarPart). managed_at z.manager e) (same_Some p' v known) ∙ managed)));
   })
     where
@@ -160,12 +146,12 @@ module _ (deck : Deck) (w : World) (g : IsWhole deck w) (c : SysId) (n : NodeSta
           → is_sent (state_of (with_phase n.tasks t phases.Sent) u).phase ≡ true → (b : Bool) → (u.task == t.task) ≡ b
           → Requested (placed w c n o) c.0 u
       sends u own is false e =
-          request-kept deck w g c n at alive o refl sent had h grown same_box u own
+          request-kept deck w g c n at o refl sent had h grown same_box u own
           (sym (ap (λ (y : TaskState). is_sent y.phase)
           (phase-others n.tasks t phases.Sent here u (eqb-false u.task t.task e)))
           ∙ is)
       sends u own is true e =
-          let k = (g.system c.0 n at alive).at in
+          let k = (g.system c.0 n at).at in
           let x = ours deck c.0 (items w.fixed) (g.later c.0) (g.out c.0) n k u own in
           let y = ours deck c.0 (items w.fixed) (g.later c.0) (g.out c.0) n k t home in
           let same : u ≡ t =

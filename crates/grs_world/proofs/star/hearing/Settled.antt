@@ -1,11 +1,10 @@
 -- A manager settles a request of another system: the asker's answer comes, own tasks that became owners are told, and
 -- those of other systems are still to be told.
 use Rattle.std.proofs.Common.{inl, inr, ◌≡◌, ◌≢◌, ◌≤◌, ℕ, suc, Bool, true, false, ◌||◌, List, [], ◌∷◌, ◌++◌, Option}
-use Rattle.std.proofs.Common.{Some, None, refl, ap, sym, ◌∙◌, subst, append-nil, arith}
-use Rattle.std.specs.Prelude.{◌⊎◌, ◌==◌, drop, is_some, nat_le, slice_get}
+use Rattle.std.proofs.Common.{Some, None, refl, ap, sym, ◌∙◌, subst, arith, ◌<◌, length}
+use Rattle.std.specs.Prelude.{◌⊎◌, ◌==◌, drop, is_some, nat_le}
 use Rattle.std.specs.List.{list_any}
-use Rattle.std.proofs.lemmas.Bool.{and_from, and_parts, eqb-true, eqb-false}
-use Rattle.std.proofs.lemmas.List.{get_or-set_same, get_or-set_other}
+use Rattle.std.proofs.lemmas.Bool.{and_from, and_parts, eqb-true}
 use Rattle.std.proofs.lemmas.Option.{same_Some}
 use Rattle.contention_mgr.specs.Manager.{Managed, after_request, entry_wanted, kept_for, managed_at, managed_for}
 use Rattle.lock_structure.specs.Entries.{entry_of_res}
@@ -33,7 +32,7 @@ use Rattle.grs_known.specs.Items.{RunItem, items, lists, mine}
 use Rattle.grs_known.proofs.known.Histories.{made_item}
 use Rattle.grs_known.proofs.known.ItemLaws.{lists-push}
 use Rattle.grs_known.proofs.lists.All.{owns-has}
-use Rattle.grs_known.proofs.lists.Facts.{any-last, slice_get-set}
+use Rattle.grs_known.proofs.lists.Facts.{any-last}
 use Rattle.grs_known.proofs.lists.Owners.{is_among}
 use Rattle.grs_known.proofs.lists.Truths.{false_by, no_truth, task_swap}
 use Rattle.grs_known.proofs.system.Says.{askers, is_home_at}
@@ -50,15 +49,15 @@ use Rattle.grs_world.proofs.star.hearing.Mails.{hears-answer}
 use Rattle.grs_world.proofs.star.hearing.Managing.{gained-then, next-then, untold-then}
 use Rattle.grs_world.proofs.star.hearing.Own.{own-addressed, owner-kept, request-kept}
 use Rattle.grs_world.proofs.star.hearing.Passing.{Grown, Hearable, Requested, enq_count-grown, handed-here}
-use Rattle.grs_world.proofs.star.hearing.Passing.{heard-placed, is_untold_by, untold-here}
+use Rattle.grs_world.proofs.star.hearing.Passing.{heard-placed, is_untold_by, untold-here, box-grown}
 use Rattle.grs_world.specs.World.{World, Turnout, fixed_by, placed}
 use Rattle.grs_wire.specs.Masks.{has}
+use Rattle.grs_world.proofs.run.Site.{Site, own-site}
+use Rattle.grs_world.proofs.star.Boxes.{its-box, other-box}
 
-module _ (deck : Deck) (w : World) (g : IsWhole deck w) (c : SysId) (n : NodeState)
-    (at : slice_get w.nodes c.0 ≡ Some n) (alive : has w.medium.removed c.0 ≡ false) (p : StarPart)
-    (star : n.star ≡ Some p) (fits : IsPart deck w.medium.words (lists (items w.fixed)) c.0 p)
-    (q : Req) (qs : List Req) (held : p.held ≡ q ∷ qs)
-    (hand : IsHand deck w.medium.words (are_live w) g.later g.out c.0 q)
+module _ (deck : Deck) (w : World) (g : IsWhole deck w) (c : SysId) (n : NodeState) (at : Site w c.0 n) (p : StarPart)
+    (star : n.star ≡ Some p) (fits : IsPart deck w.medium.words (lists (items w.fixed)) c.0 p) (q : Req) (qs : List Req)
+    (held : p.held ≡ q ∷ qs) (hand : IsHand deck w.medium.words (are_live w) g.later g.out c.0 q)
     (same_owners : owners_by p q ≡ new_owners (lists (items w.fixed)) q.task q.want) (flags : ℕ) where
   abbrev T : List RunItem
   T = items w.fixed
@@ -107,27 +106,19 @@ module _ (deck : Deck) (w : World) (g : IsWhole deck w) (c : SysId) (n : NodeSta
     };
   }
 
-  its_box : inbox sent_on q.task.system.0 ≡ inbox w.medium q.task.system.0 ++ answer ∷ []
-  its_box =
-      get_or-set_same w.medium.inboxes q.task.system.0 (inbox w.medium q.task.system.0 ++ answer ∷ []) []
-      (let inside = (live-below w q.task.system.0 hand.below).0 in
-      omega (arith, inside, g.roles.systems, g.roles.inboxes))
+  box_there : q.task.system.0 < length w.medium.inboxes
+  box_there =
+      let inside = (live-below w q.task.system.0 hand.below).0 in
+      omega (arith, inside, g.roles.systems, g.roles.inboxes)
 
-  other_box : (u : ℕ) → u ≢ q.task.system.0 → inbox sent_on u ≡ inbox w.medium u
-  other_box u ne =
-      get_or-set_other w.medium.inboxes q.task.system.0 u (inbox w.medium q.task.system.0 ++ answer ∷ []) [] ne
+  its_box : inbox sent_on q.task.system.0 ≡ inbox w.medium q.task.system.0 ++ answer ∷ []
+  its_box = its-box w.medium.inboxes q.task.system.0 answer box_there
 
   grown : (u : ℕ) → u ≢ c.0 → Grown deck (inbox w.medium u) (inbox sent_on u)
-  grown u ne = go (u == q.task.system.0) refl
-    where
-      go : (b : Bool) → (u == q.task.system.0) ≡ b → Grown deck (inbox w.medium u) (inbox sent_on u)
-      go true e =
-          subst (λ s. Grown deck (inbox w.medium s) (inbox sent_on s)) (sym (eqb-true u q.task.system.0 e))
-          (answer ∷ [], its_box, (tt, tt))
-      go false e = ([], other_box u (eqb-false u q.task.system.0 e) ∙ sym (append-nil (inbox w.medium u)), tt)
+  grown u ne = box-grown deck w.medium.inboxes q.task.system.0 answer box_there tt u
 
   same_box : inbox sent_on c.0 ≡ inbox w.medium c.0
-  same_box = other_box c.0 (λ e. hand.apart (sym e))
+  same_box = other-box w.medium.inboxes q.task.system.0 answer c.0 (λ e. hand.apart (sym e))
 
   gentle : Gentle n.tasks (tell_new n.tasks (res_wanted q.want) (owners_by p q))
   gentle = gentle-new n.tasks (res_wanted q.want) (owners_by p q)
@@ -180,14 +171,14 @@ module _ (deck : Deck) (w : World) (g : IsWhole deck w) (c : SysId) (n : NodeSta
         (and_from (same_task u q.task) (nat_le (rank_of p q) last_number) same in-time))
 
     -- the asker, where its answer gives control: it had no record, and no answer before
-    asker-hears : (s : ℕ) (y : NodeState) (u : TaskId) (v : Res) → slice_get w.nodes s ≡ Some y
-        → has w.medium.removed s ≡ false → is_home_at deck s u ≡ true → same_task u q.task ≡ true
+    asker-hears : (s : ℕ) (y : NodeState) (u : TaskId) (v : Res) → Site w s y → is_home_at deck s u ≡ true
+        → same_task u q.task ≡ true
         → owns (list_of (lists T) v) u ≡ false → owns (list_of (after_want (lists T) q.task q.want) v) u ≡ true →
         hears u v (has_res v (state_of y.tasks u).records) (inbox sent_on s) ≡ true
-    asker-hears s y u v found lives home same before after =
+    asker-hears s y u v found home same before after =
         let task : u ≡ q.task = same_task-exact u q.task same in
         let there : s ≡ q.task.system.0 = at_home s u home same in
-        let sys = g.system s y found lives in
+        let sys = g.system s y found in
         let idle : mine u (g.later s) ≡ [] =
         ap (λ z. mine z (g.later s)) task ∙ (ap (λ i. mine q.task (g.later i)) there ∙ hand.idle) in
         let silent =
@@ -226,7 +217,7 @@ module _ (deck : Deck) (w : World) (g : IsWhole deck w) (c : SysId) (n : NodeSta
   owner-marked g' u v home wide before after =
       let asks = gain-asks (lists T) q.task q.want v u before after in
       let new = gained-among (lists T) q.task q.want asks.0 v u asks.1 (not-asker u home) before after in
-      let sys' = g'.system c.0 n' (slice_get-set w.nodes c.0 n n' at) alive in
+      let sys' = g'.system c.0 n' (own-site w c n at o at.live) in
       let has =
       recorded-here deck w.medium.words (items (w.fixed ++ fixed_by c (fixing.Asked q ∷ []))) g'.right c.0 n'
       (inbox sent_on c.0) (g'.later c.0) (g'.out c.0) sys' u home v
@@ -236,31 +227,31 @@ module _ (deck : Deck) (w : World) (g : IsWhole deck w) (c : SysId) (n : NodeSta
       (ap (entry_of_res deck.entries) new.0 ∙ res-entry deck.entries q.want asks.0 hand.entry asks.1 hand.at)
       hand.managed in
       new-marked n.tasks (res_wanted q.want) v (owners_by p q) u (asks.1 ∙ ap Some (sym new.0)) wide
-      (ap (is_among u) same_owners ∙ new.1) ((g.system c.0 n at alive).at.good.here u home)
+      (ap (is_among u) same_owners ∙ new.1) ((g.system c.0 n at).at.good.here u home)
       (sym ((gentle.each u).has v wide) ∙ has)
 
   pub heard-settled : IsWhole deck (placed w c n o) → StaysHeard deck w c n o
   unfolding placed
-  heard-settled g' sent had few h = heard-placed deck w g c n at alive o refl sent had h g' (record {
+  heard-settled g' sent had few h = heard-placed deck w g c n at o refl sent had h g' (record {
     boxes = grown;
-    own_box = own-addressed deck w g c n at alive o refl sent had h grown same_box;
+    own_box = own-addressed deck w g c n at o refl sent had h grown same_box;
     requests = λ u home is.
-        request-kept deck w g c n at alive o refl sent had h grown same_box u home ((gentle.each u).sent is);
+        request-kept deck w g c n at o refl sent had h grown same_box u home ((gentle.each u).sent is);
     passed = λ s u v ne home known among.
         passes s u home (same_task u q.task) refl (sym
         (ap (λ hs. is_among u (askers (hs ++ requests_in (inbox w.medium c.0)))) held)
         ∙ (ap (λ z. is_among u (askers (in_hands z (inbox w.medium c.0)))) (part v known) ∙ among));
     owners = λ u v home wide owned.
         owner u v home wide (sym (ap (λ es. owns es u) (lists-are v)) ∙ owned) (owns (list_of (lists T) v) u) refl;
-    told = λ s y u v z ne found lives home wide owned known untold.
-        inr (untold-here deck w g c n at alive o refl s u v p' ne refl
+    told = λ s y u v z ne found home wide owned known untold.
+        inr (untold-here deck w g c n at o refl s u v p' ne refl
         (untold-then deck w.medium.words (lists T) c.0 p fits q.task q.want hand.entry hand.at managed.0
         managed.1 v u (sym (ap (λ es. owns es u) (lists-are v)) ∙ owned)
         (ap (λ x. is_untold_by x u v) (part z known) ∙ untold)));
-    gained = λ s y u v ne found lives home wide before after.
-        gains-control s y u v ne found lives home before (sym (ap (λ es. owns es u) (lists-are v)) ∙ after)
+    gained = λ s y u v ne found home wide before after.
+        gains-control s y u v ne found home before (sym (ap (λ es. owns es u) (lists-are v)) ∙ after)
         (same_task u q.task) refl;
-    queued = λ s y u v ne found lives home wide before after.
+    queued = λ s y u v ne found home wide before after.
         timely-last few ranks s u home
         (has-gain (lists T) q.task q.want v u before (sym (ap (λ es. has_task es u) (lists-are v)) ∙ after));
     ranks = λ v e x known is. subst (λ xs. x.next ≤ suc (enq_count xs)) (sym grown_items)
@@ -270,7 +261,7 @@ module _ (deck : Deck) (w : World) (g : IsWhole deck w) (c : SysId) (n : NodeSta
   })
     where
       ranks : (e : ℕ) (x : Managed) → managed_at p.manager e ≡ Some x → x.next ≤ suc (enq_count (items w.fixed))
-      ranks e x is = h.ranks c.0 n p e x at alive star is
+      ranks e x is = h.ranks c.0 n p e x at star is
 
       part : (v : StarPart) → n.star ≡ Some v → p ≡ v
       part v known = same_Some p v (sym star ∙ known)
@@ -280,7 +271,7 @@ module _ (deck : Deck) (w : World) (g : IsWhole deck w) (c : SysId) (n : NodeSta
           → Requested (placed w c n o) s u
       passes s u home true e among = inr (timely-last few ranks s u home e)
       passes s u home false e among =
-          inl (handed-here deck w g c n at alive o refl u p'
+          inl (handed-here deck w g c n at o refl u p'
           refl (ap (λ hs. is_among u (askers (drop 1 hs ++ requests_in (inbox sent_on c.0)))) held
           ∙ (ap (λ ms. is_among u (askers (qs ++ requests_in ms))) same_box
           ∙ (sym (ap (λ b. b || is_among u (askers (qs ++ requests_in (inbox w.medium c.0)))) e) ∙ among))))
@@ -289,17 +280,17 @@ module _ (deck : Deck) (w : World) (g : IsWhole deck w) (c : SysId) (n : NodeSta
           → owns (list_of (after_want (lists T) q.task q.want) v) u ≡ true → (b : Bool)
           → owns (list_of (lists T) v) u ≡ b → (had_by n' u v ≡ true) ⊎ Hearable (placed w c n o) c.0 n' u v
       owner u v home wide after true e =
-          owner-kept deck w g c n at alive o refl sent had h grown same_box u v home wide e (gentle.each u)
+          owner-kept deck w g c n at o refl sent had h grown same_box u v home wide e (gentle.each u)
       owner u v home wide after false e = inl (owner-marked g' u v home wide e after)
 
-      gains-control : (s : ℕ) (y : NodeState) (u : TaskId) (v : Res) → s ≢ c.0 → slice_get w.nodes s ≡ Some y
-          → has w.medium.removed s ≡ false → is_home_at deck s u ≡ true → owns (list_of (lists T) v) u ≡ false
+      gains-control : (s : ℕ) (y : NodeState) (u : TaskId) (v : Res) → s ≢ c.0 → Site w s y → is_home_at deck s u ≡ true
+          → owns (list_of (lists T) v) u ≡ false
           → owns (list_of (after_want (lists T) q.task q.want) v) u ≡ true →
           (b : Bool) → same_task u q.task ≡ b → Hearable (placed w c n o) s y u v
-      gains-control s y u v ne found lives home before after true e =
-          inl (asker-hears few ranks s y u v found lives home e before after)
-      gains-control s y u v ne found lives home before after false e =
-          inr (untold-here deck w g c n at alive o refl s u v p' ne refl
+      gains-control s y u v ne found home before after true e =
+          inl (asker-hears few ranks s y u v found home e before after)
+      gains-control s y u v ne found home before after false e =
+          inr (untold-here deck w g c n at o refl s u v p' ne refl
           (gained-then deck w.medium.words (lists T) c.0 p fits q.task q.want hand.entry hand.at managed.0
           managed.1 v u (task_swap u q.task e)
           (λ same. ne (sym (eqb-true u.system.0 s (and_parts (u.system.0 == s) _ home).0) ∙ same)) before after))

@@ -1,9 +1,8 @@
 -- A manager tells an owner of another system: it hears that where it has a record, or its answer comes before.
 use Rattle.std.proofs.Common.{inl, inr, ◌≡◌, ◌≢◌, ◌≤◌, ◌<◌, ℕ, suc, Bool, true, false, ◌&&◌, [], ◌∷◌, ◌++◌, length}
-use Rattle.std.proofs.Common.{Some, refl, ap, sym, ◌∙◌, subst, append-nil, arith}
-use Rattle.std.specs.Prelude.{◌==◌, slice_get}
-use Rattle.std.proofs.lemmas.Bool.{and_parts, eqb-true, eqb-false}
-use Rattle.std.proofs.lemmas.List.{get_or-set_same, get_or-set_other}
+use Rattle.std.proofs.Common.{Some, refl, ap, sym, ◌∙◌, subst, arith}
+use Rattle.std.specs.Prelude.{◌==◌}
+use Rattle.std.proofs.lemmas.Bool.{and_parts, eqb-true}
 use Rattle.std.proofs.lemmas.Option.{same_Some}
 use Rattle.contention_mgr.specs.Manager.{after_telling, managed_at}
 use Rattle.grs_base.specs.Lists.{has_task, owns}
@@ -33,12 +32,12 @@ use Rattle.grs_world.proofs.star.hearing.Gains.{telling-next, telling-untold}
 use Rattle.grs_world.proofs.star.hearing.Gentle.{gentle-none}
 use Rattle.grs_world.proofs.star.hearing.Mails.{hears-granted}
 use Rattle.grs_world.proofs.star.hearing.Own.{hands-kept, own-addressed, owner-kept, request-kept}
-use Rattle.grs_world.proofs.star.hearing.Passing.{Grown, Hearable, heard-placed, is_untold_by, untold-here}
+use Rattle.grs_world.proofs.star.hearing.Passing.{Grown, Hearable, heard-placed, is_untold_by, untold-here, box-grown}
 use Rattle.grs_world.specs.World.{World, Turnout, fixed_by, placed}
-use Rattle.grs_wire.specs.Masks.{has}
+use Rattle.grs_world.proofs.run.Site.{Site}
+use Rattle.grs_world.proofs.star.Boxes.{its-box, other-box}
 
-module _ (deck : Deck) (w : World) (g : IsWhole deck w) (c : SysId) (n : NodeState)
-    (at : slice_get w.nodes c.0 ≡ Some n) (alive : has w.medium.removed c.0 ≡ false) (p : StarPart)
+module _ (deck : Deck) (w : World) (g : IsWhole deck w) (c : SysId) (n : NodeState) (at : Site w c.0 n) (p : StarPart)
     (star : n.star ≡ Some p) (t : TaskId) (r : Res) (apart : t.system.0 ≢ c.0) (inside : t.system.0 < length w.nodes)
     (flags : ℕ) where
   abbrev sent_on : MediumState
@@ -56,51 +55,43 @@ module _ (deck : Deck) (w : World) (g : IsWhole deck w) (c : SysId) (n : NodeSta
     };
   }
 
-  its_box : inbox sent_on t.system.0 ≡ inbox w.medium t.system.0 ++ Granted t r ∷ []
-  its_box =
-      get_or-set_same w.medium.inboxes t.system.0 (inbox w.medium t.system.0 ++ Granted t r ∷ []) []
-      (omega (arith, inside, g.roles.systems, g.roles.inboxes))
+  box_there : t.system.0 < length w.medium.inboxes
+  box_there = omega (arith, inside, g.roles.systems, g.roles.inboxes)
 
-  other_box : (u : ℕ) → u ≢ t.system.0 → inbox sent_on u ≡ inbox w.medium u
-  other_box u ne = get_or-set_other w.medium.inboxes t.system.0 u (inbox w.medium t.system.0 ++ Granted t r ∷ []) [] ne
+  its_box : inbox sent_on t.system.0 ≡ inbox w.medium t.system.0 ++ Granted t r ∷ []
+  its_box = its-box w.medium.inboxes t.system.0 (Granted t r) box_there
 
   grown : (u : ℕ) → u ≢ c.0 → Grown deck (inbox w.medium u) (inbox sent_on u)
-  grown u ne = go (u == t.system.0) refl
-    where
-      go : (b : Bool) → (u == t.system.0) ≡ b → Grown deck (inbox w.medium u) (inbox sent_on u)
-      go true e =
-          subst (λ s. Grown deck (inbox w.medium s) (inbox sent_on s)) (sym (eqb-true u t.system.0 e))
-          (Granted t r ∷ [], its_box, (tt, tt))
-      go false e = ([], other_box u (eqb-false u t.system.0 e) ∙ sym (append-nil (inbox w.medium u)), tt)
+  grown u ne = box-grown deck w.medium.inboxes t.system.0 (Granted t r) box_there tt u
 
   same_box : inbox sent_on c.0 ≡ inbox w.medium c.0
-  same_box = other_box c.0 (λ e. apart (sym e))
+  same_box = other-box w.medium.inboxes t.system.0 (Granted t r) c.0 (λ e. apart (sym e))
 
   same_items : items (w.fixed ++ fixed_by c []) ≡ items w.fixed
   same_items = items-none w.fixed c
 
   pub heard-told : IsWhole deck (placed w c n o) → StaysHeard deck w c n o
   unfolding placed
-  heard-told g' sent had few h = heard-placed deck w g c n at alive o refl sent had h g' (record {
+  heard-told g' sent had few h = heard-placed deck w g c n at o refl sent had h g' (record {
     boxes = grown;
-    own_box = own-addressed deck w g c n at alive o refl sent had h grown same_box;
-    requests = λ u home is. request-kept deck w g c n at alive o refl sent had h grown same_box u home is;
+    own_box = own-addressed deck w g c n at o refl sent had h grown same_box;
+    requests = λ u home is. request-kept deck w g c n at o refl sent had h grown same_box u home is;
     passed = λ s u v ne home known among.
-        hands-kept deck w g c n at alive o refl sent had h grown same_box s u p p' refl refl
+        hands-kept deck w g c n at o refl sent had h grown same_box s u p p' refl refl
         (ap (λ z. is_among u (askers (in_hands z (inbox w.medium c.0)))) (part v known) ∙ among);
     owners = λ u q home wide owned.
-        owner-kept deck w g c n at alive o refl sent had h grown same_box u q home wide (before u q owned)
+        owner-kept deck w g c n at o refl sent had h grown same_box u q home wide (before u q owned)
         ((gentle-none n.tasks).each u);
-    told = λ s y u q v ne found lives home wide owned known untold.
-        tells s y u q ne found lives home wide (before u q owned) (ap (λ z. is_untold_by z u q) (part v known) ∙ untold)
+    told = λ s y u q v ne found home wide owned known untold.
+        tells s y u q ne found home wide (before u q owned) (ap (λ z. is_untold_by z u q) (part v known) ∙ untold)
         (same_res r q && same_task t u) refl;
-    gained = λ s y u q ne found lives home wide absent present.
+    gained = λ s y u q ne found home wide absent present.
         no_truth (owns (list_of (all_lists w) q) u) (before u q present) absent;
-    queued = λ s y u q ne found lives home wide absent present.
+    queued = λ s y u q ne found home wide absent present.
         no_truth (has_task (list_of (all_lists w) q) u)
         (sym (ap (λ T. has_task (list_of (lists T) q) u) same_items) ∙ present) absent;
     ranks = λ v e x known managed. subst (λ T. x.next ≤ suc (enq_count T)) (sym same_items)
-        (telling-next p.manager t r (suc (enq_count (items w.fixed))) (λ i z is. h.ranks c.0 n p i z at alive star is) e
+        (telling-next p.manager t r (suc (enq_count (items w.fixed))) (λ i z is. h.ranks c.0 n p i z at star is) e
         x (ap (λ (z : StarPart). managed_at z.manager e) (same_Some p' v known) ∙ managed));
   })
     where
@@ -111,13 +102,13 @@ module _ (deck : Deck) (w : World) (g : IsWhole deck w) (c : SysId) (n : NodeSta
           → owns (list_of (all_lists w) q) u ≡ true
       before u q owned = sym (ap (λ T. owns (list_of (lists T) q) u) same_items) ∙ owned
 
-      tells : (s : ℕ) (y : NodeState) (u : TaskId) (q : Res) → s ≢ c.0 → slice_get w.nodes s ≡ Some y
-          → has w.medium.removed s ≡ false → is_home_at deck s u ≡ true → is_systems q ≡ true
+      tells : (s : ℕ) (y : NodeState) (u : TaskId) (q : Res) → s ≢ c.0 → Site w s y → is_home_at deck s u ≡ true
+          → is_systems q ≡ true
           → owns (list_of (all_lists w) q) u ≡ true → is_untold_by p u q ≡ true →
           (b : Bool) → (same_res r q && same_task t u) ≡ b → Hearable (placed w c n o) s y u q
-      tells s y u q ne found lives home wide owned untold false e =
-          inr (untold-here deck w g c n at alive o refl s u q p' ne refl (telling-untold p.manager t r q u e untold))
-      tells s y u q ne found lives home wide owned untold true e =
+      tells s y u q ne found home wide owned untold false e =
+          inr (untold-here deck w g c n at o refl s u q p' ne refl (telling-untold p.manager t r q u e untold))
+      tells s y u q ne found home wide owned untold true e =
           let both = and_parts (same_res r q) (same_task t u) e in
           let task : t ≡ u = same_task-exact t u both.1 in
           let res : r ≡ q = same_res-exact r q both.0 in
@@ -132,4 +123,4 @@ module _ (deck : Deck) (w : World) (g : IsWhole deck w) (c : SysId) (n : NodeSta
           ∙ ap (λ z. inbox w.medium s ++ Granted u z ∷ []) res))) in
           inl (ap (hears u q (has_res q (state_of y.tasks u).records)) box
           ∙ hears-granted u q (has_res q (state_of y.tasks u).records) (inbox w.medium s)
-          (h.recorded s y u q found lives home wide (owns-has (list_of (all_lists w) q) u owned)))
+          (h.recorded s y u q found home wide (owns-has (list_of (all_lists w) q) u owned)))

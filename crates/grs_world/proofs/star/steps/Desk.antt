@@ -1,7 +1,6 @@
 -- A system's desk orders the change to star mode once more: it is told that there was one before. Or it orders a
 -- removal: there is none in star mode.
-use Rattle.std.proofs.Common.{◌≡◌, ◌+◌, ◌++◌, List, [], Some, refl, false}
-use Rattle.std.specs.Prelude.{slice_get}
+use Rattle.std.proofs.Common.{◌≡◌, ◌+◌, ◌++◌, List, [], Some, refl}
 use Rattle.grs_world.proofs.star.steps.Outcome.{Comes}
 use Rattle.grs_world.proofs.star.Worlds.{Hands, IsWhole, are_live, in_hands, items-none, none_fixed, whole-placed}
 use Rattle.grs_world.proofs.star.Systems.{IsSystem}
@@ -10,7 +9,6 @@ use Rattle.grs_world.proofs.star.hearing.Quiet.{heard-still}
 use Rattle.grs_world.specs.World.{World, fixed_by}
 use Rattle.grs_world.proofs.system.Desks.{desk-at, desk-told}
 use Rattle.grs_world.proofs.run.Desks.{EventTells, tells_already, tells_in_star}
-use Rattle.grs_wire.specs.Masks.{has}
 use Rattle.grs_wire.specs.declared.deck.Deck.{Deck}
 use Rattle.grs_wire.specs.declared.told.Said.{Said}
 use Rattle.grs_wire.specs.declared.told.Said.TheVariants as saids
@@ -21,9 +19,9 @@ use Rattle.grs_wire.specs.declared.deck.Order.TheVariants as orders
 use Rattle.grs_known.specs.Items.{RunItem, history, items}
 use Rattle.grs_medium.specs.Medium.{inbox}
 use Rattle.grs_world.proofs.rest.StarTasks.{IsDated, dated-by, keeps-telling}
+use Rattle.grs_world.proofs.run.Site.{Site}
 
-module _ (deck : Deck) (w : World) (g : IsWhole deck w) (c : SysId) (n : NodeState)
-    (at : slice_get w.nodes c.0 ≡ Some n) (alive : has w.medium.removed c.0 ≡ false) where
+module _ (deck : Deck) (w : World) (g : IsWhole deck w) (c : SysId) (n : NodeState) (at : Site w c.0 n) where
   abbrev T : List RunItem
   T = items w.fixed
 
@@ -31,7 +29,7 @@ module _ (deck : Deck) (w : World) (g : IsWhole deck w) (c : SysId) (n : NodeSta
       → IsSystem deck w.medium.words (items w.fixed) c.0 (desk_told n said) (inbox w.medium c.0) (g.later c.0)
       (g.out c.0)
   own said =
-      let h = g.system c.0 n at alive in
+      let h = g.system c.0 n at in
       record {
         at = desk-at deck c.0 T (g.later c.0) (g.out c.0) n said h.at;
         late = h.late;
@@ -45,7 +43,7 @@ module _ (deck : Deck) (w : World) (g : IsWhole deck w) (c : SysId) (n : NodeSta
   hands-own : (said : Said) (p : StarPart) → (desk_told n said).star ≡ Some p
       → Hands deck w.medium.words (are_live w) g.later g.out c.0 (in_hands p (inbox w.medium c.0))
   unfolding desk_told
-  hands-own said p is = g.hands c.0 n p at alive is
+  hands-own said p is = g.hands c.0 n p at is
 
   done-more : (said : Said) → (desk_told n said).done ≡ n.done + 1
   unfolding desk_told
@@ -69,12 +67,12 @@ module _ (deck : Deck) (w : World) (g : IsWhole deck w) (c : SysId) (n : NodeSta
       → Comes deck w g c n (record { medium = w.medium; step = only (desk_told n said) })
   outcome-desk said news step = record {
     stays =
-        whole-placed deck w g c n at alive (record { medium = w.medium; step = only (desk_told n said) }) step T
+        whole-placed deck w g c n at (record { medium = w.medium; step = only (desk_told n said) }) step T
         (items-none w.fixed c) g.later g.out (λ u ne. refl) none_fixed g.right g.near (own said)
-        (λ s k ne found lives. g.system s k found lives) (hands-own said)
-        (λ m k p ne found lives is. g.hands m k p found lives is);
+        (λ s k ne found. g.system s k found) (hands-own said)
+        (λ m k p ne found is. g.hands m k p found is);
     news = news;
-    heard = heard-still deck w g c n at alive w.medium refl refl (desk_told n said) (calm said) (same_star said);
+    heard = heard-still deck w g c n at w.medium refl refl (desk_told n said) (calm said) (same_star said);
     dated = own_dated said;
   }
 

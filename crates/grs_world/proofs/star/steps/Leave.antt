@@ -2,10 +2,10 @@
 -- another system to settle.
 use Rattle.std.proofs.Common.{◌≡◌, ◌≢◌, ◌<◌, ℕ, Bool, true, false, cond, not, ◌&&◌, ◌||◌, List, length, Option, Some}
 use Rattle.std.proofs.Common.{None, refl, ap, sym, ◌∙◌, subst}
-use Rattle.std.specs.Prelude.{get_or, is_some, slice_get, ◌==◌}
+use Rattle.std.specs.Prelude.{get_or, is_some, ◌==◌}
 use Rattle.std.specs.List.{list_any}
 use Rattle.std.proofs.lemmas.Bool.{and_parts, eqb-true, eqb-false, ne_eqb, and_from, not-true}
-use Rattle.std.proofs.lemmas.Option.{same_Some, slice_get-get_or}
+use Rattle.std.proofs.lemmas.Option.{same_Some}
 use Rattle.std.proofs.Math.Bool.{and-true}
 use Rattle.lock_structure.specs.Entries.{entry_of_res}
 use Rattle.grs_base.specs.Lists.{has_task}
@@ -36,17 +36,18 @@ use Rattle.grs_world.proofs.star.Leaving.{no-element, system-left}
 use Rattle.grs_world.proofs.star.Members.{IsMember, IsStep, all_lists, has_manager, managed-is}
 use Rattle.grs_world.proofs.star.Settling.{asker-away}
 use Rattle.grs_world.proofs.star.Systems.{IsSystem, near_at, system-words}
-use Rattle.grs_world.proofs.star.Worlds.{Hands, IsHand, IsWhole, are_live, in_hands, live-below, items-none}
-use Rattle.grs_world.proofs.star.Worlds.{whole-placed, none_fixed}
+use Rattle.grs_world.proofs.star.Worlds.{Hands, IsHand, IsWhole, are_live, in_hands, items-none, whole-placed}
+use Rattle.grs_world.proofs.star.Worlds.{none_fixed, live-site}
 use Rattle.grs_world.proofs.star.hearing.Quiet.{heard-left}
 use Rattle.grs_world.proofs.star.steps.Outcome.{IsOutcome}
 use Rattle.grs_world.proofs.star.steps.Words.{hands-words, others-keep}
 use Rattle.grs_world.proofs.run.Desks.{tells_tasks}
+use Rattle.grs_world.proofs.run.Site.{Site}
 
 module _ (deck : Deck) (some : 0 < deck.entries) (w : World) (g : IsWhole deck w) (c : SysId) (inside : c.0 < 8)
-    (n : NodeState) (at : slice_get w.nodes c.0 ≡ Some n) (alive : has w.medium.removed c.0 ≡ false) where
+    (n : NodeState) (at : Site w c.0 n) where
   abbrev me : IsMember deck w.medium.words (all_lists w) c.0 n
-  me = g.roles.node c.0 n at alive
+  me = g.roles.node c.0 n at
 
   abbrev p : StarPart
   p = me.part
@@ -78,7 +79,7 @@ module _ (deck : Deck) (some : 0 < deck.entries) (w : World) (g : IsWhole deck w
         (and_parts (has_interest p x) (not (list_any (is_busy_in p x) n.tasks.tasks) && is_done_with p x) free).1).1
 
     there : x < length words
-    there = there_leave deck some w c inside n at alive g.roles me x free
+    there = there_leave deck some w c inside n at g.roles me x free
 
     -- it is answered Left
     module _ (is : leave_reply (word_at words x) c ≡ replies.Left) where
@@ -100,12 +101,10 @@ module _ (deck : Deck) (some : 0 < deck.entries) (w : World) (g : IsWhole deck w
       alone : (q : Req) (h : IsHand deck words (are_live w) g.later g.out c.0 q) → h.entry ≢ x
       alone q h same =
           let k : NodeState = get_or w.nodes q.task.system.0 n in
-          let it_is : (q.task.system.0 < length w.nodes) × (has w.medium.removed q.task.system.0 ≡ false) =
-          live-below w q.task.system.0 h.below in
-          let found : slice_get w.nodes q.task.system.0 ≡ Some k = slice_get-get_or w.nodes q.task.system.0 n it_is.0 in
+          let found : Site w q.task.system.0 k = live-site w q.task.system.0 n h.below in
           let near : is_interested words h.entry q.task.system.0 ≡ true =
           (asker-away deck words T g.right q.task.system.0 k (inbox w.medium q.task.system.0) (g.later q.task.system.0)
-          (g.out q.task.system.0) (g.system q.task.system.0 k found it_is.1) q h.among h.idle c h.entry h.at h.managed
+          (g.out q.task.system.0) (g.system q.task.system.0 k found) q h.among h.idle c h.entry h.at h.managed
           h.apart).1 in
           let named : manager_at words h.entry ≡ Some c =
           managed-is words h.entry c.0 (manager_at words h.entry) refl h.managed in
@@ -116,22 +115,21 @@ module _ (deck : Deck) (some : 0 < deck.entries) (w : World) (g : IsWhole deck w
           absurd (let both : replies.Kept (interest (word_at words x)) ≡ replies.Left = sym kept ∙ is in cc)
 
       -- what becomes of the system, and of the others
-      module _ (flags : ℕ) (step :
-          IsStep deck w c n
+      module _ (flags : ℕ) (step : IsStep deck w c n
           (record { medium = left flags; step = with_star n (fixing_none n.tasks (left_at p x)) })) where
         own :
             IsSystem deck words' T c.0 (record n { star = Some (left_at p x) }) (inbox w.medium c.0) (g.later c.0)
             (g.out c.0)
         own =
             system-left deck words words' T g.right c.0 n (inbox w.medium c.0) (g.later c.0) (g.out c.0)
-            (g.system c.0 n at alive) p me.fits.entries x idle (λ e ne. (same-role e ne, same-interest e ne))
+            (g.system c.0 n at) p me.fits.entries x idle (λ e ne. (same-role e ne, same-interest e ne))
             (Some (left_at p x))
 
-        others : (s : ℕ) (k : NodeState) → s ≢ c.0 → slice_get w.nodes s ≡ Some k → has w.medium.removed s ≡ false
+        others : (s : ℕ) (k : NodeState) → s ≢ c.0 → Site w s k
             → IsSystem deck words' T s k (inbox w.medium s) (g.later s) (g.out s)
-        others s k ne found lives =
+        others s k ne found =
             system-words deck words words' T s k (inbox w.medium s) (g.later s) (g.out s)
-            (others-keep deck c.0 words words' (all_lists w) (all_lists w) step.moves s ne) (g.system s k found lives)
+            (others-keep deck c.0 words words' (all_lists w) (all_lists w) step.moves s ne) (g.system s k found)
 
         near-then : (r : Res) (t : TaskId) → has_task (list_of (all_lists w) r) t ≡ true
             → is_near_res deck words' r t ≡ true
@@ -153,7 +151,7 @@ module _ (deck : Deck) (some : 0 < deck.entries) (w : World) (g : IsWhole deck w
                     let same : t.system.0 ≡ c.0 = eqb-true t.system.0 c.0 f in
                     let apart : a ≢ x =
                     no-element deck words words' T g.right c.0 n (inbox w.medium c.0) (g.later c.0) (g.out c.0)
-                    (g.system c.0 n at alive) p me.fits.entries x idle (λ i ne. (same-role i ne, same-interest i ne)) t
+                    (g.system c.0 n at) p me.fits.entries x idle (λ i ne. (same-role i ne, same-interest i ne)) t
                     (and_from (t.system.0 == c.0) (is_some (lines_of deck t)) f known) r has a e in
                     ap (is_interested words' a) same
                     ∙ (same-interest a apart ∙ (ap (is_interested words a) (sym same) ∙ near))
@@ -164,7 +162,7 @@ module _ (deck : Deck) (some : 0 < deck.entries) (w : World) (g : IsWhole deck w
             (record { medium = left flags; step = with_star n (fixing_none n.tasks (left_at p x)) })
         outcome-leave = record {
           stays =
-              whole-placed deck w g c n at alive
+              whole-placed deck w g c n at
               (record { medium = left flags; step = with_star n (fixing_none n.tasks (left_at p x)) }) step T
               (items-none w.fixed c) g.later g.out (λ u ne. refl) none_fixed
               g.right
@@ -177,12 +175,12 @@ module _ (deck : Deck) (some : 0 < deck.entries) (w : World) (g : IsWhole deck w
               (same_Some (left_at p x) k found)
               (hands-words deck words words' (are_live w) g.later g.out c.0
               (λ q h. same-role h.entry (alone q h) ∙ h.managed) (in_hands p (inbox w.medium c.0))
-              (g.hands c.0 n p at alive me.star)))
-              (λ m k v ne found lives star.
+              (g.hands c.0 n p at me.star)))
+              (λ m k v ne found star.
               hands-words deck words words' (are_live w) g.later g.out m
               (λ q h. step.moves.managers h.entry m ne ∙ h.managed) (in_hands v (inbox w.medium m))
-              (g.hands m k v found lives star));
+              (g.hands m k v found star));
           news = tells_tasks (still-told refl) refl refl;
-          heard = heard-left deck w g c n at alive x done (left flags) refl refl;
+          heard = heard-left deck w g c n at x done (left flags) refl refl;
           dated = λ h. record { date = h.date; own = h.own };
         }

@@ -2,7 +2,7 @@
 -- or goes to the manager of its entry.
 use Rattle.std.proofs.Common.{suc, ◌≤◌, ◌≡◌, ◌<◌, ◌||◌, ◌&&◌, ℕ, Bool, true, false, not, List, [], ◌∷◌, ◌++◌, length}
 use Rattle.std.proofs.Common.{Option, Some, None, refl, ap, sym, ◌∙◌, subst, arith}
-use Rattle.std.specs.Prelude.{◌==◌, is_some, slice_get}
+use Rattle.std.specs.Prelude.{◌==◌, is_some}
 use Rattle.std.proofs.lemmas.Bool.{and_parts, eqb-false, eq-eqb, and_from}
 use Rattle.contention_mgr.specs.Manager.{Managed, managed_at, plain, items_of, kept_for, entry_wanted, after_request}
 use Rattle.grs_base.specs.Lists.{owns}
@@ -19,7 +19,6 @@ use Rattle.grs_node.specs.Node.{NodeState, may_send, is_of_deck, is_to_send, wit
 use Rattle.grs_node.specs.Star.{StarPart, request_of, entry_for, manages, with_interest, decide_own, begun, lists_for}
 use Rattle.grs_node.specs.Star.{answer_for, owners_by, rank_of, fixing_none}
 use Rattle.lock_structure.specs.Entries.{is_entry}
-use Rattle.grs_wire.specs.Masks.{has}
 use Rattle.grs_wire.specs.Wants.{answer_to, new_owners, res_wanted}
 use Rattle.grs_wire.specs.declared.deck.Deck.{Deck}
 use Rattle.grs_wire.specs.declared.medium.Mail.TheVariants as mails
@@ -57,6 +56,7 @@ use Rattle.grs_world.proofs.star.hearing.Decided.{heard-decided}
 use Rattle.grs_world.proofs.star.hearing.Gains.{beginning-next, beginning-untold, untold_of}
 use Rattle.grs_world.proofs.star.steps.Outcome.{Comes}
 use Rattle.grs_known.proofs.lists.Alike.{Alike, answer-alike, owners-alike}
+use Rattle.grs_world.proofs.run.Site.{Site}
 
 -- a task whose request waits to be sent has sent none
 waits-free : (t : TaskId) (p : Phase) (qs : List Req) → is_to_send p ≡ true → are_sent t p qs ≡ true
@@ -116,7 +116,7 @@ module _ (deck : Deck) (words : List ℕ) (L : State) (s : ℕ) (p : StarPart) (
       )
 
 module _ (deck : Deck) (some : 0 < deck.entries) (w : World) (g : IsWhole deck w) (c : SysId) (inside : c.0 < 8)
-    (n : NodeState) (at : slice_get w.nodes c.0 ≡ Some n) (alive : has w.medium.removed c.0 ≡ false) where
+    (n : NodeState) (at : Site w c.0 n) where
   abbrev words : List ℕ
   words = w.medium.words
 
@@ -127,13 +127,13 @@ module _ (deck : Deck) (some : 0 < deck.entries) (w : World) (g : IsWhole deck w
   T = items w.fixed
 
   abbrev me : IsMember deck w.medium.words (all_lists w) c.0 n
-  me = g.roles.node c.0 n at alive
+  me = g.roles.node c.0 n at
 
   abbrev p : StarPart
-  p = (g.roles.node c.0 n at alive).part
+  p = (g.roles.node c.0 n at).part
 
   abbrev h : IsSystem deck w.medium.words (items w.fixed) c.0 n (inbox w.medium c.0) (g.later c.0) (g.out c.0)
-  h = g.system c.0 n at alive
+  h = g.system c.0 n at
 
   -- ---- a task whose request waits to be sent
   module _ (t : TaskId) (may : may_send deck n t ≡ true) where
@@ -202,10 +202,10 @@ module _ (deck : Deck) (some : 0 < deck.entries) (w : World) (g : IsWhole deck w
                   });
             }))
             (decides-as deck ws L c.0 q fits x mine n.tasks t a of_entry)
-            (outcome-decided deck w g c n at alive ws grow flags t lines.0 lines.1 home a is free x of_entry
+            (outcome-decided deck w g c n at ws grow flags t lines.0 lines.1 home a is free x of_entry
             (sym (fits.roles x) ∙ mine) (new_owners L t a.req.want) (rank_of q (request_of t a)) p
             (record q { manager = after_request q.manager t a.req.want }) me.star held owned
-            (heard-decided deck w g c n at alive ws flags t home a free x of_entry (sym (fits.roles x) ∙ mine)
+            (heard-decided deck w g c n at ws flags t home a free x of_entry (sym (fits.roles x) ∙ mine)
             (rank_of q (request_of t a)) p q me.star fits held begins low))
 
         -- the system manages the entry itself
@@ -240,7 +240,7 @@ module _ (deck : Deck) (some : 0 < deck.entries) (w : World) (g : IsWhole deck w
               })
           outcome-began nobody =
               let fits =
-              begun_part deck some w c inside n at alive g.roles me x
+              begun_part deck some w c inside n at g.roles me x
               (want-within deck.entries a.req.want x some of_entry) nobody in
               decided now (awake w.medium c) grow (begun p x) fits
               (fits.roles x ∙ submit-first words x c inside_words inside g.roles.managed nobody) refl
@@ -258,6 +258,6 @@ module _ (deck : Deck) (some : 0 < deck.entries) (w : World) (g : IsWhole deck w
                 step = with_star n (fixing_none (with_phase n.tasks t phases.Sent) (with_interest p x true));
               })
           outcome-away s manager apart =
-              outcome-sent deck w g c n at alive now grow (awake w.medium c) t lines.0 lines.1 home a is free x of_entry
+              outcome-sent deck w g c n at now grow (awake w.medium c) t lines.0 lines.1 home a is free x of_entry
               (submit-near words x c inside_words inside g.roles.managed) s (manager-here words x s manager)
               (eqb-false s.0 c.0 apart) p (with_interest p x true) me.star refl refl

@@ -1,5 +1,5 @@
 -- A manager settles the request that it holds first: it answers by its own lists of the entry, which are the history's.
-use Rattle.std.proofs.Common.{◌≡◌, ◌++◌, true, List, [], ◌∷◌, Option, Some, None, refl, ap, sym, ◌∙◌, subst, false}
+use Rattle.std.proofs.Common.{◌≡◌, ◌++◌, true, List, [], ◌∷◌, Option, Some, None, refl, ap, sym, ◌∙◌, subst}
 use Rattle.std.specs.Prelude.{drop, slice_get}
 use Rattle.std.proofs.lemmas.Option.{same_Some}
 use Rattle.contention_mgr.specs.Manager.{Managed, plain, items_of, kept_for, entry_wanted, after_request, rank_for}
@@ -15,7 +15,6 @@ use Rattle.grs_medium.specs.Inboxes.{with_mail}
 use Rattle.grs_medium.specs.Medium.{MediumState, awake}
 use Rattle.grs_node.specs.Node.{NodeState, with_star}
 use Rattle.grs_node.specs.Star.{StarPart, answer_for, first_held, lists_for, owners_by, rank_of, settled_first}
-use Rattle.grs_wire.specs.Masks.{has}
 use Rattle.grs_wire.specs.Wants.{answer_to, new_owners, res_wanted}
 use Rattle.grs_wire.specs.declared.deck.Deck.{Deck}
 use Rattle.grs_wire.specs.declared.medium.Mail.TheVariants as mails
@@ -38,6 +37,7 @@ use Rattle.grs_known.proofs.lists.Alike.{Alike, answer-alike, owners-alike}
 use Rattle.grs_world.proofs.run.Desks.{tells_tasks}
 use Rattle.grs_world.proofs.rest.StarTasks.{dated-by, keeps-new}
 use Rattle.grs_base.specs.declared.resource.Res.{Res}
+use Rattle.grs_world.proofs.run.Site.{Site}
 
 -- what gives something up puts nothing into a list
 rank-plain : (o : Option Managed) (t : TaskId) (w : Want) → gives_want w ≡ true → rank_for o t w ≡ 0
@@ -51,10 +51,9 @@ first-of : (qs : List Req) (q : Req) → slice_get qs 0 ≡ Some q → qs ≡ q 
 first-of [] q is = absurd (cc)
 first-of (z ∷ qs) q is = ap (λ y. y ∷ qs) (same_Some z q is)
 
-module _ (deck : Deck) (w : World) (g : IsWhole deck w) (c : SysId) (n : NodeState)
-    (at : slice_get w.nodes c.0 ≡ Some n) (alive : has w.medium.removed c.0 ≡ false) where
+module _ (deck : Deck) (w : World) (g : IsWhole deck w) (c : SysId) (n : NodeState) (at : Site w c.0 n) where
   abbrev me : IsMember deck w.medium.words (all_lists w) c.0 n
-  me = g.roles.node c.0 n at alive
+  me = g.roles.node c.0 n at
 
   abbrev p : StarPart
   p = me.part
@@ -71,10 +70,10 @@ module _ (deck : Deck) (w : World) (g : IsWhole deck w) (c : SysId) (n : NodeSta
     held = first-of p.held q first
 
     abbrev its : IsHand deck w.medium.words (are_live w) g.later g.out c.0 q
-    its = hand deck w g c n at alive p me.star q (drop 1 p.held) held
+    its = hand deck w g c n at p me.star q (drop 1 p.held) held
 
     abbrev follow : MayFollow deck T item
-    follow = follows-now deck w g c n at alive p me.star q (drop 1 p.held) held
+    follow = follows-now deck w g c n at p me.star q (drop 1 p.held) held
 
     -- its lists of the entry are what all lists have of it
     lists-here : Alike (lists_for p q.want) (under deck.entries its.entry (lists T))
@@ -113,7 +112,7 @@ module _ (deck : Deck) (w : World) (g : IsWhole deck w) (c : SysId) (n : NodeSta
         subst (λ xs.
         ToldNews deck c.0 (history xs) n.tasks.told (tell_new n.tasks (res_wanted q.want) (owners_by p q)).told)
         (sym (items-one w.fixed c (fixes.Asked q)))
-        (told-news (manager-after deck w g c n at alive p me.star q (drop 1 p.held) held (owners_by p q) own
+        (told-news (manager-after deck w g c n at p me.star q (drop 1 p.held) held (owners_by p q) own
         (Some after)).told)
 
     -- the medium, where this answer is sent
@@ -131,11 +130,11 @@ module _ (deck : Deck) (w : World) (g : IsWhole deck w) (c : SysId) (n : NodeSta
         })
     by-history step = record {
       stays =
-          whole-settled deck w g c n at alive p me.star q (drop 1 p.held) held (rank_of p q)
+          whole-settled deck w g c n at p me.star q (drop 1 p.held) held (rank_of p q)
           (rank-plain _ q.task q.want) (awake w.medium c) (owners_by p q) own after refl step;
       news = tells_tasks news refl refl;
       heard =
-          heard-settled deck w g c n at alive p me.star me.fits q (drop 1 p.held) held its same-owners
+          heard-settled deck w g c n at p me.star me.fits q (drop 1 p.held) held its same-owners
           (awake w.medium c);
       dated = λ h.
           dated-by deck c.0 n (with_star n (settled_first n.tasks p q)).node refl h

@@ -1,10 +1,9 @@
 -- A system in star mode takes the first mail of its inbox.
 use Rattle.std.proofs.Common.{◌≡◌, ◌≢◌, ◌<◌, inl, inr, ℕ, Bool, true, false, cond, not, ◌&&◌, ◌||◌, List, [], ◌∷◌, ◌++◌}
 use Rattle.std.proofs.Common.{length, Some, refl, ap, sym, ◌∙◌, subst, arith, append_assoc}
-use Rattle.std.specs.Prelude.{drop, filter, slice_get, ◌==◌}
+use Rattle.std.specs.Prelude.{drop, filter, ◌==◌}
 use Rattle.std.proofs.lemmas.Bool.{and_parts, eqb-true, and_from, not-true, or_parts}
-use Rattle.std.proofs.lemmas.List.{get_or-set_same, get_or-set_other}
-use Rattle.std.proofs.lemmas.Option.{slice_get_within, same_Some}
+use Rattle.std.proofs.lemmas.Option.{same_Some}
 use Rattle.grs_base.specs.Same.{same_task}
 use Rattle.grs_base.specs.declared.resource.Res.{Res}
 use Rattle.grs_base.specs.declared.resource.SysId.{SysId}
@@ -15,7 +14,6 @@ use Rattle.grs_medium.specs.Medium.{MediumState, inbox, awake}
 use Rattle.grs_node.specs.Node.{NodeState, with_star, is_of_deck, is_for_deck, names_of_deck, take_mail}
 use Rattle.grs_node.specs.Star.{StarPart, StarStep, entry_for, manages, fixing_none, took_mail}
 use Rattle.lock_structure.specs.Entries.{is_entry}
-use Rattle.grs_wire.specs.Masks.{has}
 use Rattle.grs_wire.specs.declared.deck.Deck.{Deck}
 use Rattle.grs_wire.specs.declared.medium.Mail.{Mail}
 use Rattle.grs_wire.specs.declared.medium.Mail.TheVariants.{Request, Answered, Granted}
@@ -48,6 +46,8 @@ use Rattle.grs_world.proofs.star.steps.Outcome.{Comes, part}
 use Rattle.grs_world.proofs.run.Desks.{tells_tasks}
 use Rattle.grs_world.proofs.rest.StarTasks.{Keeps, dated-by, keeps-control, keeps-mail, keeps-none}
 use Rattle.grs_world.proofs.rest.Steps.{AllDate}
+use Rattle.grs_world.proofs.run.Site.{Site, site-below}
+use Rattle.grs_world.proofs.star.Boxes.{taken-box, untaken-box}
 
 -- ---- a request of a task that isn't answered stays in whose hands it is
 in-filter : (f : Req → Bool) (q : Req) (qs : List Req) → f q ≡ true → IsIn q qs → IsIn q (filter f qs)
@@ -132,9 +132,8 @@ apart-fewer (x ∷ xs) q ys h =
     (apart-fewer xs q ys both.1)
 
 -- ---- the first mail of the inbox is taken
-module _ (deck : Deck) (w : World) (g : IsWhole deck w) (c : SysId) (n : NodeState)
-    (at : slice_get w.nodes c.0 ≡ Some n) (alive : has w.medium.removed c.0 ≡ false) (mail : Mail) (rest : List Mail)
-    (is : inbox w.medium c.0 ≡ mail ∷ rest) where
+module _ (deck : Deck) (w : World) (g : IsWhole deck w) (c : SysId) (n : NodeState) (at : Site w c.0 n) (mail : Mail)
+    (rest : List Mail) (is : inbox w.medium c.0 ≡ mail ∷ rest) where
   abbrev T : List RunItem
   T = items w.fixed
 
@@ -146,13 +145,13 @@ module _ (deck : Deck) (w : World) (g : IsWhole deck w) (c : SysId) (n : NodeSta
   to v q = record { medium = took; step = record { node = record n { tasks = v; star = Some q }; fixed = [] } }
 
   here_box : c.0 < length w.medium.inboxes
-  here_box = let k = slice_get_within w.nodes c.0 n at in omega (arith, k, g.roles.systems, g.roles.inboxes)
+  here_box = let k = site-below w c.0 n at in omega (arith, k, g.roles.systems, g.roles.inboxes)
 
   own_box : inbox took c.0 ≡ rest
-  own_box = get_or-set_same w.medium.inboxes c.0 (drop 1 (inbox w.medium c.0)) [] here_box ∙ ap (drop 1) is
+  own_box = taken-box w.medium.inboxes c.0 here_box ∙ ap (drop 1) is
 
   other_box : (s : ℕ) → s ≢ c.0 → inbox took s ≡ inbox w.medium s
-  other_box s ne = get_or-set_other w.medium.inboxes c.0 s (drop 1 (inbox w.medium c.0)) [] ne
+  other_box s ne = untaken-box w.medium.inboxes c.0 s ne
 
   -- these are open afterwards, at other systems the same
   took-mail : (later : ℕ → List RunItem) (out : ℕ → List Req) → ((s : ℕ) → s ≢ c.0 → later s ≡ g.later s)
@@ -166,24 +165,24 @@ module _ (deck : Deck) (w : World) (g : IsWhole deck w) (c : SysId) (n : NodeSta
       → (AllDate false deck n.tasks → Keeps deck n.tasks v) → Comes deck w g c n (to v q)
   took-mail later out same_later same_out stay v q goes own heard keeps step = record {
     stays =
-        whole-placed deck w g c n at alive (to v q) step T (items-none w.fixed c) later out same_out none_fixed g.right
+        whole-placed deck w g c n at (to v q) step T (items-none w.fixed c) later out same_out none_fixed g.right
         g.near
         (subst (λ ms.
         IsSystem deck w.medium.words T c.0 (record n { tasks = v; star = Some q }) ms (later c.0) (out c.0))
         (sym own_box) goes.system)
-        (λ s k ne found lives.
+        (λ s k ne found.
         subst (λ ms. IsSystem deck w.medium.words T s k ms (later s) (out s)) (sym (other_box s ne))
         (subst (λ xs. IsSystem deck w.medium.words T s k (inbox w.medium s) xs (out s)) (sym (same_later s ne))
         (subst (λ qs. IsSystem deck w.medium.words T s k (inbox w.medium s) (g.later s) qs) (sym (same_out s ne))
-        (g.system s k found lives))))
+        (g.system s k found))))
         (λ p found.
         subst (λ z. Hands deck w.medium.words (are_live w) later out c.0 (in_hands z (inbox took c.0)))
         (same_Some q p found)
         (subst (λ ms. Hands deck w.medium.words (are_live w) later out c.0 (in_hands q ms)) (sym own_box)
         (kept c.0 (in_hands q rest) own)))
-        (λ m k p ne found lives star.
+        (λ m k p ne found star.
         subst (λ ms. Hands deck w.medium.words (are_live w) later out m (in_hands p ms)) (sym (other_box m ne))
-        (kept m (in_hands p (inbox w.medium m)) (g.hands m k p found lives star)));
+        (kept m (in_hands p (inbox w.medium m)) (g.hands m k p found star)));
     news =
         tells_tasks (subst (λ U. ToldNews deck c.0 (history U) n.tasks.told v.told) (sym (items-none w.fixed c))
         (told-news goes.told))
@@ -229,8 +228,7 @@ module _ (deck : Deck) (w : World) (g : IsWhole deck w) (c : SysId) (n : NodeSta
       own heard keeps step
 
 -- ---- by the mail
-module _ (deck : Deck) (w : World) (g : IsWhole deck w) (c : SysId) (n : NodeState)
-    (at : slice_get w.nodes c.0 ≡ Some n) (alive : has w.medium.removed c.0 ≡ false) (p : StarPart)
+module _ (deck : Deck) (w : World) (g : IsWhole deck w) (c : SysId) (n : NodeState) (at : Site w c.0 n) (p : StarPart)
     (star : n.star ≡ Some p) (rest : List Mail) where
   abbrev words : List ℕ
   words = w.medium.words
@@ -241,18 +239,18 @@ module _ (deck : Deck) (w : World) (g : IsWhole deck w) (c : SysId) (n : NodeSta
   fits : IsPart deck w.medium.words (all_lists w) c.0 p
   fits =
       subst (IsPart deck w.medium.words (all_lists w) c.0)
-      (same_Some (g.roles.node c.0 n at alive).part p (sym (g.roles.node c.0 n at alive).star ∙ star))
-      (g.roles.node c.0 n at alive).fits
+      (same_Some (g.roles.node c.0 n at).part p (sym (g.roles.node c.0 n at).star ∙ star))
+      (g.roles.node c.0 n at).fits
 
   hands_now : (mail : Mail) → inbox w.medium c.0 ≡ mail ∷ rest
       → Hands deck w.medium.words (are_live w) g.later g.out c.0 (in_hands p (mail ∷ rest))
   hands_now mail is =
-      subst (λ ms. Hands deck words live g.later g.out c.0 (in_hands p ms)) is (g.hands c.0 n p at alive star)
+      subst (λ ms. Hands deck words live g.later g.out c.0 (in_hands p ms)) is (g.hands c.0 n p at star)
 
   system_now : (mail : Mail) → inbox w.medium c.0 ≡ mail ∷ rest
       → IsSystem deck w.medium.words (items w.fixed) c.0 n (mail ∷ rest) (g.later c.0) (g.out c.0)
   system_now mail is =
-      subst (λ ms. IsSystem deck words (items w.fixed) c.0 n ms (g.later c.0) (g.out c.0)) is (g.system c.0 n at alive)
+      subst (λ ms. IsSystem deck words (items w.fixed) c.0 n ms (g.later c.0) (g.out c.0)) is (g.system c.0 n at)
 
   -- a request isn't in the inbox any more
   no_request : (e : ℕ) (from : SysId) (q : Req) (is : inbox w.medium c.0 ≡ Request e from q ∷ rest) (k : StarPart)
@@ -268,34 +266,34 @@ module _ (deck : Deck) (w : World) (g : IsWhole deck w) (c : SysId) (n : NodeSta
   -- it is held last: the same requests are in the system's hands, in the same order
   holds_request : (e : ℕ) (from : SysId) (q : Req) (is : inbox w.medium c.0 ≡ Request e from q ∷ rest)
       → Comes deck w g c n
-      (to deck w g c n at alive (Request e from q) rest is n.tasks (record p { held = p.held ++ q ∷ [] }))
+      (to deck w g c n at (Request e from q) rest is n.tasks (record p { held = p.held ++ q ∷ [] }))
   holds_request e from q is =
-      took-same deck w g c n at alive (Request e from q) rest is n.tasks (record p { held = p.held ++ q ∷ [] })
+      took-same deck w g c n at (Request e from q) rest is n.tasks (record p { held = p.held ++ q ∷ [] })
       (no_request e from q is (record p { held = p.held ++ q ∷ [] }))
       (subst (Hands deck words live g.later g.out c.0) (sym (append_assoc p.held (q ∷ []) (requests_in rest)))
       (hands_now (Request e from q) is))
-      (heard-held deck w g c n at alive p star fits rest (awake w.medium c) e from q is)
+      (heard-held deck w g c n at p star fits rest (awake w.medium c) e from q is)
       (λ h. keeps-none deck n.tasks h)
 
   -- it has no effect
   drops_request : (e : ℕ) (from : SysId) (q : Req) (is : inbox w.medium c.0 ≡ Request e from q ∷ rest)
       → (is_for_deck deck (Request e from q) ≡ true → (is_entry e (entry_for p q.want) && manages p e) ≡ false)
-      → Comes deck w g c n (to deck w g c n at alive (Request e from q) rest is n.tasks p)
+      → Comes deck w g c n (to deck w g c n at (Request e from q) rest is n.tasks p)
   drops_request e from q is never =
       let h = hands_now (Request e from q) is in
-      took-same deck w g c n at alive (Request e from q) rest is n.tasks p (no_request e from q is p)
+      took-same deck w g c n at (Request e from q) rest is n.tasks p (no_request e from q is p)
       (record {
         each = all-fewer deck words live g.later g.out c.0 p.held q (requests_in rest) h.each;
         apart = apart-fewer p.held q (requests_in rest) h.apart;
       })
-      (heard-dropped deck w g c n at alive p star fits rest (awake w.medium c) e from q is never)
+      (heard-dropped deck w g c n at p star fits rest (awake w.medium c) e from q is never)
       (λ k. keeps-none deck n.tasks k)
 
   -- an answer
   takes_answer : (t : TaskId) (answer : Answer) (rank : ℕ) (is : inbox w.medium c.0 ≡ Answered t answer rank ∷ rest)
       → is_of_deck deck t ≡ true
       → Comes deck w g c n
-      (to deck w g c n at alive (Answered t answer rank) rest is (after_mail n.tasks (Answered t answer rank)) p)
+      (to deck w g c n at (Answered t answer rank) rest is (after_mail n.tasks (Answered t answer rank)) p)
   takes_answer t answer rank is of_deck =
       go (took-answer deck words (items w.fixed) g.right c.0 n rest (g.later c.0) (g.out c.0) t answer rank h of_deck
       (Some p))
@@ -308,23 +306,23 @@ module _ (deck : Deck) (w : World) (g : IsWhole deck w) (c : SysId) (n : NodeSta
           (record n { tasks = after_mail n.tasks (Answered t answer rank); star = Some p })
           →
           Comes deck w g c n
-          (to deck w g c n at alive (Answered t answer rank) rest is (after_mail n.tasks (Answered t answer rank)) p)
+          (to deck w g c n at (Answered t answer rank) rest is (after_mail n.tasks (Answered t answer rank)) p)
       go (learns late z) =
-          took-learned deck w g c n at alive (Answered t answer rank) rest is t
+          took-learned deck w g c n at (Answered t answer rank) rest is t
           (after_mail n.tasks (Answered t answer rank)) p late z (hands_now (Answered t answer rank) is)
-          (heard-answered deck w g c n at alive p star fits rest (awake w.medium c) t answer rank is of_deck)
+          (heard-answered deck w g c n at p star fits rest (awake w.medium c) t answer rank is of_deck)
           (λ k. keeps-mail deck n.tasks t answer rank of_deck k)
       go (leaves z) =
-          took-same deck w g c n at alive (Answered t answer rank) rest is (after_mail n.tasks (Answered t answer rank))
+          took-same deck w g c n at (Answered t answer rank) rest is (after_mail n.tasks (Answered t answer rank))
           p z (hands_now (Answered t answer rank) is)
-          (heard-answered deck w g c n at alive p star fits rest (awake w.medium c) t answer rank is of_deck)
+          (heard-answered deck w g c n at p star fits rest (awake w.medium c) t answer rank is of_deck)
           (λ k. keeps-mail deck n.tasks t answer rank of_deck k)
 
   drops_answer : (t : TaskId) (answer : Answer) (rank : ℕ) (is : inbox w.medium c.0 ≡ Answered t answer rank ∷ rest)
       → is_for_deck deck (Answered t answer rank) ≡ false
-      → Comes deck w g c n (to deck w g c n at alive (Answered t answer rank) rest is n.tasks p)
+      → Comes deck w g c n (to deck w g c n at (Answered t answer rank) rest is n.tasks p)
   drops_answer t answer rank is strange =
-      took-same deck w g c n at alive (Answered t answer rank) rest is n.tasks p
+      took-same deck w g c n at (Answered t answer rank) rest is n.tasks p
       (record {
         system =
             strange-answer deck words (items w.fixed) g.right c.0 n rest (g.later c.0) (g.out c.0) t answer rank
@@ -332,23 +330,23 @@ module _ (deck : Deck) (w : World) (g : IsWhole deck w) (c : SysId) (n : NodeSta
         told = none;
       })
       (hands_now (Answered t answer rank) is)
-      (heard-missed deck w g c n at alive p star fits rest (awake w.medium c) t answer rank is
+      (heard-missed deck w g c n at p star fits rest (awake w.medium c) t answer rank is
       (not_here deck words (items w.fixed) g.right c.0 n rest (g.later c.0) (g.out c.0) t answer rank
       (system_now (Answered t answer rank) is) strange))
       (λ k. keeps-none deck n.tasks k)
 
   -- control
   takes_control : (t : TaskId) (r : Res) (is : inbox w.medium c.0 ≡ Granted t r ∷ rest) → is_of_deck deck t ≡ true
-      → Comes deck w g c n (to deck w g c n at alive (Granted t r) rest is (tell_control n.tasks r t) p)
-  takes_control t r is of_deck = took-same deck w g c n at alive (Granted t r) rest is (tell_control n.tasks r t) p
+      → Comes deck w g c n (to deck w g c n at (Granted t r) rest is (tell_control n.tasks r t) p)
+  takes_control t r is of_deck = took-same deck w g c n at (Granted t r) rest is (tell_control n.tasks r t) p
       (took-control deck words (items w.fixed) g.right c.0 n rest (g.later c.0) (g.out c.0) t r
       (system_now (Granted t r) is) of_deck (Some p))
-      (hands_now (Granted t r) is) (heard-control deck w g c n at alive p star fits rest (awake w.medium c) t r is)
+      (hands_now (Granted t r) is) (heard-control deck w g c n at p star fits rest (awake w.medium c) t r is)
       (λ k. keeps-control deck n.tasks r t k)
 
   drops_control : (t : TaskId) (r : Res) (is : inbox w.medium c.0 ≡ Granted t r ∷ rest) → is_of_deck deck t ≡ false
-      → Comes deck w g c n (to deck w g c n at alive (Granted t r) rest is n.tasks p)
-  drops_control t r is strange = took-same deck w g c n at alive (Granted t r) rest is n.tasks p
+      → Comes deck w g c n (to deck w g c n at (Granted t r) rest is n.tasks p)
+  drops_control t r is strange = took-same deck w g c n at (Granted t r) rest is n.tasks p
       (record {
         system =
             strange-control deck words (items w.fixed) g.right c.0 n rest (g.later c.0) (g.out c.0) t r
@@ -356,7 +354,7 @@ module _ (deck : Deck) (w : World) (g : IsWhole deck w) (c : SysId) (n : NodeSta
         told = none;
       })
       (hands_now (Granted t r) is)
-      (heard-strange deck w g c n at alive p star fits rest (awake w.medium c) t r is strange)
+      (heard-strange deck w g c n at p star fits rest (awake w.medium c) t r is strange)
       (λ k. keeps-none deck n.tasks k)
 
   -- whatever the mail is
@@ -387,12 +385,11 @@ module _ (deck : Deck) (w : World) (g : IsWhole deck w) (c : SysId) (n : NodeSta
       (λ h. takes_control t r is h) (λ h. drops_control t r is h)
 
 -- ---- the event
-module _ (deck : Deck) (w : World) (g : IsWhole deck w) (c : SysId) (n : NodeState)
-    (at : slice_get w.nodes c.0 ≡ Some n) (alive : has w.medium.removed c.0 ≡ false) where
+module _ (deck : Deck) (w : World) (g : IsWhole deck w) (c : SysId) (n : NodeState) (at : Site w c.0 n) where
   pub outcome-take : (mail : Mail) (rest : List Mail) → inbox w.medium c.0 ≡ mail ∷ rest →
       Comes deck w g c n (record {
         medium = record w.medium { inboxes = without_first w.medium.inboxes c.0; rest = awake w.medium c };
-        step = with_star n (take_mail deck n.tasks (part deck w g c n at alive) mail);
+        step = with_star n (take_mail deck n.tasks (part deck w g c n at) mail);
       })
   outcome-take mail rest is =
-      takes deck w g c n at alive (part deck w g c n at alive) (g.roles.node c.0 n at alive).star rest mail is
+      takes deck w g c n at (part deck w g c n at) (g.roles.node c.0 n at).star rest mail is

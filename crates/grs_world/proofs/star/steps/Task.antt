@@ -1,11 +1,9 @@
 -- A task of a system in star mode goes on by itself.
-use Rattle.std.proofs.Common.{◌≡◌, [], ◌++◌, Some, ap, sym, ◌∙◌, subst, true, refl, false}
-use Rattle.std.specs.Prelude.{slice_get}
+use Rattle.std.proofs.Common.{◌≡◌, [], ◌++◌, ap, sym, ◌∙◌, subst, true, refl}
 use Rattle.grs_base.specs.declared.resource.SysId.{SysId}
 use Rattle.grs_base.specs.declared.resource.TaskId.{TaskId}
 use Rattle.grs_medium.specs.Medium.{inbox}
 use Rattle.grs_node.specs.Node.{NodeState, Step, may_go, task_step}
-use Rattle.grs_wire.specs.Masks.{has}
 use Rattle.grs_wire.specs.declared.deck.Deck.{Deck}
 use Rattle.grs_known.specs.Items.{history, items}
 use Rattle.grs_world.specs.World.{World, fixed_by}
@@ -20,13 +18,13 @@ use Rattle.grs_legal.specs.Asks.{lines_of}
 use Rattle.grs_world.proofs.rest.Ring.{distinct-at}
 use Rattle.grs_world.proofs.rest.StarTasks.{IsDated, dated-task}
 use Rattle.grs_world.proofs.star.Ghosts.{ghosted}
+use Rattle.grs_world.proofs.run.Site.{Site}
 
-module _ (deck : Deck) (w : World) (g : IsWhole deck w) (c : SysId) (n : NodeState)
-    (at : slice_get w.nodes c.0 ≡ Some n) (alive : has w.medium.removed c.0 ≡ false) where
+module _ (deck : Deck) (w : World) (g : IsWhole deck w) (c : SysId) (n : NodeState) (at : Site w c.0 n) where
   -- what it tells agrees
   task-news : (st : Step)
       → Task deck w.medium.words (items w.fixed) g.right c.0 n (inbox w.medium c.0) (g.later c.0) (g.out c.0)
-      (g.system c.0 n at alive) c st
+      (g.system c.0 n at) c st
       → ToldNews deck c.0 (history (items (w.fixed ++ fixed_by c st.fixed))) n.tasks.told st.node.tasks.told
   task-news st (idle_task none_fixed z) =
       subst (λ U. ToldNews deck c.0 (history U) n.tasks.told st.node.tasks.told)
@@ -40,23 +38,23 @@ module _ (deck : Deck) (w : World) (g : IsWhole deck w) (c : SysId) (n : NodeSta
   own-dated : (t : TaskId) → may_go deck n t ≡ true → IsDated deck c.0 n
       → IsDated deck c.0 (task_step deck.limit n t (lines_of deck t)).node
   own-dated t goes =
-      dated-task deck c.0 n (g.system c.0 n at alive).at.good.system
+      dated-task deck c.0 n (g.system c.0 n at).at.good.system
       (λ u ls o.
-      distinct-at deck c.0 (items w.fixed) [] (g.later c.0) (g.out c.0) (ghosted n) (g.system c.0 n at alive).at u ls o)
+      distinct-at deck c.0 (items w.fixed) [] (g.later c.0) (g.out c.0) (ghosted n) (g.system c.0 n at).at u ls o)
       t goes
 
   pub outcome-task : (t : TaskId) → may_go deck n t ≡ true
       → Comes deck w g c n (record { medium = w.medium; step = task_step deck.limit n t (lines_of deck t) })
   outcome-task t goes step = record {
-    stays = whole-task deck w g c n at alive t goes step;
+    stays = whole-task deck w g c n at t goes step;
     news =
         tells_tasks (task-news (task_step deck.limit n t (lines_of deck t))
         (system-task deck w.medium.words (items w.fixed) g.right c.0 n (inbox w.medium c.0) (g.later c.0) (g.out c.0)
-        (g.system c.0 n at alive) c t (g.roles.node c.0 n at alive).part (g.roles.node c.0 n at alive).star goes))
+        (g.system c.0 n at) c t (g.roles.node c.0 n at).part (g.roles.node c.0 n at).star goes))
         (stays-task deck.limit n t (lines_of deck t)).done refl;
     heard =
-        heard-task deck w g c n at alive t goes (system-task deck w.medium.words (items w.fixed) g.right c.0 n
-        (inbox w.medium c.0) (g.later c.0) (g.out c.0) (g.system c.0 n at alive) c t (g.roles.node c.0 n at alive).part
-        (g.roles.node c.0 n at alive).star goes);
+        heard-task deck w g c n at t goes (system-task deck w.medium.words (items w.fixed) g.right c.0 n
+        (inbox w.medium c.0) (g.later c.0) (g.out c.0) (g.system c.0 n at) c t (g.roles.node c.0 n at).part
+        (g.roles.node c.0 n at).star goes);
     dated = own-dated t goes;
   }

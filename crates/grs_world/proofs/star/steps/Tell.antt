@@ -1,11 +1,10 @@
 -- A manager tells an owner of another system that it owns.
 use Rattle.std.proofs.Common.{◌<◌, ◌≡◌, ◌≢◌, ℕ, Bool, true, false, not, List, [], ◌∷◌, ◌++◌, length, Option, Some, None}
 use Rattle.std.proofs.Common.{refl, ap, sym, ◌∙◌, subst, arith}
-use Rattle.std.specs.Prelude.{◌==◌, is_some, slice_get}
+use Rattle.std.specs.Prelude.{◌==◌, is_some}
 use Rattle.std.specs.Option.{option_map}
-use Rattle.std.proofs.lemmas.Bool.{and_parts, eqb-true, eqb-false, eq-eqb, and_from, not-true}
-use Rattle.std.proofs.lemmas.List.{get_or-set_same, get_or-set_other}
-use Rattle.std.proofs.lemmas.Option.{slice_get_within, same_Some}
+use Rattle.std.proofs.lemmas.Bool.{and_parts, eqb-false, eq-eqb, and_from, not-true}
+use Rattle.std.proofs.lemmas.Option.{same_Some}
 use Rattle.contention_mgr.specs.Manager.{Ranked, Managed, plain, items_of, first_untold, owner_of, managed_at}
 use Rattle.lock_structure.specs.Entries.{entry_of_res}
 use Rattle.contention_mgr.proofs.LawProofs.{first_is_untold}
@@ -20,7 +19,6 @@ use Rattle.grs_medium.specs.Inboxes.{with_mail}
 use Rattle.grs_medium.specs.Medium.{MediumState, inbox, awake}
 use Rattle.grs_node.specs.Node.{NodeState, with_star}
 use Rattle.grs_node.specs.Star.{StarPart, to_tell, told_by, fixing_none}
-use Rattle.grs_wire.specs.Masks.{has}
 use Rattle.grs_wire.specs.declared.deck.Deck.{Deck}
 use Rattle.grs_wire.specs.declared.medium.Mail.{Mail}
 use Rattle.grs_wire.specs.declared.medium.Mail.TheVariants.{Request, Answered, Granted}
@@ -43,6 +41,8 @@ use Rattle.grs_world.proofs.star.hearing.Told.{heard-told}
 use Rattle.grs_world.proofs.star.steps.Outcome.{Comes, part}
 use Rattle.grs_known.proofs.lists.Alike.{Alike}
 use Rattle.grs_world.proofs.run.Desks.{tells_tasks}
+use Rattle.grs_world.proofs.run.Site.{Site}
+use Rattle.grs_world.proofs.star.Boxes.{other-box, by_box}
 
 -- ---- who is told
 -- A task of another system than s, which owns a resource of an entry that s manages.
@@ -107,8 +107,7 @@ requests-granted (Request e from q ∷ ms) t r = ap (λ zs. q ∷ zs) (requests-
 requests-granted (Answered u a rank ∷ ms) t r = requests-granted ms t r
 requests-granted (Granted u q ∷ ms) t r = requests-granted ms t r
 
-module _ (deck : Deck) (w : World) (g : IsWhole deck w) (c : SysId) (n : NodeState)
-    (at : slice_get w.nodes c.0 ≡ Some n) (alive : has w.medium.removed c.0 ≡ false) where
+module _ (deck : Deck) (w : World) (g : IsWhole deck w) (c : SysId) (n : NodeState) (at : Site w c.0 n) where
   abbrev T : List RunItem
   T = items w.fixed
 
@@ -116,7 +115,7 @@ module _ (deck : Deck) (w : World) (g : IsWhole deck w) (c : SysId) (n : NodeSta
   words = w.medium.words
 
   abbrev p : StarPart
-  p = part deck w g c n at alive
+  p = part deck w g c n at
 
   -- ---- the world once control was sent to an owner
   module _ (entry : ℕ) (t : TaskId) (r : Res)
@@ -124,19 +123,8 @@ module _ (deck : Deck) (w : World) (g : IsWhole deck w) (c : SysId) (n : NodeSta
     abbrev sent_on : MediumState
     sent_on = record w.medium { inboxes = with_mail w.medium.inboxes t.system.0 (Granted t r); rest = flags }
 
-    its_box : (k : NodeState) → slice_get w.nodes t.system.0 ≡ Some k
-        → inbox sent_on t.system.0 ≡ inbox w.medium t.system.0 ++ Granted t r ∷ []
-    its_box k found =
-        get_or-set_same w.medium.inboxes t.system.0 (inbox w.medium t.system.0 ++ Granted t r ∷ []) []
-        (let there = slice_get_within w.nodes t.system.0 k found in
-        omega (arith, there, g.roles.systems, g.roles.inboxes))
-
-    other_box : (u : ℕ) → u ≢ t.system.0 → inbox sent_on u ≡ inbox w.medium u
-    other_box u ne =
-        get_or-set_other w.medium.inboxes t.system.0 u (inbox w.medium t.system.0 ++ Granted t r ∷ []) [] ne
-
     own_box : inbox sent_on c.0 ≡ inbox w.medium c.0
-    own_box = other_box c.0 (λ same. owner.apart (sym same))
+    own_box = other-box w.medium.inboxes t.system.0 (Granted t r) c.0 (λ same. owner.apart (sym same))
 
     known : is_some (lines_of deck t) ≡ true
     known = (and_parts (is_some (lines_of deck t)) _ (owns-may deck T r t g.right.asks owner.owned)).0
@@ -170,40 +158,24 @@ module _ (deck : Deck) (w : World) (g : IsWhole deck w) (c : SysId) (n : NodeSta
       );
     }
 
-    granted : (k : NodeState) → slice_get w.nodes t.system.0 ≡ Some k → has w.medium.removed t.system.0 ≡ false
-        → IsSystem deck w.medium.words (items w.fixed) t.system.0 k (inbox sent_on t.system.0) (g.later t.system.0)
-        (g.out t.system.0)
-    granted k found lives =
-        subst (λ ms. IsSystem deck words T t.system.0 k ms (g.later t.system.0) (g.out t.system.0))
-        (sym (its_box k found))
-        (system-granted deck words T t.system.0 k (inbox w.medium t.system.0) (g.later t.system.0) (g.out t.system.0)
-        (g.system t.system.0 k found lives) g.right t r home owner.owned away)
+    box_there : t.system.0 < length w.medium.inboxes
+    box_there = let k = below in omega (arith, k, g.roles.systems, g.roles.inboxes)
 
-    others : (u : ℕ) (k : NodeState) → slice_get w.nodes u ≡ Some k → has w.medium.removed u ≡ false
+    others : (u : ℕ) (k : NodeState) → Site w u k
         → IsSystem deck w.medium.words (items w.fixed) u k (inbox sent_on u) (g.later u) (g.out u)
-    others u k found lives = go (u == t.system.0) refl
-      where
-        go : (b : Bool) → (u == t.system.0) ≡ b
-            → IsSystem deck w.medium.words (items w.fixed) u k (inbox sent_on u) (g.later u) (g.out u)
-        go true e =
-            let same : u ≡ t.system.0 = eqb-true u t.system.0 e in
-            subst (λ z. IsSystem deck words T z k (inbox sent_on z) (g.later z) (g.out z)) (sym same)
-            (granted k (ap (slice_get w.nodes) (sym same) ∙ found) (ap (has w.medium.removed) (sym same) ∙ lives))
-        go false e =
-            subst (λ ms. IsSystem deck words T u k ms (g.later u) (g.out u))
-            (sym (other_box u (eqb-false u t.system.0 e))) (g.system u k found lives)
+    others u k found =
+        by_box w.medium.inboxes t.system.0 (Granted t r)
+        (λ ms. IsSystem deck words T u k ms (g.later u) (g.out u)) box_there u
+        (λ same.
+        system-granted deck words T u k (inbox w.medium u) (g.later u) (g.out u) (g.system u k found) g.right t r
+        (subst (λ z. is_home_at deck z t ≡ true) (sym same) home) owner.owned
+        (subst (λ z. IsAway deck w.medium.words z t r) (sym same) away))
+        (λ ne. g.system u k found)
 
-    same_requests : (u : ℕ) (k : NodeState) → slice_get w.nodes u ≡ Some k
-        → requests_in (inbox w.medium u) ≡ requests_in (inbox sent_on u)
-    same_requests u k found = go (u == t.system.0) refl
-      where
-        go : (b : Bool) → (u == t.system.0) ≡ b → requests_in (inbox w.medium u) ≡ requests_in (inbox sent_on u)
-        go true e =
-            let same : u ≡ t.system.0 = eqb-true u t.system.0 e in
-            subst (λ z. requests_in (inbox w.medium z) ≡ requests_in (inbox sent_on z)) (sym same)
-            (requests-granted (inbox w.medium t.system.0) t r
-            ∙ ap requests_in (sym (its_box k (ap (slice_get w.nodes) (sym same) ∙ found))))
-        go false e = ap requests_in (sym (other_box u (eqb-false u t.system.0 e)))
+    same_requests : (u : ℕ) → requests_in (inbox w.medium u) ≡ requests_in (inbox sent_on u)
+    same_requests u =
+        by_box w.medium.inboxes t.system.0 (Granted t r) (λ ms. requests_in (inbox w.medium u) ≡ requests_in ms)
+        box_there u (λ same. requests-granted (inbox w.medium u) t r) (λ ne. refl)
 
     -- the manager's part is another afterwards, and holds the same requests
     module _ (q : StarPart) (held : q.held ≡ p.held) where
@@ -215,7 +187,7 @@ module _ (deck : Deck) (w : World) (g : IsWhole deck w) (c : SysId) (n : NodeSta
           (inbox sent_on c.0) (g.later c.0) (g.out c.0)
       own =
           subst (λ ms. IsSystem deck words T c.0 (record n { star = Some q }) ms (g.later c.0) (g.out c.0))
-          (sym own_box) (with_part (g.system c.0 n at alive))
+          (sym own_box) (with_part (g.system c.0 n at))
         where
           with_part : IsSystem deck w.medium.words (items w.fixed) c.0 n (inbox w.medium c.0) (g.later c.0) (g.out c.0)
               → IsSystem deck w.medium.words (items w.fixed) c.0 (record n { star = Some q }) (inbox w.medium c.0)
@@ -237,37 +209,37 @@ module _ (deck : Deck) (w : World) (g : IsWhole deck w) (c : SysId) (n : NodeSta
           (ap (λ ms. p.held ++ requests_in ms) (sym own_box)
           ∙ (ap (λ qs. qs ++ requests_in (inbox sent_on c.0)) (sym held)
           ∙ ap (λ (z : StarPart). in_hands z (inbox sent_on c.0)) (same_Some q k is)))
-          (g.hands c.0 n p at alive (g.roles.node c.0 n at alive).star)
+          (g.hands c.0 n p at (g.roles.node c.0 n at).star)
 
       tells : (IsWhole deck (placed w c n after) → StaysHeard deck w c n after) → Comes deck w g c n after
       tells heard step = record {
         stays =
-            whole-placed deck w g c n at alive after step T (items-none w.fixed c) g.later g.out (λ u ne. refl)
+            whole-placed deck w g c n at after step T (items-none w.fixed c) g.later g.out (λ u ne. refl)
             none_fixed g.right g.near own
-            (λ u k ne found lives. others u k found lives)
+            (λ u k ne found. others u k found)
             hands_own
-            (λ m k v ne found lives is.
-            subst (Hands deck words (are_live w) g.later g.out m) (ap (λ zs. v.held ++ zs) (same_requests m k found))
-            (g.hands m k v found lives is));
+            (λ m k v ne found is.
+            subst (Hands deck words (are_live w) g.later g.out m) (ap (λ zs. v.held ++ zs) (same_requests m))
+            (g.hands m k v found is));
         news = tells_tasks (still-told refl) refl refl;
         heard = heard;
         dated = λ h. record { date = h.date; own = h.own };
       }
 
   -- ---- the event
-  pub outcome-tell : (entry : ℕ) (x : TaskId × Res) → to_tell (part deck w g c n at alive) entry ≡ Some x →
+  pub outcome-tell : (entry : ℕ) (x : TaskId × Res) → to_tell (part deck w g c n at) entry ≡ Some x →
       Comes deck w g c n (record {
         medium =
             record w.medium {
               inboxes = with_mail w.medium.inboxes x.0.system.0 (Granted x.0 x.1);
               rest = awake w.medium c;
             };
-        step = with_star n (fixing_none n.tasks (told_by (part deck w g c n at alive) (Some x)));
+        step = with_star n (fixing_none n.tasks (told_by (part deck w g c n at) (Some x)));
       })
   outcome-tell entry x is =
       tells entry x.0 x.1 owner (awake w.medium c) (told_by p (Some x)) refl
-      (heard-told deck w g c n at alive p (g.roles.node c.0 n at alive).star x.0 x.1 owner.apart
+      (heard-told deck w g c n at p (g.roles.node c.0 n at).star x.0 x.1 owner.apart
       (below entry x.0 x.1 owner (awake w.medium c)) (awake w.medium c))
     where
       owner : IsOwner deck w.medium.words (lists (items w.fixed)) c.0 entry x.0 x.1
-      owner = first-owns deck words (lists T) c.0 p (g.roles.node c.0 n at alive).fits entry x is
+      owner = first-owns deck words (lists T) c.0 p (g.roles.node c.0 n at).fits entry x is
