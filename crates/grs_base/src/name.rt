@@ -224,9 +224,14 @@ impl Rname {
     pub fn copy(&self, alloc: Global) -> Result<Rname, NoMemory>
         ensures { IfOk result (λ r. r ≡ self.now) }
     {
-        Ok(Rname {
-            held: kept(alloc, self.bytes())?,
-        })
+        let held = match &self.held {
+            NameBytes::InPlace { len, kept } => NameBytes::InPlace {
+                len: *len,
+                kept: *kept,
+            },
+            NameBytes::Owned(bytes) => kept(alloc, bytes.as_slice())?,
+        };
+        Ok(Rname { held })
     }
 
     /// The bytes.

@@ -1,5 +1,5 @@
 //! The order in which resources are shown, which is this project's own.
-ghost use Rattle.std.specs.Prelude.{◌≡◌};
+ghost use Rattle.std.specs.Prelude.{◌≡◌, ◌↔◌, true};
 ghost use Rattle.std.specs.Ordering.{on, then_cmp};
 ghost use Rattle.grs_base.specs.Names.{padded};
 ghost use Rattle.grs_base.specs.ResOrder.{group_of, qname_of, rname_of, by_numbers, res_order};
@@ -71,6 +71,13 @@ fn order_of_groups(a: &Res, b: &Res) -> Ordering
     }
 }
 
+/// Whether eight bytes are these, by one comparison of numbers.
+fn are_same(a: &[u8; 8], b: &[u8; 8]) -> bool
+    ensures { (result ≡ true) ↔ (a.now ≡ b.now) }
+{
+    u64::from_be_bytes(*a) == u64::from_be_bytes(*b)
+}
+
 /// Two runs of bytes behind as many equal ones as eight at a time pass, which their order doesn't hang on.
 #[tactic(auto, using(crate::proofs::OrderLaws::runs))]
 fn behind_equal<'a>(a: &'a [u8], b: &'a [u8]) -> (&'a [u8], &'a [u8])
@@ -81,7 +88,7 @@ fn behind_equal<'a>(a: &'a [u8], b: &'a [u8]) -> (&'a [u8], &'a [u8])
         first.split_first_chunk::<8>(),
         second.split_first_chunk::<8>(),
     ) {
-        if x != y {
+        if !are_same(x, y) {
             return (first, second);
         }
         first = xs;
