@@ -14,3 +14,4 @@ pub mod Looks
 pub mod Rnl
 pub mod NameLists
 pub mod NameBytes
+pub mod Faults

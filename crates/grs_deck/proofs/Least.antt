@@ -17,7 +17,8 @@ use Rattle.grs_deck.specs.declared.judge.Draft.{Draft}
 use Rattle.grs_deck.specs.Judge.{has_bad_name, is_repeated, is_misplaced, is_full, is_unknown, verdict}
 use Rattle.grs_deck.specs.Grow.{grow}
 use Rattle.grs_deck.specs.Reading.{unless, judge_form, judge}
-use Rattle.grs_deck.specs.Faults.{number, SomeStmt, Applies, IsLeast}
+use Rattle.grs_base.specs.Faults.{number}
+use Rattle.grs_deck.specs.Faults.{SomeStmt, Applies, IsLeast}
 use Rattle.grs_deck.specs.Spells.{IsSized, IsNew, IsPlaced, HasRoom, IsKnown}
 use Rattle.grs_deck.proofs.FitsLaws.{tests_of}
 use Rattle.grs_deck.proofs.SpellsLaws.{sized_by, new_by, placed_by, room_by, known_by, of_sized, of_new, of_placed}

@@ -1,10 +1,10 @@
 -- The first fault of a text, by the table of kinds, and what is answered of a text.
 use Rattle.std.specs.Prelude.{◌≡◌, ℕ, false, ◌≤◌, ◌⊎◌, List, ◌∷◌, ◌++◌, length, Some, None, Result, Ok, Err}
+use Rattle.grs_base.specs.Faults.{number}
 use Rattle.grs_base.specs.declared.fault.DeckFault.{DeckFault}
 use Rattle.grs_base.specs.declared.fault.Kind.{Kind}
-use Rattle.grs_base.specs.declared.fault.Kind.TheVariants.{TooLong, BadByte, UnknownStatement, BadOperand, NameLength}
-use Rattle.grs_base.specs.declared.fault.Kind.TheVariants.{Repeated, OutOfPlace, TooMany, UnknownName, NoSystem}
-use Rattle.grs_base.specs.declared.fault.Kind.TheVariants.{NotBuilt}
+use Rattle.grs_base.specs.declared.fault.Kind.TheVariants.{UnknownStatement, BadOperand, NameLength, Repeated}
+use Rattle.grs_base.specs.declared.fault.Kind.TheVariants.{OutOfPlace, TooMany, UnknownName, NoSystem}
 use Rattle.grs_base.specs.declared.fault.ReadError.{ReadError}
 use Rattle.grs_base.specs.declared.fault.ReadError.TheVariants as read_errors
 use Rattle.grs_wire.specs.declared.deck.Deck.{Deck}
@@ -17,20 +17,6 @@ use Rattle.deck_form.specs.Statements.{statements}
 use Rattle.grs_deck.specs.declared.judge.Draft.{Draft}
 use Rattle.grs_deck.specs.Reading.{first_draft}
 use Rattle.grs_deck.specs.Spells.{IsSized, IsNew, IsPlaced, HasRoom, IsKnown, Says, SpellsDeck}
-
--- The number of a kind.
-abbrev pub number : Kind → ℕ
-number TooLong = 1
-number BadByte = 2
-number UnknownStatement = 3
-number BadOperand = 4
-number NameLength = 5
-number Repeated = 6
-number OutOfPlace = 7
-number TooMany = 8
-number UnknownName = 9
-number NoSystem = 10
-number NotBuilt = 11
 
 -- The line spells a statement of which this isn't so.
 abbrev pub SomeStmt : Draft → TokenLine → (Stmt → Type 0) → Type 0

@@ -1,6 +1,6 @@
 //! The line that tells a deck's first fault.
 ghost use Rattle.std.specs.Prelude.{◌≡◌, IfOk};
-ghost use Rattle.grs_deck.specs.Faults.{number};
+ghost use Rattle.grs_base.specs.Faults.{number};
 ghost use Rattle.grs_top.specs.Due.{fault_line};
 
 use grs_base::{DeckFault, Kind, List, NoMemory};

@@ -27,7 +27,8 @@ use Rattle.latch_form.specs.Drafts.{most_calls, makes, grow}
 use Rattle.latch_form.specs.Reading.{is_too_long, is_full, verdict, unless, judge_call}
 use Rattle.latch_form.specs.Reading.{judge_form, judge}
 use Rattle.latch_form.specs.Spelled.{ask_word, Spells, IsSized, HasRoom}
-use Rattle.latch_form.specs.Faults.{number, BeginsOtherwise, NoWord, SomeCall, Applies, IsLeast}
+use Rattle.grs_base.specs.Faults.{number}
+use Rattle.latch_form.specs.Faults.{BeginsOtherwise, NoWord, SomeCall, Applies, IsLeast}
 use Rattle.latch_form.proofs.Again.{verb_for, verb_again, form_again, one_spelled}
 use Rattle.latch_form.proofs.Taken.{verb_taken, form_taken}
 use Rattle.latch_form.proofs.Loop.{no_fault}

@@ -1,10 +1,9 @@
 -- The first fault of a text of calls, and what is answered of a text.
 use Rattle.std.specs.Prelude.{◌≡◌, ℕ, true, false, ◌≤◌, ◌⊎◌, List, ◌∷◌, ◌++◌, Some, None, Result, Ok, Err}
+use Rattle.grs_base.specs.Faults.{number}
 use Rattle.grs_base.specs.declared.fault.DeckFault.{DeckFault}
 use Rattle.grs_base.specs.declared.fault.Kind.{Kind}
-use Rattle.grs_base.specs.declared.fault.Kind.TheVariants.{TooLong, BadByte, UnknownStatement, BadOperand, NameLength}
-use Rattle.grs_base.specs.declared.fault.Kind.TheVariants.{Repeated, OutOfPlace, TooMany, UnknownName, NoSystem}
-use Rattle.grs_base.specs.declared.fault.Kind.TheVariants.{NotBuilt}
+use Rattle.grs_base.specs.declared.fault.Kind.TheVariants.{UnknownStatement, BadOperand, NameLength, TooMany}
 use Rattle.grs_base.specs.declared.fault.ReadError.{ReadError}
 use Rattle.grs_base.specs.declared.fault.ReadError.TheVariants as read_errors
 use Rattle.deck_scan.specs.declared.token.Token.{Token}
@@ -18,20 +17,6 @@ use Rattle.latch_form.specs.declared.form.GivenCall.{GivenCall}
 use Rattle.latch_form.specs.declared.judge.Draft.{Draft}
 use Rattle.latch_form.specs.Drafts.{no_draft}
 use Rattle.latch_form.specs.Spelled.{ask_word, Spells, IsSized, HasRoom, Says, SpellsCalls}
-
--- The number of a kind.
-abbrev pub number : Kind → ℕ
-number TooLong = 1
-number BadByte = 2
-number UnknownStatement = 3
-number BadOperand = 4
-number NameLength = 5
-number Repeated = 6
-number OutOfPlace = 7
-number TooMany = 8
-number UnknownName = 9
-number NoSystem = 10
-number NotBuilt = 11
 
 -- The line begins with none of the words of calls. A comment that is not closed has no first word, and is wrong for
 -- itself.
