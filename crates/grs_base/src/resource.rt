@@ -57,7 +57,7 @@ pub struct Elem {
 }
 
 /// A resource. The same names under another kind, system or job are another resource.
-#[derive(PartialEq, Eq, Hash, Drop)]
+#[derive(PartialEq, Eq, Hash)]
 pub enum Res {
     /// One job's; `job` is its place in its system.
     Step {
@@ -77,6 +77,26 @@ pub enum Res {
         q: Qname,
         r: Rname,
     },
+}
+
+// By a call of its own. A derived one is put in place wherever a resource may go, with a cleared place for each of its parts.
+impl Drop for Res {
+    fn drop(self) {
+        match self {
+            Res::Step {
+                system: _,
+                job: _,
+                q: _,
+                r: _,
+            } => {}
+            Res::System {
+                system: _,
+                q: _,
+                r: _,
+            } => {}
+            Res::Systems { q: _, r: _ } => {}
+        }
+    }
 }
 
 impl Res {
