@@ -52,7 +52,10 @@ impl Slot {
         if !(changes || is_acted_on(&reply)) {
             return Ok((reply, false));
         }
-        if self.journal.len() >= MOST_JOURNAL_ENTRIES || self.journal.reserve(1).is_err() {
+        if self.journal.len() >= MOST_JOURNAL_ENTRIES {
+            return Err(NoMemory);
+        }
+        if self.journal.reserve(1).is_err() {
             return Err(NoMemory);
         }
         let asked = call.copy(self.alloc)?;
