@@ -3,6 +3,7 @@
 #![tactic(auto)]
 
 mod deck;
+mod gather;
 mod history;
 pub mod laws;
 mod log;
@@ -13,6 +14,7 @@ mod seen;
 mod told;
 
 pub use deck::{Choice, Deck, Desk, Event, JobDef, Name, Order, SystemDef, TaskDef};
+pub use gather::{Moved, PartRec};
 pub use history::HistEntry;
 pub use log::{NodeLog, StepDone};
 pub use medium::{Act, Call, JEntry, Mail, Reply, RingBody, RingEntry};
