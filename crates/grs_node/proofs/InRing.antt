@@ -3,7 +3,7 @@ use Rattle.std.proofs.Common.{◌≡◌, ℕ, true, false, cond, List, [], ◌�
 use Rattle.std.proofs.Common.{◌∙◌}
 use Rattle.grs_node.specs.Node.{NodeState, Step, only, outbox_with, prepare, star_call, turn_call, may_go, is_pending}
 use Rattle.grs_node.specs.Node.{read_entries, put_in, finish_star, finish_call, next_order, switch_call, purge_call}
-use Rattle.grs_node.specs.Node.{turned, switched, purged, desk_told, all_sent, change_to_star}
+use Rattle.grs_node.specs.Node.{known_from, turned, switched, purged, desk_told, all_sent, change_to_star}
 use Rattle.grs_base.specs.Limits.{most_additions}
 use Rattle.std.specs.Prelude.{is_none}
 use Rattle.grs_node.specs.Star.{StarPart}
@@ -50,7 +50,7 @@ prepare-ring deck n (choices.Purge s) h = refl
 -- what a reply comes to
 abbrev pub ring_finish : Deck → NodeState → Choice → Reply → Step
 ring_finish deck n choice (replies.Turned entries taken closed) = turned deck n entries taken closed
-ring_finish deck n choice (replies.Stale set) = only (record n { known = set })
+ring_finish deck n choice (replies.Stale set) = only (record n { known = known_from deck n.known set })
 ring_finish deck n choice replies.Switched = only (switched deck n)
 ring_finish deck n choice replies.Already = only (desk_told n saids.StarAlready)
 ring_finish deck n choice replies.Purged = purged n choice

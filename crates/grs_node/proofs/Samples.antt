@@ -6,10 +6,11 @@ use Rattle.grs_base.specs.declared.resource.Ctl.TheVariants.{E}
 use Rattle.grs_base.specs.declared.resource.Res.TheVariants.{Systems}
 use Rattle.grs_base.specs.declared.resource.Ret.TheVariants.{RetNone}
 use Rattle.grs_base.specs.declared.rnl.Which.TheVariants as which
+use Rattle.grs_wire.specs.declared.deck.Choice.TheVariants as choices
 use Rattle.grs_wire.specs.declared.deck.Deck.{Deck}
 use Rattle.grs_wire.specs.declared.medium.RingBody.{RingBody}
 use Rattle.grs_wire.specs.declared.request.Want.TheVariants.{Enq}
-use Rattle.grs_node.specs.Node.{NodeState, read_entry}
+use Rattle.grs_node.specs.Node.{NodeState, Step, finish_call, only, read_entry}
 use Rattle.ring_mode.specs.Ring.{answer_own, process, process_entry}
 use Rattle.task_state.specs.Replies.{tell_all, tell_new}
 use Rattle.system_purge.specs.Purge.{tell_freed}
@@ -139,3 +140,26 @@ stays : read_entry deck (record node { shared = asked_first }) (bodies.Remove (r
     ≡ record node { shared = asked_first }
 unfolding tell_freed tell_new tell_all
 stays = refl
+
+-- ---- which systems were removed, as a system is told that knows of these
+abbrev informed : ℕ → ℕ → Step
+informed known set = finish_call deck (record node { known = known }) choices.Rest (replies.Stale set)
+
+-- the other one of the deck
+other : informed 0 2 ≡ only (record node { known = 2 })
+unfolding finish_call
+other = refl
+
+-- what it knew otherwise it forgets
+anew : informed 2 1 ≡ only (record node { known = 1 })
+unfolding finish_call
+anew = refl
+
+-- a third one, which the deck lacks, alone or beside its two: nothing
+third : informed 2 4 ≡ only (record node { known = 2 })
+unfolding finish_call
+third = refl
+
+third_beside : informed 2 7 ≡ only (record node { known = 2 })
+unfolding finish_call
+third_beside = refl

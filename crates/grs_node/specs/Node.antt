@@ -1,8 +1,8 @@
 -- A system, event by event: what each choice comes to, and what the system is afterwards. An event is prepared,
 -- makes at most one call of the medium, and is finished with the reply.
-use Rattle.std.specs.Prelude.{ℕ, zero, suc, ◌+◌, Bool, true, false, not, cond, ◌&&◌, ◌||◌, ◌==◌, nat_le, nat_lt, List}
-use Rattle.std.specs.Prelude.{[], ◌∷◌, ◌++◌, length, map, take, drop, replicate, Option, Some, None, slice_get, is_some}
-use Rattle.std.specs.Prelude.{is_none}
+use Rattle.std.specs.Prelude.{ℕ, zero, suc, ◌+◌, Bool, true, false, not, cond, ◌&&◌, ◌||◌, ◌==◌, ◌^◌, nat_le, nat_lt}
+use Rattle.std.specs.Prelude.{List, [], ◌∷◌, ◌++◌, length, map, take, drop, replicate, Option, Some, None, slice_get}
+use Rattle.std.specs.Prelude.{is_some, is_none}
 use Rattle.std.specs.List.{list_all, list_any}
 use Rattle.grs_base.specs.Limits.{most_additions}
 use Rattle.std.specs.Option.{option_map}
@@ -392,6 +392,11 @@ desk_told n said = record n { tasks = telling n.tasks (told.Desk (n.done + 1) sa
 unfoldable pub switched : Deck → NodeState → NodeState
 switched deck n = cond (is_none n.star) (change_to_star deck (desk_told n saids.StarDone)) n
 
+-- The systems that a system knows to be removed, where it is told this set of them. A set with a system outside the
+-- deck has no effect.
+abbrev pub known_from : Deck → ℕ → ℕ → ℕ
+known_from deck known set = cond (nat_lt set (2 ^ length deck.systems)) set known
+
 -- The systems that a system knows to be removed, where by this choice it removed one more.
 abbrev pub known_with : ℕ → Choice → ℕ
 known_with known (choices.Purge target) = with_also known target.0
@@ -448,7 +453,7 @@ finish_star deck n (Some p) choice reply = with_star n (star_step deck n.tasks p
 -- The reply to a call. Those that say nothing new change nothing.
 unfoldable pub finish_call : Deck → NodeState → Choice → Reply → Step
 finish_call deck n choice (replies.Turned entries taken closed) = turned deck n entries taken closed
-finish_call deck n choice (replies.Stale set) = only (record n { known = set })
+finish_call deck n choice (replies.Stale set) = only (record n { known = known_from deck n.known set })
 finish_call deck n choice replies.Switched = only (switched deck n)
 finish_call deck n choice replies.Already = only (desk_told n saids.StarAlready)
 finish_call deck n choice replies.Purged = purged n choice

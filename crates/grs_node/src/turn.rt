@@ -22,6 +22,19 @@ use std::alloc::Global;
 use system_purge::remove;
 use task_state::{Phase, Tasks};
 
+/// The systems that are known to be removed, where a system is told this set of them. A set with a system outside
+/// the deck has no effect.
+fn known_from(deck: &Deck, known: u32, set: u32) -> u32
+    requires { length deck.now.systems ≤ most_systems }
+    ensures { result ≡ steps.known_from deck.now known set }
+{
+    if set < 1 << deck.systems.len() {
+        set
+    } else {
+        known
+    }
+}
+
 /// The tasks of these requests have sent them.
 #[tactic(auto, using(crate::proofs::Kept::kept), unfolding(crate::specs::Node::all_sent))]
 fn all_sent(tasks: &mut Tasks, reqs: &[Req])
@@ -226,6 +239,7 @@ impl NodeState {
         reply: Reply,
     ) -> Result<List<Fixed>, NoMemory>
         requires come { may_come (steps.prepare deck.now self.old choice) reply ≡ true }
+        requires few { length deck.now.systems ≤ most_systems }
         requires entries { deck.now.entries ≢ 0 }
         requires desk { steps.desk_count (slice_get deck.now.systems self.old.tasks.system) ≤ most_commands }
         requires target { TargetFits choice }
@@ -240,7 +254,7 @@ impl NodeState {
                 closed,
             } => self.turned(alloc, deck, entries.as_slice(), taken, closed),
             Reply::Stale { set } => {
-                self.known = set;
+                self.known = known_from(deck, self.known, set);
                 Ok(List::new(alloc))
             }
             Reply::Switched => {

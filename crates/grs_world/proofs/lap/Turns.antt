@@ -1,8 +1,8 @@
 -- What the Turn of the system comes to at which the message stands, in ring mode.
 use Rattle.std.proofs.Common.{◌≡◌, ◌≢◌, Bool, true, false, cond, not, List, [], length, take, Some, None}
 use Rattle.std.proofs.Common.{refl, sym, ap, ◌∙◌}
-use Rattle.std.specs.Prelude.{nat_lt, slice_get, ◌==◌}
-use Rattle.std.proofs.lemmas.Bool.{and_parts, eq-eqb, ltb-true, true≢false}
+use Rattle.std.specs.Prelude.{nat_lt, slice_get, ◌==◌, ◌^◌}
+use Rattle.std.proofs.lemmas.Bool.{and_parts, eq-eqb, lt-ltb, ltb-true, true≢false}
 use Rattle.std.proofs.lemmas.Option.{same_Some, slice_get-get_or}
 use Rattle.grs_base.specs.Limits.{most_additions}
 use Rattle.grs_base.specs.declared.resource.SysId.{SysId}
@@ -11,7 +11,7 @@ use Rattle.grs_medium.specs.Apply.{turn_row}
 use Rattle.grs_medium.specs.Medium.{live}
 use Rattle.grs_medium.specs.TurnReplies.{refusal}
 use Rattle.grs_medium.specs.declared.medium.TurnRefusal.TheVariants as refusals
-use Rattle.grs_node.specs.Node.{NodeState, Step, finish, first_node, finish_call, prepare, turn_call}
+use Rattle.grs_node.specs.Node.{NodeState, Step, finish, first_node, finish_call, only, prepare, turn_call}
 use Rattle.grs_node.specs.TurnCalls as calls
 use Rattle.grs_node.specs.declared.prepared.Prepared.TheVariants.{Call}
 use Rattle.grs_wire.specs.Masks.{has}
@@ -100,7 +100,9 @@ module _ (deck : Deck) (w : World) (ring : IsRing deck w) (s : SysId) (here : w.
   told_step : finish deck n Turn (Some (replies.Stale w.medium.removed))
       ≡ record { node = record n { known = w.medium.removed }; fixed = [] }
   unfolding finish finish_call
-  told_step = refl
+  told_step =
+      ap (λ (b : Bool). only (record n { known = cond b w.medium.removed n.known }))
+      (lt-ltb w.medium.removed (2 ^ length deck.systems) ring.within)
 
   elsewhere : (n.known == w.medium.removed) ≡ false → TurnCame deck w s
   unfolding placed

@@ -1,7 +1,7 @@
 -- A run of a deck in ring mode, as long as nobody has changed the mode: no system has a part in star mode, and the
 -- message is open. Systems may be removed.
 use Rattle.std.proofs.Common.{◌≡◌, ◌+◌, ℕ, zero, suc, Bool, false, cond, List, [], ◌∷◌, take, Some, None, refl, ap, ◌∙◌}
-use Rattle.std.proofs.Common.{subst, length, sym, true, arith}
+use Rattle.std.proofs.Common.{subst, length, sym, true, arith, ◌<◌, ◌^◌}
 use Rattle.std.specs.Prelude.{slice_get, nat_lt, replicate}
 use Rattle.grs_base.specs.declared.resource.SysId.{SysId}
 use Rattle.grs_medium.specs.Apply.{is_live, without_system}
@@ -20,12 +20,12 @@ use Rattle.grs_world.proofs.run.Runs.{by_node}
 use Rattle.grs_world.proofs.run.Each.{each_run}
 use Rattle.grs_world.proofs.run.Came as any
 use Rattle.grs_medium.proofs.LiveLaws.{has-live}
-use Rattle.std.proofs.lemmas.Bool.{lt-ltb}
+use Rattle.std.proofs.lemmas.Bool.{lt-ltb, and_parts, ltb-true}
 use Rattle.std.proofs.lemmas.List.{length-set}
 use Rattle.std.proofs.lemmas.Option.{same_Some, slice_get_within}
 use Rattle.grs_wire.specs.declared.deck.Order.TheVariants as orders
 use Rattle.grs_wire.proofs.WantLaws.{by_test}
-use Rattle.grs_wire.specs.Masks.{has, lives}
+use Rattle.grs_wire.specs.Masks.{has, lives, with_also}
 use Rattle.grs_wire.specs.declared.deck.Choice.TheVariants as choices
 use Rattle.grs_node.proofs.Keeping.{stays-task, stays-turned}
 use Rattle.grs_base.specs.declared.resource.TaskId.{TaskId}
@@ -37,6 +37,7 @@ use Rattle.grs_legal.specs.Asks.{lines_of}
 use Rattle.grs_world.proofs.run.Came.{Came, acts-keep, no_part, Result}
 use Rattle.grs_known.proofs.lists.Truths.{no_truth}
 use Rattle.grs_world.proofs.run.Chosen.{each_came}
+use Rattle.std.proofs.lemmas.Nat.{or_lt, pow_below, pow_pos}
 
 -- What holds of the medium and each system then.
 pub record IsRing (deck : Deck) (w : World) : Type 0 where
@@ -46,6 +47,12 @@ pub record IsRing (deck : Deck) (w : World) : Type 0 where
   pub around : w.medium.message.systems ≡ length deck.systems
   pub boxes : w.medium.inboxes ≡ replicate (length deck.systems) []
   pub alone : (s : ℕ) (n : NodeState) → slice_get w.nodes s ≡ Some n → n.star ≡ None
+  pub within : w.medium.removed < 2 ^ length deck.systems
+
+-- a set of so many systems with one more of them
+also-within : (n m s : ℕ) → m < 2 ^ n → s < n → with_also m s < 2 ^ n
+unfolding with_also
+also-within n m s h below = or_lt n m (2 ^ s) h (pow_below s n below)
 
 -- a system that is there is live where it wasn't removed
 pub live-there : (deck : Deck) (w : World) → IsRing deck w → (s : ℕ) (n : NodeState) → slice_get w.nodes s ≡ Some n
@@ -132,6 +139,7 @@ module _ (deck : Deck) (w : World) (g : IsRing deck w) where
     around = g.around;
     boxes = g.boxes;
     alone = g.alone;
+    within = g.within;
   }
 
   pub ring-placed : (c : SysId) (n : NodeState) → slice_get w.nodes c.0 ≡ Some n → (o : Turnout)
@@ -142,8 +150,8 @@ module _ (deck : Deck) (w : World) (g : IsRing deck w) where
     where
       kept : (m : MediumState) (st : Step) → m.star ≡ false → m.message.closed ≡ false
           → m.message.systems ≡ length deck.systems → m.inboxes ≡ w.medium.inboxes → st.node.star ≡ n.star
-          → IsRing deck (placed w c n (record { medium = m; step = st }))
-      kept m st star shut around boxes same = record {
+          → m.removed < 2 ^ length deck.systems → IsRing deck (placed w c n (record { medium = m; step = st }))
+      kept m st star shut around boxes same within = record {
         mode = star;
         unclosed = shut;
         systems = length-set w.nodes c.0 st.node ∙ g.systems;
@@ -152,19 +160,31 @@ module _ (deck : Deck) (w : World) (g : IsRing deck w) where
         alone =
             by_node w.nodes c.0 n st.node at (λ u k. k.star ≡ None) (same ∙ g.alone c.0 n at)
             (λ u k apart there. g.alone u k there);
+        within = within;
       }
 
+      with_target : (target : SysId) → is_live w.medium target ≡ true
+          → with_also w.medium.removed target.0 < 2 ^ length deck.systems
+      with_target target alive =
+          also-within (length deck.systems) w.medium.removed target.0 g.within
+          (subst (λ k. target.0 < k) g.around
+          (ltb-true target.0 w.medium.message.systems
+          (and_parts (nat_lt target.0 w.medium.message.systems) _ alive).0))
+
       go : (o : Turnout) → CameInRing deck w c n o → o.medium.star ≡ false → IsRing deck (placed w c n o)
-      go o (nothing flags) h = kept o.medium o.step g.mode g.unclosed g.around refl refl
+      go o (nothing flags) h = kept o.medium o.step g.mode g.unclosed g.around refl refl g.within
       go o (went_on t may) h =
           kept o.medium o.step g.mode g.unclosed g.around refl (stays-task deck.limit n t (lines_of deck t)).star
+          g.within
       go o (turn flags here) h =
           kept o.medium o.step g.mode g.unclosed g.around refl
           (stays-turned deck n (unseen c w.medium.message.entries) (length (take most_additions n.outbox))).star
+          g.within
       go o (changed next seen) h = absurd (cc)
-      go o (informed known) h = kept o.medium o.step g.mode g.unclosed g.around refl refl
-      go o (removes_one target next gone) h = kept o.medium o.step g.mode g.unclosed g.around refl refl
-      go o (no_such target next gone) h = kept o.medium o.step g.mode g.unclosed g.around refl refl
+      go o (informed known) h = kept o.medium o.step g.mode g.unclosed g.around refl refl g.within
+      go o (removes_one target next there) h =
+          kept o.medium o.step g.mode g.unclosed g.around refl refl (with_target target there)
+      go o (no_such target next gone) h = kept o.medium o.step g.mode g.unclosed g.around refl refl g.within
 
 -- ---- once the medium is in star mode the mode stays, and the message changes by Turns alone
 pub each_in_star : (deck : Deck) (w : World) (e : Event) → w.medium.star ≡ true → (P : Message → Bool → Type 0)
@@ -241,6 +261,7 @@ first_ring deck h = record {
       (opened (length deck.systems)) (λ e. refl) (λ e. refl);
   boxes = refl;
   alone = λ s n at. first_node_at deck h 0 deck.systems s n at;
+  within = pow_pos (length deck.systems);
 }
 
 -- ---- every list of events behind which the medium is still in ring mode

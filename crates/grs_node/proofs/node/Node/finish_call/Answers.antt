@@ -17,6 +17,9 @@ invariant_of-self c =
           c.in-Ok.fixed c.self.invariant.2 comes c.in-Ok.ensures.system c.in-Ok.ensures.step,
     )
 
+pub finish_call-requires-clause-few : goal.finish_call-requires-clause-few
+finish_call-requires-clause-few c = c.self.invariant.2.few
+
 pub finish_call-requires-clause-entries : goal.finish_call-requires-clause-entries
 finish_call-requires-clause-entries c = entries-there c.self.inside.deck.now c.self.inside.state c.self.invariant.2
 
