@@ -22,7 +22,7 @@ use Rattle.grs_node.specs.Change.{entry_by_table, part_by_table, with_rank_by, w
 use Rattle.grs_node.specs.Change.{with_first_look, one_by_one}
 use Rattle.grs_node.specs.Node.{NodeState, desk_count, words_by, switch_call, change_to_star}
 use Rattle.grs_node.specs.Star.{StarPart}
-use Rattle.grs_wire.specs.Decks.{IsWithin, IsDeck}
+use Rattle.grs_wire.specs.Decks.{IsWithin, IsBounded}
 use Rattle.grs_wire.specs.declared.deck.Deck.{Deck}
 use Rattle.grs_wire.specs.declared.deck.Order.{Order}
 use Rattle.grs_wire.specs.declared.deck.Order.TheVariants as orders
@@ -92,7 +92,7 @@ part-fits deck s t some within = record {
 }
 
 -- ---- the desk
-pub desk_few : (deck : Deck) (s : ℕ) → IsDeck deck → desk_count (slice_get deck.systems s) ≤ most_commands
+pub desk_few : (deck : Deck) (s : ℕ) → IsBounded deck → desk_count (slice_get deck.systems s) ≤ most_commands
 desk_few deck s h = go (slice_get deck.systems s) refl
   where
     go : (o : Option SystemDef) → slice_get deck.systems s ≡ o → desk_count o ≤ most_commands

@@ -54,7 +54,7 @@ use Rattle.grs_legal.specs.Asks.{scripts_at, lines_in, lines_of, meanings}
 use Rattle.grs_wire.specs.declared.deck.SystemDef.{SystemDef}
 use Rattle.grs_wire.specs.declared.request.Fixed.{Fixed}
 use Rattle.std.proofs.lemmas.Option.{slice_get_within}
-use Rattle.grs_wire.specs.Decks.{IsOrderOf, AreOrders, IsDeck}
+use Rattle.grs_wire.specs.Decks.{IsOrderOf, AreOrders, IsBounded}
 use Rattle.grs_base.specs.Limits.{most_commands}
 use Rattle.grs_base.specs.State.{State}
 use Rattle.grs_wire.proofs.DeckLaws.{entries_some}
@@ -159,7 +159,7 @@ orders-at all ss s h =
     (orders-from all 0 ss s h)
 
 -- a system at the start fits the deck
-pub started-fits : (deck : Deck) (n : NodeState) (s : ℕ) → IsDeck deck → s < length deck.systems → n.tasks.system ≡ s
+pub started-fits : (deck : Deck) (n : NodeState) (s : ℕ) → IsBounded deck → s < length deck.systems → n.tasks.system ≡ s
     → n.shared ≡ [] → n.star ≡ part_at_first deck s → NodeFits deck n
 started-fits deck n s h within own none begins = record {
   system = subst (λ (k : ℕ). k < length deck.systems) (sym own) within;

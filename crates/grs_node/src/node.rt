@@ -2,7 +2,7 @@
 //! of the medium, which somebody else carries out; and with the reply it is finished.
 ghost use Rattle.std.specs.Prelude.{◌≡◌, ◌<◌, ◌≤◌, ◌++◌, ◌∷◌, [], Some, true, take, drop, length, IfOk, IfSome, IfNone, OnOk};
 ghost use Rattle.grs_base.specs.Limits.{most_additions, most_systems};
-ghost use Rattle.grs_wire.specs.Decks.{IsDeck};
+ghost use Rattle.grs_wire.specs.Decks.{IsBounded};
 ghost use Rattle.task_state.specs.Units.{counted, reserved_of};
 ghost use Rattle.task_state.specs.View.{is_task, state_of};
 ghost use Rattle.grs_node.specs.Node as steps;
@@ -84,7 +84,7 @@ impl<'d> Node<'d> {
     /// A system of a deck before its first event.
     #[tactic(auto, using(grs_wire::proofs::DeckLaws::parts), unfolding(crate::specs::Node::first_node))]
     pub fn new(alloc: Global, deck: &'d Deck, system: SysId) -> Result<Node<'d>, NoMemory>
-        requires deck { IsDeck deck.now }
+        requires deck { IsBounded deck.now }
         requires system { system.0 < length deck.now.systems }
         ensures { IfOk result (λ n. n ≡ starting deck.now system.0) }
     {

@@ -1,7 +1,7 @@
 //! Which task has which lines. The lines stay in the deck.
 ghost use Rattle.std.specs.Prelude.{◌≡◌, ◌≤◌, ◌++◌, map, length, slice_get, is_some, sum, option_copied, All, IfOk, IfSome};
 ghost use Rattle.grs_base.specs.Limits.{most_lines, most_tasks};
-ghost use Rattle.grs_wire.specs.Decks.{IsDeck};
+ghost use Rattle.grs_wire.specs.Decks.{IsBounded};
 ghost use Rattle.grs_legal.specs.Asks as asks;
 ghost use Rattle.grs_legal.specs.Asks.{lines_in, scripts_in, scripts_from};
 ghost use Rattle.grs_node.specs.Node.{is_of_deck};
@@ -91,7 +91,7 @@ pub(crate) fn scripts_of(
     deck: &Deck,
     system: SysId,
 ) -> Result<List<Script<'_>>, NoMemory>
-    requires { IsDeck deck.now }
+    requires { IsBounded deck.now }
     ensures { IfOk result (λ scripts. scripts ≡ asks.scripts_of deck.now system.0) }
 {
     match system_at(deck, system) {
@@ -103,7 +103,7 @@ pub(crate) fn scripts_of(
 /// The numbers of tasks of the jobs of a system.
 #[tactic(auto, using(grs_wire::proofs::DeckLaws::parts, crate::proofs::ScriptCounts::counts))]
 pub(crate) fn sizes_of(alloc: Global, deck: &Deck, system: SysId) -> Result<Vec<u32>, NoMemory>
-    requires { IsDeck deck.now }
+    requires { IsBounded deck.now }
     ensures { IfOk result (λ sizes. sum sizes.items ≡ length (asks.scripts_of deck.now system.0)) }
 {
     match system_at(deck, system) {

@@ -22,7 +22,8 @@ use Rattle.grs_node.specs.Log.{NodeView}
 use Rattle.grs_report.specs.Ends.{all_ended}
 use Rattle.grs_report.specs.Report.{report}
 use Rattle.std.proofs.lemmas.List.Elements.{All-nil}
-use Rattle.grs_wire.specs.Decks.{AreOrders, IsDeck, IsEventOf}
+use Rattle.grs_wire.specs.Decks.{AreOrders, IsBounded, IsDeck, IsEventOf}
+use Rattle.grs_wire.proofs.DeckLaws.{bounded}
 use Rattle.grs_wire.specs.declared.deck.Deck.{Deck as DeckValue}
 use Rattle.grs_wire.specs.declared.deck.Event.{Event}
 use Rattle.grs_wire.specs.declared.deck.SystemDef.{SystemDef}
@@ -224,7 +225,7 @@ pub run_due :
     → IsDeck d
     → OfRuns Sound → OfRuns PassedIsTold → ((deck : DeckValue) (es : List Event) → RemovedTellNothing deck es)
     → MergedRuns → MergedRests
-    → ((deck : DeckValue) → IsDeck deck → (es : List Event) → RestsInTheEnd deck es) → RanBeside d m journal vs
+    → ((deck : DeckValue) → IsBounded deck → (es : List Event) → RestsInTheEnd deck es) → RanBeside d m journal vs
     → AllLast d journal → slice ≡ journal → seen.events ≡ (merged_steps slice (logs_of vs)).events
     → seen ≡ seen_of_run d seen.events
     → IfOk r (λ due. due.out ≡ report d seen)
@@ -247,6 +248,6 @@ run_due d m journal slice vs seen (Ok due) whole sound passed silent runs rests 
         silent = silent d seen.events;
       };
       rest = rest;
-      nothing_lost = kept d whole seen.events rest;
+      nothing_lost = kept d (bounded d whole) seen.events rest;
     }
 run_due d m journal slice vs seen (Err e) whole sound passed silent runs rests kept ran last lent made is out status = tt

@@ -118,6 +118,7 @@ fn replayed(alloc: Global, deck: &Deck, events: List<Event>) -> Result<Due, NoMe
 }
 
 /// The report of the run of a deck's events with a system that stops.
+#[tactic(auto, using(grs_wire::proofs::DeckLaws::bounds))]
 fn stop_replayed(alloc: Global, deck: Deck, system: SysId, events: u32) -> Result<Due, NoMemory>
     requires deck { IsDeck deck }
     requires system { system.0 < length deck.systems }
@@ -129,6 +130,7 @@ fn stop_replayed(alloc: Global, deck: Deck, system: SysId, events: u32) -> Resul
 }
 
 /// The report of the run of a deck's systems beside each other, for which it waits.
+#[tactic(auto, using(grs_wire::proofs::DeckLaws::bounds))]
 pub(crate) fn ran<R: Threads + Wait + Sync, G: Gate + Sync>(
     rt: &R,
     alloc: Global,

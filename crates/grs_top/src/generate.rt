@@ -154,7 +154,7 @@ fn ended_of(world: &World<'_>, tasks: &[TaskId]) -> u64
 }
 
 /// What the rounds of a deck come to.
-#[tactic(auto, unfolding(crate::specs::Generated::figures_of))]
+#[tactic(auto, using(grs_wire::proofs::DeckLaws::bounds), unfolding(crate::specs::Generated::figures_of))]
 fn figures_of(alloc: Global, deck: &Deck) -> Result<Figures, NoMemory>
     requires { IsDeck deck.now }
     ensures { IfOk result (λ figures. figures ≡ figures_of deck.now) }

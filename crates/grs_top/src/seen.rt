@@ -28,6 +28,7 @@ pub(crate) struct Run {
 }
 
 /// The run of these events.
+#[tactic(auto, using(grs_wire::proofs::DeckLaws::bounds))]
 pub(crate) fn run_of(alloc: Global, deck: &Deck, events: &[Event]) -> Result<Run, NoMemory>
     requires { IsDeck deck.now }
     ensures hist { IfOk result (λ seen. seen.hist ≡ hist deck.now events.now) }

@@ -101,6 +101,20 @@ pub record IsEventOf (systems : List SystemDef) (entries : ℕ) (e : Event) : Ty
   pub below : e.system.0 < length systems
   pub choice : IsChoiceOf systems entries found e.system e.choice
 
+-- What is asked of a deck that is run: at least one system and at most eight, each with at most 64 commands at its
+-- desk, 64 jobs and 64 tasks; no system that is to remove itself, or one that isn't there; at most 16,384 task lines,
+-- of which at most 256 show something; one of the numbers of entries and of the limits that there may be; and the
+-- three name lists. Names, what stands in a line, and events may be any.
+pub record IsBounded (d : Deck) : Type 0 where
+  pub some : 0 < length d.systems
+  pub fits : Fits d.systems
+  pub orders : AreOrders (length d.systems) 0 d.systems
+  pub few : length (all_lines d.systems) ≤ most_lines
+  pub displays : length (filter is_display (all_lines d.systems)) ≤ most_displays
+  pub entries : is_entries d.entries ≡ true
+  pub limit : is_limit d.limit ≡ true
+  pub lists : AreLists d.lists
+
 -- A deck, in ring mode or in star mode: at least one system and at most eight, each with at most 64 commands at its
 -- desk, 64 jobs and 64 tasks, all with names of their form that are given once; no system that is to remove itself, or
 -- one that isn't there; at most 16,384 task lines, of which at most 256 show something; one of the numbers of entries

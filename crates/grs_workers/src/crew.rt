@@ -2,7 +2,7 @@
 ghost use Rattle.std.specs.Prelude.{◌≡◌, ◌<◌, ◌∷◌, ◌++◌, [], length, map, vec_len, vec_capacity, All, IfOk, OnOk};
 ghost use Rattle.grs_bus.specs.Seats.{AllSeats, AreTheSeats, IsNew};
 ghost use Rattle.grs_medium.specs.Medium.{systems_of};
-ghost use Rattle.grs_wire.specs.Decks.{IsDeck};
+ghost use Rattle.grs_wire.specs.Decks.{IsBounded};
 ghost use Rattle.grs_workers.specs.Stands.{stand, first_stand, IsOn, Agrees};
 
 use crate::lap::Lap;
@@ -32,7 +32,7 @@ fn add_worker<'d>(
     workers: &mut Vec<Worker<'d>>,
     seat: Seat,
 ) -> Result<(), NoMemory>
-    requires deck { IsDeck deck.now }
+    requires deck { IsBounded deck.now }
     requires system { seat.system.0 < length deck.now.systems }
     ensures { OnOk result (map stand workers.new.items ≡ map stand workers.old.items ++ first_stand deck.now seat ∷ []) }
 {
@@ -49,7 +49,7 @@ fn workers_with<'d>(
     deck: &'d Deck,
     seats: List<Seat>,
 ) -> Result<Vec<Worker<'d>>, NoMemory>
-    requires deck { IsDeck deck.now }
+    requires deck { IsBounded deck.now }
     requires systems { All (λ v. v.system.0 < length deck.now.systems) seats }
     ensures { IfOk result (λ ws. map stand ws.items ≡ map (first_stand deck.now) seats) }
 {
@@ -69,7 +69,7 @@ pub fn workers_of<'d>(
     bus: &Bus,
     seats: List<Seat>,
 ) -> Result<Vec<Worker<'d>>, NoMemory>
-    requires deck { IsDeck deck.now }
+    requires deck { IsBounded deck.now }
     requires seats { AreTheSeats bus.now seats }
     requires new { AllSeats IsNew seats }
     requires count { length seats ≡ length deck.now.systems }

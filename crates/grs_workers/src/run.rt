@@ -1,6 +1,6 @@
 //! The systems of a deck beside each other, from their first events until all have come to rest.
 ghost use Rattle.std.specs.Prelude.{◌≡◌, true, map, All, IfOk, OnOk};
-ghost use Rattle.grs_wire.specs.Decks.{IsDeck};
+ghost use Rattle.grs_wire.specs.Decks.{IsBounded};
 ghost use Rattle.grs_workers.specs.Beside.{medium_of, RanBeside, AllLast, AreFirst, IsOver};
 ghost use Rattle.grs_workers.specs.Rounds.{Grew, Each};
 ghost use Rattle.grs_workers.specs.Stands.{stand, IsOn, Agrees};
@@ -37,7 +37,7 @@ pub struct Ran<'d> {
 /// A bus over the medium of a deck, and a worker for each system.
 #[tactic(auto, using(crate::proofs::RanLaws::begins))]
 fn begin<'d>(alloc: Global, deck: &'d Deck) -> Result<(Bus, Vec<Worker<'d>>), NoMemory>
-    requires { IsDeck deck.now }
+    requires { IsBounded deck.now }
     ensures first { IfOk result (λ x. x.0.first ≡ medium_of deck.now) }
     ensures workers { IfOk result (λ x. AreFirst deck.now x.0 x.1.items) }
     ensures on { IfOk result (λ x. All (λ w. IsOn x.0 (stand w)) x.1.items) }
@@ -125,7 +125,7 @@ pub fn run_workers<'d, R: Threads + Wait + Sync, G: Gate + Sync>(
     deck: &'d Deck,
     gate: &G,
 ) -> Result<Ran<'d>, NoMemory>
-    requires { IsDeck deck.now }
+    requires { IsBounded deck.now }
     ensures ran { IfOk result (λ r. RanBeside deck.now r.medium.state r.journal r.nodes) }
     ensures last { IfOk result (λ r. AllLast deck.now r.journal) }
 {

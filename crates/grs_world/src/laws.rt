@@ -1,6 +1,6 @@
 //! The laws of a run: each function's contract is one, and there is nothing to run.
 ghost use Rattle.std.specs.Prelude.{◌≡◌, true, false, length, List};
-ghost use Rattle.grs_wire.specs.Decks.{IsDeck, AreOrders};
+ghost use Rattle.grs_wire.specs.Decks.{IsBounded, AreOrders};
 ghost use Rattle.grs_wire.specs.declared.deck.Deck.{Deck};
 ghost use Rattle.grs_wire.specs.declared.deck.Event.{Event};
 ghost use Rattle.grs_world.specs.Agree.{Sound};
@@ -92,13 +92,13 @@ pub fn passed_is_told()
     ensures { (deck : Deck) → (may_be_star deck ≡ true → FitsStar deck) → AreOrders (length deck.systems) 0 deck.systems → (events : List Event) → PassedIsTold deck events }
 {}
 
-/// Where a run of a deck that can be read ends at rest, in ring mode or in star mode, whichever systems were removed, nothing is
+/// Where a run of a deck within the bounds ends at rest, in ring mode or in star mode, whichever systems were removed, nothing is
 /// lost on the live ones: each of their tasks that owns a resource was told control of it, each of these tasks' ENQs and DEQs
 /// that wasn't answered WAIT has its code line, and each display whose looks all stand its rows; a task of theirs that hasn't
 /// ended is shown to wait and has an element that it doesn't own, for which its last entry waits or the WAIT line at which it
 /// stands; and each of their units is reserved as often as their tasks own a resource on which a RESERVE of the unit queued them.
 pub fn rests_in_the_end()
-    ensures { (deck : Deck) → IsDeck deck → (events : List Event) → RestsInTheEnd deck events }
+    ensures { (deck : Deck) → IsBounded deck → (events : List Event) → RestsInTheEnd deck events }
 {}
 
 /// In every run the removed systems are those of which the history has the removal.

@@ -1,7 +1,7 @@
 //! The events of a run in which a system stops, as it may at any event: what it would have done behind that is left out, and
 //! where another removed it, the message goes one lap more.
 ghost use Rattle.std.specs.Prelude.{◌≡◌, ◌<◌, ◌++◌, IfOk, OnOk};
-ghost use Rattle.grs_wire.specs.Decks.{IsDeck};
+ghost use Rattle.grs_wire.specs.Decks.{IsBounded};
 ghost use Rattle.grs_world.specs.Stopped as definitions;
 ghost use Rattle.grs_world.specs.Stopped.{cut, goes_lap, left_of};
 
@@ -76,7 +76,7 @@ pub fn stopped(
     system: SysId,
     events_made: u32,
 ) -> Result<List<Event>, NoMemory>
-    requires deck { IsDeck deck.now }
+    requires deck { IsBounded deck.now }
     requires system { system.0 < 32 }
     ensures { IfOk result (λ all. all ≡ definitions.stopped deck.now system events_made events.now) }
 {

@@ -2,7 +2,7 @@
 //! is one system's; one of a system that isn't there, or was removed, does nothing.
 ghost use Rattle.std.specs.Prelude.{◌≡◌, ◌<◌, ◌≤◌, ◌+◌, ◌*◌, ◌++◌, ◌∷◌, [], true, length, IfOk, OnOk};
 ghost use Rattle.grs_base.specs.Limits.{last_number, most_systems};
-ghost use Rattle.grs_wire.specs.Decks.{IsDeck};
+ghost use Rattle.grs_wire.specs.Decks.{IsBounded};
 ghost use Rattle.grs_node.specs.Node.{first_node};
 ghost use Rattle.grs_world.specs.World as runs;
 ghost use Rattle.grs_world.specs.World.{run_from};
@@ -64,7 +64,7 @@ fn add_node<'d>(
     nodes: &mut List<Node<'d>>,
     system: SysId,
 ) -> Result<(), NoMemory>
-    requires deck { IsDeck deck.now }
+    requires deck { IsBounded deck.now }
     requires system { system.0 < length deck.now.systems }
     requires nodes { AreOf deck.now nodes.old }
     requires numbers { AreNumbered 0 nodes.old }
@@ -81,7 +81,7 @@ fn add_node<'d>(
 /// The systems of a deck before their first events.
 #[tactic(auto, using(crate::proofs::system::First::first))]
 fn first_nodes<'d>(alloc: Global, deck: &'d Deck) -> Result<Vec<Node<'d>>, NoMemory>
-    requires { IsDeck deck.now }
+    requires { IsBounded deck.now }
     ensures nodes { IfOk result (λ nodes. nodes_of nodes.items ≡ runs.first_nodes deck.now 0 deck.now.systems) }
     ensures deck { IfOk result (λ nodes. AreOf deck.now nodes.items) }
     ensures numbers { IfOk result (λ nodes. AreNumbered 0 nodes.items) }
@@ -143,7 +143,7 @@ impl<'d> World<'d> {
     /// A deck before its first event: nothing is queued and no task has begun.
     #[tactic(auto, using(crate::proofs::system::First::first), unfolding(crate::specs::World::first_world))]
     pub fn new(alloc: Global, deck: &'d Deck) -> Result<World<'d>, NoMemory>
-        requires { IsDeck deck.now }
+        requires { IsBounded deck.now }
         ensures { IfOk result (λ w. w ≡ starting deck.now) }
     {
         let systems = deck.systems.len() as u32;
@@ -336,7 +336,7 @@ impl<'d> World<'d> {
 /// The run of a list of events.
 #[tactic(auto, using(crate::proofs::code::Happens::runs))]
 pub fn replay<'d>(alloc: Global, deck: &'d Deck, events: &[Event]) -> Result<World<'d>, NoMemory>
-    requires { IsDeck deck.now }
+    requires { IsBounded deck.now }
     ensures { IfOk result (λ w. w ≡ ran deck.now events.now) }
 {
     let mut world = World::new(alloc, deck)?;

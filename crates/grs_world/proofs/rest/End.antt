@@ -2,7 +2,7 @@
 use Rattle.std.proofs.Common.{◌≡◌, true, List, Some, ℕ, false}
 use Rattle.std.specs.Prelude.{slice_get}
 use Rattle.grs_node.specs.Node.{NodeState}
-use Rattle.grs_wire.specs.Decks.{IsDeck}
+use Rattle.grs_wire.specs.Decks.{IsBounded}
 use Rattle.grs_wire.specs.declared.deck.Deck.{Deck}
 use Rattle.grs_wire.specs.declared.deck.Event.{Event}
 use Rattle.grs_known.proofs.known.Histories.{IsHistory}
@@ -25,9 +25,9 @@ use Rattle.grs_wire.specs.Masks.{has}
 use Rattle.grs_world.proofs.rest.Homes.{homes_run}
 use Rattle.grs_world.proofs.rest.Passing.{passed-told}
 
-module _ (deck : Deck) (is_deck : IsDeck deck) (es : List Event) (rest : at_rest deck (run deck es) ≡ true) where
+module _ (deck : Deck) (bounds : IsBounded deck) (es : List Event) (rest : at_rest deck (run deck es) ≡ true) where
   fits : may_be_star deck ≡ true → FitsStar deck
-  fits h = record { few = is_deck.fits.few; entries = is_deck.entries }
+  fits h = record { few = bounds.fits.few; entries = bounds.entries }
 
   -- each live system, in either mode
   pub all-still : (s : ℕ) (n : NodeState) → slice_get (run deck es).nodes s ≡ Some n
@@ -37,7 +37,7 @@ module _ (deck : Deck) (is_deck : IsDeck deck) (es : List Event) (rest : at_rest
       go : GoodRun deck es (run deck es) → (s : ℕ) (n : NodeState) → slice_get (run deck es).nodes s ≡ Some n
           → has (run deck es).medium.removed s ≡ false → IsStill deck s (items (run deck es).fixed) n
       go (in_ring begins ring g d) = still-ring deck es (run deck es) ring g (ring_read deck fits es ring.mode) rest
-      go (in_star f g told d) = still-star deck (run deck es) g (restful_run deck is_deck es g.whole.roles.mode) rest
+      go (in_star f g told d) = still-star deck (run deck es) g (restful_run deck bounds es g.whole.roles.mode) rest
 
   pub end-history : IsHistory deck (items (run deck es).fixed)
   end-history = good_history deck es (run deck es) (every_run deck fits es)
@@ -46,27 +46,27 @@ module _ (deck : Deck) (is_deck : IsDeck deck) (es : List Event) (rest : at_rest
   end-told = good_told deck es (run deck es) (every_run deck fits es)
 
   pub owners-at-rest : OwnersAreTold deck es
-  owners-at-rest = owners-told deck es end-history end-told is_deck.orders all-still
+  owners-at-rest = owners-told deck es end-history end-told bounds.orders all-still
 
   pub replies-at-rest : RepliesAreTold deck es
-  replies-at-rest = replies-told deck es end-history end-told is_deck.orders all-still
+  replies-at-rest = replies-told deck es end-history end-told bounds.orders all-still
 
   pub displays-at-rest : DisplaysAreTold deck es
-  displays-at-rest = displays-told deck es end-history end-told is_deck.orders all-still
+  displays-at-rest = displays-told deck es end-history end-told bounds.orders all-still
 
   pub tasks-at-rest : TasksWait deck es
-  tasks-at-rest = tasks-wait deck es end-history end-told is_deck.orders all-still
+  tasks-at-rest = tasks-wait deck es end-history end-told bounds.orders all-still
 
   pub units-at-rest : UnitsAreReserved deck es
   units-at-rest = units-reserved deck es end-history (full_run deck es) (homes_run deck fits es) all-still
 
 -- so nothing is lost
-pub rests : (deck : Deck) → IsDeck deck → (es : List Event) → RestsInTheEnd deck es
-rests deck is_deck es rest = record {
-  passed = passed-told deck (fits deck is_deck es rest) is_deck.orders es;
-  owners = owners-at-rest deck is_deck es rest;
-  replies = replies-at-rest deck is_deck es rest;
-  displays = displays-at-rest deck is_deck es rest;
-  tasks = tasks-at-rest deck is_deck es rest;
-  units = units-at-rest deck is_deck es rest;
+pub rests : (deck : Deck) → IsBounded deck → (es : List Event) → RestsInTheEnd deck es
+rests deck bounds es rest = record {
+  passed = passed-told deck (fits deck bounds es rest) bounds.orders es;
+  owners = owners-at-rest deck bounds es rest;
+  replies = replies-at-rest deck bounds es rest;
+  displays = displays-at-rest deck bounds es rest;
+  tasks = tasks-at-rest deck bounds es rest;
+  units = units-at-rest deck bounds es rest;
 }

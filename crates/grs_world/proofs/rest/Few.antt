@@ -15,7 +15,7 @@ use Rattle.grs_legal.specs.Asks.{lines_of, meaning_of, meanings, scripts_at, scr
 use Rattle.grs_legal.specs.Legal.{LegalFrom, IsLegal, is_of_line, line_entries}
 use Rattle.grs_legal.specs.declared.meaning.Meaning.{Meaning}
 use Rattle.grs_wire.specs.History.{is_by, entries_for, fixed_entries, look_entries}
-use Rattle.grs_wire.specs.Decks.{IsDeck, IsWithin, task_count}
+use Rattle.grs_wire.specs.Decks.{IsBounded, IsWithin, task_count}
 use Rattle.grs_wire.specs.declared.deck.Deck.{Deck}
 use Rattle.grs_wire.specs.declared.deck.JobDef.{JobDef}
 use Rattle.grs_wire.specs.declared.deck.SystemDef.{SystemDef}
@@ -226,7 +226,8 @@ record IsSmall (deck : Deck) (t : TaskId) (ls : List Meaning) : Type 0 where
   task : t.task < 64
   short : length ls ≤ most_lines
 
-small : (deck : Deck) → IsDeck deck → (t : TaskId) (ls : List Meaning) → lines_of deck t ≡ Some ls → IsSmall deck t ls
+small : (deck : Deck) → IsBounded deck → (t : TaskId) (ls : List Meaning) → lines_of deck t ≡ Some ls
+    → IsSmall deck t ls
 small deck h t ls e = by_system (slice_get deck.systems t.system.0) refl
   where
     by_system : (o : Option SystemDef) → slice_get deck.systems t.system.0 ≡ o → IsSmall deck t ls
@@ -275,7 +276,7 @@ length-new : (n : ℕ) → length (new_tasks n) ≡ n
 length-new zero = refl
 length-new (suc n) = ap suc (length-new n)
 
-module _ (deck : Deck) (h : IsDeck deck) (hs : List HistEntry) (legal : LegalFrom deck [] hs) where
+module _ (deck : Deck) (h : IsBounded deck) (hs : List HistEntry) (legal : LegalFrom deck [] hs) where
   abbrev E : List HistEntry
   E = filter is_e hs
 
@@ -383,7 +384,7 @@ enqs-counted F (x ∷ T) made =
     E : List RunItem
     E = filter (λ (z : RunItem). is_enq z.fixed) T
 
-pub ranks-few : (deck : Deck) → IsDeck deck → (T : List RunItem) → IsHistory deck T → enq_count T ≤ last_number
+pub ranks-few : (deck : Deck) → IsBounded deck → (T : List RunItem) → IsHistory deck T → enq_count T ≤ last_number
 ranks-few deck h T right =
     let a = enqs-counted [] T right.made in
     let b = enqs-few deck h (history T) (right.legal h.orders) in

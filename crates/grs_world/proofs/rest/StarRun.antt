@@ -14,7 +14,7 @@ use Rattle.grs_medium.specs.Medium.{inbox}
 use Rattle.grs_node.specs.Node.{NodeState, first_node}
 use Rattle.grs_node.specs.Star.{StarPart, first_part}
 use Rattle.grs_wire.proofs.DeckLaws.{entries_some}
-use Rattle.grs_wire.specs.Decks.{IsDeck}
+use Rattle.grs_wire.specs.Decks.{IsBounded}
 use Rattle.grs_wire.specs.declared.deck.Deck.{Deck}
 use Rattle.grs_wire.specs.declared.deck.Event.{Event}
 use Rattle.task_state.specs.View.{is_sent, state_of}
@@ -47,14 +47,14 @@ module _ (deck : Deck) (some : 0 < deck.entries) (w : World) (g : IsChanging dec
     (inside : c.0 < most_systems) (n : NodeState) (at : slice_get w.nodes c.0 ≡ Some n)
     (alive : has w.medium.removed c.0 ≡ false) where
   pub restful-event : (e : Event) → e.system ≡ c
-      → IsHistory deck (items (w.fixed ++ fixed_by c (chosen deck w.medium c n e.choice).step.fixed)) → IsDeck deck
+      → IsHistory deck (items (w.fixed ++ fixed_by c (chosen deck w.medium c n e.choice).step.fixed)) → IsBounded deck
       → IsRestful deck (placed w c n (chosen deck w.medium c n e.choice))
-  restful-event e by right is_deck = go n.star refl
+  restful-event e by right bounds = go n.star refl
     where
       go : (o : Option StarPart) → n.star ≡ o → IsRestful deck (placed w c n (chosen deck w.medium c n e.choice))
       go (Some p) star =
           restful-star deck w g h c n at alive some inside p star e.choice
-          (ranks-few deck is_deck (items (w.fixed ++ fixed_by c (chosen deck w.medium c n e.choice).step.fixed)) right)
+          (ranks-few deck bounds (items (w.fixed ++ fixed_by c (chosen deck w.medium c n e.choice).step.fixed)) right)
       go None alone =
           restful-late deck w g h c n at alive alone (chosen deck w.medium c n e.choice)
           (came_late deck w g.whole.roles.mode g.closed c n alone alive e.choice)
@@ -169,15 +169,15 @@ first-mode : (deck : Deck) → (first_world deck).medium.star ≡ deck.star
 unfolding first_world
 first-mode deck = refl
 
-pub restful_run : (deck : Deck) → IsDeck deck → (es : List Event) → (run deck es).medium.star ≡ true
+pub restful_run : (deck : Deck) → IsBounded deck → (es : List Event) → (run deck es).medium.star ≡ true
     → IsRestful deck (run deck es)
-restful_run deck is_deck = each_run deck (λ es (w : World). w.medium.star ≡ true → IsRestful deck w) begun step
+restful_run deck bounds = each_run deck (λ es (w : World). w.medium.star ≡ true → IsRestful deck w) begun step
   where
     fits : may_be_star deck ≡ true → FitsStar deck
-    fits h = record { few = is_deck.fits.few; entries = is_deck.entries }
+    fits h = record { few = bounds.fits.few; entries = bounds.entries }
 
     some : 0 < deck.entries
-    some = entries_some deck.entries is_deck.entries
+    some = entries_some deck.entries bounds.entries
 
     begun : (first_world deck).medium.star ≡ true → IsRestful deck (first_world deck)
     begun mode = go (every_run deck fits [])
@@ -206,7 +206,7 @@ restful_run deck is_deck = each_run deck (λ es (w : World). w.medium.star ≡ t
             (subst (λ fs. IsHistory deck (items fs)) (ap (λ (x : World). x.fixed) is
             ∙ fixed-placed (run deck es) e.system n (chosen deck (run deck es).medium e.system n e.choice))
             right)
-            is_deck)
+            bounds)
             refl
         go (in_ring begins ring g d) =
             each_in_ring deck (run deck es) e (λ x. x.medium.star ≡ true → IsRestful deck x) ring
@@ -226,7 +226,7 @@ restful_run deck is_deck = each_run deck (λ es (w : World). w.medium.star ≡ t
             by_came n o at alive (went_on t may) z = ring-mode n _ ring.mode z
             by_came n o at alive (turn flags here) z = ring-mode n _ ring.mode z
             by_came n o at alive (changed next idle) z =
-                restful-begun deck some is_deck.fits.few es (run deck es) ring g (ring_read deck fits es ring.mode)
+                restful-begun deck some bounds.fits.few es (run deck es) ring g (ring_read deck fits es ring.mode)
                 e.system n at alive idle
             by_came n o at alive (informed known) z = ring-mode n _ ring.mode z
             by_came n o at alive (removes_one target next there) z = ring-mode n _ ring.mode z
