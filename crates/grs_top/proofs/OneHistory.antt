@@ -1,12 +1,12 @@
 -- A run that is sound is shown by a report that shows one history.
-use Rattle.std.proofs.Common.{◌≡◌, ◌≤◌, ℕ, ◌+◌, ◌-◌, List, [], ◌∷◌, ◌++◌, length, take, drop, refl, ap, sym, ◌∙◌, subst, arith, inl, inr, get_or}
+use Rattle.std.proofs.Common.{◌≡◌, ◌≤◌, ℕ, zero, suc, ◌+◌, ◌-◌, ◌*◌, List, [], ◌∷◌, ◌++◌, length, take, drop, refl, ap, sym, ◌∙◌, subst, arith, inl, inr, get_or}
 use Rattle.std.proofs.Common.{append-nil, append_assoc, take-append-drop, length-append}
 use Rattle.std.proofs.Math.Seq.{take-append_seam, take-length, drop-length, drop-append_seam}
 use Rattle.std.proofs.lemmas.Bool.{and_parts, and_from, eq-eqb}
 use Rattle.std.proofs.lemmas.List.{take-take, take_more, take_all}
 use Rattle.std.proofs.lemmas.Option.{slice_get_cases}
 use native.Mathlib.Decide.{dec_lt}
-use Rattle.std.specs.Prelude.{◌<◌, ◌==◌, ◌⊎◌, Bool, true, not, Option, Some, None, slice_get}
+use Rattle.std.specs.Prelude.{◌<◌, ◌==◌, ◌⊎◌, Bool, true, false, cond, not, map, Option, Some, None, slice_get}
 use Rattle.std.specs.List.{list_all, list_any}
 use Rattle.grs_base.specs.declared.resource.SysId.{SysId}
 use Rattle.grs_wire.specs.History.{answered, removes}
@@ -17,7 +17,7 @@ use Rattle.grs_wire.specs.declared.told.Told.{Told}
 use Rattle.grs_world.specs.Agree.{Moment, Agrees, moment, AgreeAt, AllAgree, Sound, RemovalsTold, is_event_of}
 use Rattle.grs_world.specs.Removing.{is_by_live, RemovedTellNothing}
 use Rattle.grs_world.specs.World.{World, happens, placed, fixed_by, run_from, run, first_world, told}
-use Rattle.grs_world.specs.Stopped.{stopped}
+use Rattle.grs_world.specs.Stopped.{cut, turn_of, left_behind, next_of, lap_from, live_count, lap, goes_lap, stopped}
 use Rattle.grs_world.proofs.run.Each.{each_event}
 use Rattle.grs_top.specs.Seen.{seen_of_run, report_of}
 use Rattle.grs_top.specs.Due.{IsAnswered}
@@ -190,6 +190,31 @@ reported_shows : (deck : Deck) (es : List Event) (out : List ℕ) (status : Stat
 reported_shows deck es out status r =
     subst (ShowsOneHistory deck es) (sym r.whole) (shows deck es r.sound r.silent)
 
+-- A lap has Turns alone,
+lap_turns : (deck : Deck) (most left : ℕ) (w : World) (at : Option SysId)
+    → (turns : List SysId) × (lap_from deck most left w at ≡ map turn_of turns)
+lap_turns deck zero left w at = ([], refl)
+lap_turns deck (suc most) left w None = ([], refl)
+lap_turns deck (suc most) left w (Some s) =
+    let next = happens deck w (turn_of s) in
+    let after = left_behind deck w s left in
+    let others = lap_turns deck most after next (next_of after next) in
+    (s ∷ others.0, ap (λ es. turn_of s ∷ es) others.1)
+
+-- so behind the events that a system which stops leaves there are Turns alone.
+only_turns : (deck : Deck) (s : SysId) (n : ℕ) (es : List Event)
+    → (turns : List SysId) × (stopped deck s n es ≡ cut s n es ++ map turn_of turns)
+only_turns deck s n es =
+    let left : List Event = cut s n es in
+    let w : World = run deck left in
+    let turns = lap_turns deck (2 * live_count w) (live_count w) w (next_of (live_count w) w) in
+    by left w turns (goes_lap s w)
+  where
+    by : (left : List Event) (w : World) (turns : (ts : List SysId) × (lap deck w ≡ map turn_of ts)) (goes : Bool)
+        → (ts : List SysId) × (left ++ cond goes (lap deck w) [] ≡ left ++ map turn_of ts)
+    by left w turns true = (turns.0, ap (λ fs. left ++ fs) turns.1)
+    by left w turns false = ([], refl)
+
 pub answers_show_histories : AnswersShowHistories
 answers_show_histories Lists text out status a = tt
 answers_show_histories Analyze text out status a = tt
@@ -211,11 +236,11 @@ answers_show_histories Run text out status a = (
   ),
 )
 answers_show_histories (Stop x) text out status a =
-    let es : List Event = stopped (unscheduled a.input) a.is_text.system x.events a.input.events in (
+    let s : SysId = a.is_text.system in
+    let es : List Event = stopped (unscheduled a.input) s x.events a.input.events in
+    let lap = only_turns (unscheduled a.input) s x.events a.input.events in
+    let shown = ((unread a.input es).shows out).0 (reported_shows (unscheduled a.input) es out status a.is_text.reported) in (
       a.input,
       a.spelled.spelled,
-      (
-        es,
-        ((unread a.input es).shows out).0 (reported_shows (unscheduled a.input) es out status a.is_text.reported),
-      ),
+      (s, a.is_text.named, (lap.0, subst (λ (fs : List Event). ShowsOneHistory a.input fs out) lap.1 shown)),
     )

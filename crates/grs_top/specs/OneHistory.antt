@@ -1,11 +1,12 @@
 -- What a report says by itself, of no machine that makes a run: it shows one history, which is legal, and each line that it
 -- tells agrees with that history as it was by the line's event.
-use Rattle.std.specs.Prelude.{◌≡◌, ◌≤◌, ℕ, ◌+◌, ◌-◌, Bool, true, not, List, [], length, take, drop, slice_get}
+use Rattle.std.specs.Prelude.{◌≡◌, ◌≤◌, ℕ, ◌+◌, ◌-◌, Bool, true, not, List, [], ◌++◌, length, map, take, drop, slice_get, Some}
 use Rattle.std.specs.List.{list_all, list_any}
 use Rattle.grs_base.specs.Rows.{rows_of}
 use Rattle.grs_base.specs.declared.resource.SysId.{SysId}
 use Rattle.grs_legal.specs.Legal.{Legal}
 use Rattle.grs_report.specs.Report.{report}
+use Rattle.grs_deck.specs.Places.{system_place}
 use Rattle.grs_deck.specs.Spells.{SpellsDeck}
 use Rattle.grs_wire.specs.History.{replay, answered, removes}
 use Rattle.grs_wire.specs.declared.deck.Deck.{Deck}
@@ -14,6 +15,7 @@ use Rattle.grs_wire.specs.declared.request.Fixed.{Fixed}
 use Rattle.grs_wire.specs.declared.seen.Seen.{Seen}
 use Rattle.grs_wire.specs.declared.told.Told.{Told}
 use Rattle.grs_world.specs.Agree.{Moment, AgreeAt, RemovalsTold, is_event_of, is_of_event}
+use Rattle.grs_world.specs.Stopped.{cut, turn_of}
 use Rattle.grs_top.specs.Due.{IsAnswered}
 use Rattle.grs_top.specs.declared.status.Status.{Status}
 use Rattle.grs_top.specs.declared.words.Command.{Command}
@@ -67,7 +69,8 @@ pub record ShowsOneHistory (deck : Deck) (es : List Event) (text : List ℕ) : T
   pub queues : seen.queues ≡ rows_of (replay deck.limit seen.hist)
 
 -- A text that is answered by the report of a run is answered by one that shows one history of the deck that it spells: by the
--- deck's events, by those that were made, or by those that a system which stops leaves.
+-- deck's events; by those that were made; or by those that are left without what the system which stops would do behind its
+-- first so many, and behind them Turns alone.
 abbrev pub ShowsHistory : Command → List ℕ → List ℕ → Type 0
 ShowsHistory Lists text out = Unit {0}
 ShowsHistory Analyze text out = Unit {0}
@@ -77,7 +80,8 @@ ShowsHistory Replay text out = (deck : Deck) × SpellsDeck text deck × ShowsOne
 ShowsHistory Run text out =
     (deck : Deck) × SpellsDeck text deck × ((es : List Event) × ShowsOneHistory deck es out)
 ShowsHistory (Stop x) text out =
-    (deck : Deck) × SpellsDeck text deck × ((es : List Event) × ShowsOneHistory deck es out)
+    (deck : Deck) × SpellsDeck text deck × ((s : SysId) × (system_place deck.systems x.name ≡ Some s.0)
+    × ((turns : List SysId) × ShowsOneHistory deck (cut s x.events deck.events ++ map turn_of turns) out))
 
 abbrev pub AnswersShowHistories : Type 0
 AnswersShowHistories = (c : Command) (text out : List ℕ) (status : Status) → IsAnswered c text out status

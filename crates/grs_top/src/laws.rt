@@ -39,8 +39,8 @@ pub fn faults_are_failed_calls()
     ensures { FaultsAreFailedCalls }
 {}
 
-/// A text that is answered by the report of a run, by `replay` or by `run`, is answered by one that shows one history of the deck
-/// that it spells: a legal one, with which each line that is told agrees.
+/// A text that is answered by the report of a run, by `replay`, `run` or `stop`, is answered by one that shows one history of the
+/// deck that it spells: a legal one, with which each line that is told agrees.
 pub fn answers_show_histories()
     ensures { AnswersShowHistories }
 {}
