@@ -72,7 +72,7 @@ fn manager_by(
 }
 
 /// Of each lock entry, whether it is one of these.
-#[tactic(auto, using(mode_migrate::proofs::Ranges::ranges))]
+#[tactic(auto, using(lock_structure::proofs::Ranges::ranges))]
 fn flags_of(alloc: Global, among: &List<u32>, entries: u32) -> Result<Vec<bool>, NoMemory>
     ensures { IfOk result (λ flags. flags.items ≡ map (change.is_among among.now) (range_with_len 0 entries)) }
 {

@@ -69,7 +69,7 @@ unfolding submitted
 submit_keeps_manager w c few = manages-to w (manager w) c refl few
 
 -- ---- a manager exactly where somebody has interest
-managed-word : (mask : ℕ) (who : Option SysId) (times : ℕ) → mask < 256 → manager_number who < 16 → ManagedBy who mask
+pub managed-word : (mask : ℕ) (who : Option SysId) (times : ℕ) → mask < 256 → manager_number who < 16 → ManagedBy who mask
     → IsManaged (lock_word mask who times)
 managed-word mask who times small few h =
     subst (λ (o : Option SysId). ManagedBy o (interest (lock_word mask who times)))
@@ -99,7 +99,7 @@ pub submit_keeps_managed : SubmitKeepsManaged
 unfolding submitted
 submit_keeps_managed w c few h = keeps-to w (manager w) c refl few h h
 
-without-managed : (mask : ℕ) (who : Option SysId) (c : SysId) → is_manager who c ≡ false → ManagedBy who mask
+pub without-managed : (mask : ℕ) (who : Option SysId) (c : SysId) → is_manager who c ≡ false → ManagedBy who mask
     → ManagedBy who (without mask c.0)
 without-managed mask None c apart h = ap (λ (m : ℕ). without m c.0) h ∙ without-absent 0 c.0 (has-zero c.0)
 without-managed mask (Some s) c apart h = has-without_other mask c.0 s.0 (other-number s c apart) ∙ h
@@ -135,7 +135,7 @@ and-none : (b : Bool) → false ≡ (b && false)
 and-none true = refl
 and-none false = refl
 
-has-without : (mask k s : ℕ) → has (without mask k) s ≡ (has mask s && not (s == k))
+pub has-without : (mask k s : ℕ) → has (without mask k) s ≡ (has mask s && not (s == k))
 has-without mask k s = go (s == k) refl
   where
     go : (b : Bool) → (s == k) ≡ b → has (without mask k) s ≡ (has mask s && not b)

@@ -1,4 +1,9 @@
+pub mod Ranges
+pub mod LeastLaws
+pub mod MovedLaws
+pub mod Purges
 pub mod Samples
+pub mod PurgeSamples
 pub mod WordLaws
 pub mod LawProofs
 pub mod Others

@@ -22,7 +22,7 @@ same-bit (suc zero) (suc zero) h k e = refl
 same-bit (suc (suc a)) b h k e = absurd (omega arith)
 same-bit a (suc (suc b)) h k e = absurd (omega arith)
 
-same-members : (m n : ℕ) → m < 256 → n < 256 → ((s : ℕ) → s < 8 → has m s ≡ has n s) → m ≡ n
+pub same-members : (m n : ℕ) → m < 256 → n < 256 → ((s : ℕ) → s < 8 → has m s ≡ has n s) → m ≡ n
 unfolding has
 same-members m n h k e =
     same_from_bits_below 8 m n h k

@@ -39,6 +39,16 @@ pub manager_number-lt : (w : ℕ) → manager_number (manager w) < 16
 unfolding manager
 manager_number-lt w = rw (manager_number-numbered (w / 256 % 16)) (omega arith)
 
+pub epoch-lock_word : (mask : ℕ) (who : Option SysId) (times : ℕ) → mask < 256 → manager_number who < 16
+    → epoch (lock_word mask who times) ≡ times
+unfolding lock_word
+epoch-lock_word mask who times small few = omega arith
+
+-- a word is that of its parts
+pub lock_word-parts : (w : ℕ) → lock_word (interest w) (manager w) (epoch w) ≡ w
+unfolding manager lock_word
+lock_word-parts w = rw (manager_number-numbered (w / 256 % 16)) (omega arith)
+
 -- ---- a call leaves words whose managers are systems
 below-lock_word : (systems mask : ℕ) (who : Option SysId) (times : ℕ) → systems ≤ 8 → mask < 256
     → manager_number who ≤ systems → ManagerIsBelow systems (lock_word mask who times)

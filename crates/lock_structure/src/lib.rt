@@ -3,9 +3,12 @@
 #![tactic(auto)]
 
 pub mod laws;
+mod least;
+pub mod purge_laws;
 pub mod threads;
 mod word;
 mod words;
 
+pub use least::or_this;
 pub use word::Route;
 pub use words::Words;

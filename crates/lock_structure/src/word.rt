@@ -1,19 +1,24 @@
 //! One lock word: its parts, and what it becomes. After the lock structure that z/OS MVS Planning: Global Resource
 //! Serialization describes for a star complex; how a word is laid out is this project's own.
-ghost use Rattle.std.specs.Prelude.{◌≡◌, ◌<◌, ◌^◌};
+ghost use Rattle.std.specs.Prelude.{◌≡◌, ◌<◌, ◌^◌, [], ◌∷◌, IfSome, IfNone};
 ghost use Rattle.grs_base.specs.Limits.{most_systems};
 ghost use Rattle.grs_wire.specs.LockWords.{interest, manager, epoch, manager_number, lock_word, is_manager, is_kept, submitted, leave_reply, leave_changes, left_word};
 ghost use Rattle.lock_structure.specs.Words.{route};
+ghost use Rattle.lock_structure.specs.Purge.{next_epoch, purged_word, made_known, moved_at};
 
+use crate::least::least_of;
 use grs_base::SysId;
-use grs_wire::Reply;
 use grs_wire::masks::{has_system, with_system, without_system};
+use grs_wire::{Moved, Reply};
 
 /// So many sets of systems can stand in the lowest bits of a word.
 const SETS: u32 = 256;
 
 /// So many numbers can stand in the bits above: 0 for no manager, else the manager's number plus one.
 const NUMBERS: u32 = 16;
+
+/// The last epoch of a word, which stays: more than there are systems to be removed.
+const LAST_EPOCH: u32 = 15;
 
 /// Where a request goes.
 #[derive(Clone, Copy, Debug, PartialEq, Eq)]
@@ -167,4 +172,56 @@ pub fn left(word: u32, caller: SysId) -> u32
     }
     let mask = without_system(interest(word), caller);
     word_of(mask, manager(word), epoch(word))
+}
+
+/// The epoch that follows, up to the last one.
+fn next_epoch(epoch: u32) -> u32
+    requires { epoch < 2 ^ 20 }
+    ensures next { result ≡ next_epoch epoch }
+    ensures small { result < 2 ^ 20 }
+{
+    if epoch < LAST_EPOCH { epoch + 1 } else { epoch }
+}
+
+/// The word once a system is removed: it has no interest any more, and where it managed the entry, the least of the
+/// others that have interest does.
+#[tactic(auto, using(grs_wire::proofs::MaskLaws::small_sets), unfolding(crate::specs::Purge::purged_word))]
+pub fn purged(word: u32, target: SysId) -> u32
+    requires { target.0 < most_systems }
+    ensures { result ≡ purged_word word target }
+{
+    let mask = without_system(interest(word), target);
+    if is_managed_by(word, target) {
+        return word_of(mask, least_of(mask), next_epoch(epoch(word)));
+    }
+    word_of(mask, manager(word), epoch(word))
+}
+
+/// How an entry with this word is made known, where somebody manages it.
+fn made_known(entry: u32, word: u32) -> Option<Moved>
+    ensures none { IfNone result (made_known entry (manager word) word ≡ []) }
+    ensures some { IfSome result (λ item. made_known entry (manager word) word ≡ item ∷ []) }
+{
+    match manager(word) {
+        None => None,
+        Some(manager) => Some(Moved {
+            entry,
+            manager,
+            mask: interest(word),
+            epoch: epoch(word),
+        }),
+    }
+}
+
+/// What is made known of an entry with this word once a system is removed that managed it.
+pub fn moved(entry: u32, word: u32, target: SysId) -> Option<Moved>
+    requires { target.0 < most_systems }
+    ensures none { IfNone result (moved_at entry word target ≡ []) }
+    ensures some { IfSome result (λ item. moved_at entry word target ≡ item ∷ []) }
+{
+    if is_managed_by(word, target) {
+        made_known(entry, purged(word, target))
+    } else {
+        None
+    }
 }

@@ -1,13 +1,16 @@
 //! The lock words of all entries.
-ghost use Rattle.std.specs.Prelude.{◌≡◌, ◌<◌, length, replicate, slice_set, IfOk};
+ghost use Rattle.std.specs.Prelude.{◌≡◌, ◌<◌, ◌^◌, ◌++◌, length, replicate, slice_set, filter, IfOk, OnOk};
 ghost use Rattle.grs_base.specs.Limits.{most_systems};
 ghost use Rattle.grs_wire.specs.LockWords.{manager, is_manager, leave_reply, leave_changes};
+ghost use Rattle.grs_wire.specs.Masks.{has};
 ghost use Rattle.lock_structure.specs.Words.{word_at, route, submitted_words, left_words};
+ghost use Rattle.lock_structure.specs.Purge.{purged_words, moved_at, moved_for};
 
 use crate::word;
 use crate::word::Route;
 use grs_base::{List, NoMemory, SysId};
-use grs_wire::Reply;
+use grs_wire::masks::has_system;
+use grs_wire::{Moved, Reply};
 use std::alloc::Global;
 use std::marker::Model;
 use std::mem;
@@ -131,5 +134,69 @@ impl Words {
         let before = self.word(entry);
         self.put(entry, word::left(before, caller));
         word::leave_reply(before, caller)
+    }
+
+    /// A system is removed: it loses its interest in all entries. Where it managed one, the least of the others that have
+    /// interest in it does, in the next epoch; where nobody has, it is without a manager.
+    pub fn purge(&mut self, target: SysId)
+        requires { target.0 < most_systems }
+        ensures { self.new ≡ purged_words self.old target }
+    {
+        let mut words = mem::replace(&mut self.words, List::new(self.alloc)).into_vec();
+        purge_all(&mut words, target);
+        self.words = List::from_vec(words);
+    }
+
+    /// What a system gets to know once another one is removed: the entries that this one managed and in which it has
+    /// interest, by number, as they are behind the removal. NoMemory comes where there is none for the list.
+    #[tactic(auto, using(crate::proofs::MovedLaws::moving))]
+    pub fn moved_for(&self, target: SysId, system: SysId) -> Result<List<Moved>, NoMemory>
+        requires target { target.0 < most_systems }
+        requires system { system.0 < most_systems }
+        requires entries { length self.now < 2 ^ 32 }
+        ensures { IfOk result (λ items. items ≡ moved_for self.now target system) }
+    {
+        let mut items = List::new(self.alloc);
+        for entry in 0..self.words.len() {
+            let word = self.words.as_slice()[entry];
+            add_moved(&mut items, entry as u32, word, target, system)?;
+        }
+        Ok(items)
+    }
+}
+
+/// Takes a removed system out of each word.
+#[tactic(auto, using(crate::proofs::MovedLaws::purging))]
+fn purge_all(words: &mut Vec<u32>, target: SysId)
+    requires { target.0 < most_systems }
+    ensures { words.new.items ≡ purged_words words.old.items target }
+{
+    for entry in 0..words.len() {
+        let slot = &mut words[entry];
+        *slot = word::purged(*slot, target);
+    }
+}
+
+/// Puts last what a system gets to know of an entry with this word, where it has interest in it.
+fn add_moved(
+    items: &mut List<Moved>,
+    entry: u32,
+    word: u32,
+    target: SysId,
+    system: SysId,
+) -> Result<(), NoMemory>
+    requires target { target.0 < most_systems }
+    requires system { system.0 < most_systems }
+    ensures { OnOk result (items.new ≡ items.old ++ filter (λ m. has m.mask system.0) (moved_at entry word target)) }
+{
+    match word::moved(entry, word, target) {
+        Some(item) => {
+            if has_system(item.mask, system) {
+                items.push(item)
+            } else {
+                Ok(())
+            }
+        }
+        None => Ok(()),
     }
 }

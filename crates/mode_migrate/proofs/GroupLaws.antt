@@ -14,7 +14,8 @@ use Rattle.grs_base.specs.declared.resource.SysId.{SysId}
 use Rattle.grs_wire.specs.LockWords.{is_manager, lock_word}
 use Rattle.grs_wire.specs.Masks.{with_also}
 use Rattle.lock_structure.specs.Entries.{entry_of_res, is_entry}
-use Rattle.mode_migrate.specs.Migrate.{row_is_of, rows_in, is_by, has_elements, or_this, set_below, least_below}
+use Rattle.lock_structure.specs.Least.{or_this, least_below}
+use Rattle.mode_migrate.specs.Migrate.{row_is_of, rows_in, is_by, has_elements, set_below}
 use Rattle.mode_migrate.specs.Migrate.{interest_by, manager_by, word_by, numbered_from, numbered_in}
 use Rattle.mode_migrate.specs.Groups.{groups_of, group_at, with_row_at, with_row, is_among, interest_of, manager_of}
 use Rattle.mode_migrate.specs.Groups.{word_of}

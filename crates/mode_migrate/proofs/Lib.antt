@@ -1,4 +1,4 @@
-pub mod Ranges
+pub mod SmallRanks
 pub mod Rows
 pub mod PartLaws
 pub mod WordLaws

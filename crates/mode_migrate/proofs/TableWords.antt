@@ -21,13 +21,14 @@ use Rattle.grs_wire.specs.Masks.{has}
 use Rattle.grs_wire.proofs.MaskLaws.{has-zero}
 use Rattle.lock_structure.specs.Entries.{entry_of_res, is_entry}
 use Rattle.lock_structure.specs.Laws.{IsManaged, ManagedBy, is_interested, manager_at}
+use Rattle.lock_structure.specs.Least.{or_this, least_below}
 use Rattle.lock_structure.specs.Words.{word_at}
-use Rattle.mode_migrate.specs.Migrate.{has_elements, interest_by, is_by, least_below, manager_by, or_this, set_below}
+use Rattle.lock_structure.proofs.LeastLaws.{least-passes, none-passes}
+use Rattle.mode_migrate.specs.Migrate.{has_elements, interest_by, is_by, manager_by, set_below}
 use Rattle.mode_migrate.specs.Migrate.{table_words, word_by}
 use Rattle.mode_migrate.specs.Laws.{are_within}
 use Rattle.mode_migrate.proofs.Rows.{rows-pass}
-use Rattle.mode_migrate.proofs.WordLaws.{elements-within, has-past, has-set, interest-word, least-passes, manager-word}
-use Rattle.mode_migrate.proofs.WordLaws.{none-passes, set-none}
+use Rattle.mode_migrate.proofs.WordLaws.{elements-within, has-past, has-set, interest-word, manager-word, set-none}
 
 -- ---- the systems below a number that pass a test
 has-below : (n : ℕ) (test : ℕ → Bool) (s : ℕ) → has (set_below n test) s ≡ (nat_lt s n && test s)

@@ -15,8 +15,10 @@ use Rattle.grs_wire.specs.LockWords.{interest, manager, manager_number, lock_wor
 use Rattle.grs_wire.specs.Masks.{has, with_also, all_others}
 use Rattle.grs_wire.proofs.MaskLaws.{has-zero, has-with_same, has-with_other, with_also-lt}
 use Rattle.lock_structure.specs.Words.{manager_fits, word_fits}
+use Rattle.lock_structure.specs.Least.{least_below}
+use Rattle.lock_structure.proofs.LeastLaws.{least-passes, none-passes, least-none}
 use Rattle.lock_structure.proofs.WordLaws.{interest-lock_word, manager-lock_word}
-use Rattle.mode_migrate.specs.Migrate.{row_is_of, is_by, has_elements, set_below, or_this, least_below, interest_by}
+use Rattle.mode_migrate.specs.Migrate.{row_is_of, is_by, has_elements, set_below, interest_by}
 use Rattle.mode_migrate.specs.Migrate.{manager_by, word_by, table_words}
 use Rattle.mode_migrate.specs.Laws.{are_within}
 use Rattle.mode_migrate.proofs.PartLaws.{both, all-rows, all-list}
@@ -58,56 +60,6 @@ set-small (suc n) test h = go (test n) (set-small n test (omega (arith, h)))
     go : (b : Bool) → set_below n test < 256 → cond b (with_also (set_below n test) n) (set_below n test) < 256
     go true rest = with_also-lt (set_below n test) n rest (omega (arith, h))
     go false rest = rest
-
--- the least passes and is below; where there is none nobody passes
-pub least-passes : (n : ℕ) (test : ℕ → Bool) (s : SysId) → least_below n test ≡ Some s → (s.0 < n) × (test s.0 ≡ true)
-least-passes zero test s h = absurd cc
-least-passes (suc n) test s h = go (least_below n test) refl (test n) refl h (least-passes n test s)
-  where
-    number : ℕ → Option SysId → ℕ
-    number d None = d
-    number d (Some u) = u.0
-
-    go : (o : Option SysId) → least_below n test ≡ o → (b : Bool) → test n ≡ b → or_this o n b ≡ Some s
-        → (least_below n test ≡ Some s → (s.0 < n) × (test s.0 ≡ true)) → (s.0 < suc n) × (test s.0 ≡ true)
-    go (Some u) is b at k rest = let found = rest (is ∙ k) in (omega (arith, found.0), found.1)
-    go None is true at k rest = let e : n ≡ s.0 = ap (number n) k in (omega (arith, e), ap test (sym e) ∙ at)
-    go None is false at k rest = absurd cc
-
-pub none-passes : (n : ℕ) (test : ℕ → Bool) → least_below n test ≡ None → (s : ℕ) → s < n → test s ≡ false
-none-passes zero test h s l = absurd (omega (arith, l))
-none-passes (suc n) test h s l =
-    go (least_below n test) refl (test n) refl h (s == n) refl (λ is. none-passes n test is s)
-  where
-    go : (o : Option SysId) → least_below n test ≡ o → (b : Bool) → test n ≡ b → or_this o n b ≡ None → (c : Bool)
-        → (s == n) ≡ c → (least_below n test ≡ None → s < n → test s ≡ false) → test s ≡ false
-    go (Some u) is b at k c same rest = absurd cc
-    go None is true at k c same rest = absurd cc
-    go None is false at k true same rest = ap test (eqb-true s n same) ∙ at
-    go None is false at k false other rest = rest is (grind (arith, nat_tests, other, l))
-
-pub nobody-below : (n : ℕ) (test : ℕ → Bool) (s : SysId) → least_below n test ≡ Some s → (r : ℕ) → r < s.0
-    → test r ≡ false
-nobody-below zero test s h r l = absurd cc
-nobody-below (suc n) test s h r l =
-    go (least_below n test) refl (test n) h (λ is. nobody-below n test s is r l)
-  where
-    number : ℕ → Option SysId → ℕ
-    number d None = d
-    number d (Some u) = u.0
-
-    go : (o : Option SysId) → least_below n test ≡ o → (b : Bool) → or_this o n b ≡ Some s
-        → (least_below n test ≡ Some s → test r ≡ false) → test r ≡ false
-    go (Some u) is b k rest = rest (is ∙ k)
-    go None is true k rest = let e : n ≡ s.0 = ap (number n) k in none-passes n test is r (omega (arith, e, l))
-    go None is false k rest = absurd cc
-
-least-none : (n : ℕ) (test : ℕ → Bool) → least_below (suc n) test ≡ None → least_below n test ≡ None
-least-none n test = go (least_below n test) refl
-  where
-    go : (o : Option SysId) → least_below n test ≡ o → or_this o n (test n) ≡ None → least_below n test ≡ None
-    go (Some u) is k = absurd cc
-    go None is k = is
 
 pub set-none : (n : ℕ) (test : ℕ → Bool) → least_below n test ≡ None → set_below n test ≡ 0
 set-none zero test h = refl

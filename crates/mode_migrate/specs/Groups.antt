@@ -6,7 +6,8 @@ use Rattle.grs_base.specs.declared.resource.Row.{Row}
 use Rattle.grs_base.specs.declared.resource.SysId.{SysId}
 use Rattle.grs_wire.specs.LockWords.{lock_word}
 use Rattle.lock_structure.specs.Entries.{entry_of_res}
-use Rattle.mode_migrate.specs.Migrate.{rows_in, is_by, set_below, least_below}
+use Rattle.lock_structure.specs.Least.{least_below}
+use Rattle.mode_migrate.specs.Migrate.{rows_in, is_by, set_below}
 
 -- the rows of each of so many entries
 abbrev pub groups_of : ℕ → List Row → List (List Row)

@@ -13,6 +13,7 @@ use Rattle.grs_base.specs.declared.resource.Row.{Row}
 use Rattle.grs_base.specs.declared.resource.SysId.{SysId}
 use Rattle.grs_wire.specs.LockWords.{lock_word, is_manager}
 use Rattle.grs_wire.specs.Masks.{with_also}
+use Rattle.lock_structure.specs.Least.{least_below}
 use Rattle.lock_structure.specs.RankedRows.{RankedRow, IsLoadable}
 use Rattle.lock_structure.specs.Entries.{is_entry, entry_of_res}
 
@@ -40,16 +41,6 @@ has_elements entries e rows s = list_any (λ x. row_is_of entries e x && list_an
 abbrev pub set_below : ℕ → (ℕ → Bool) → ℕ
 set_below zero test = 0
 set_below (suc n) test = cond (test n) (with_also (set_below n test) n) (set_below n test)
-
--- the system that was found, else this one where it passes
-abbrev pub or_this : Option SysId → ℕ → Bool → Option SysId
-or_this (Some s) n passes = Some s
-or_this None n passes = cond passes (Some (record { 0 = n })) None
-
--- the least system below n that passes a test, if there is one
-abbrev pub least_below : ℕ → (ℕ → Bool) → Option SysId
-least_below zero test = None
-least_below (suc n) test = or_this (least_below n test) n (test n)
 
 -- the systems that have interest in an entry: those that have elements there; the least of them manages it
 abbrev pub interest_by : ℕ → ℕ → List Row → ℕ

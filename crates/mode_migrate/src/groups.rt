@@ -31,7 +31,7 @@ pub(crate) fn is_of(row: &Row, entries: u32, entry: u32) -> bool
 }
 
 /// So many entries without rows.
-#[tactic(auto, using(crate::proofs::Ranges::ranges))]
+#[tactic(auto, using(lock_structure::proofs::Ranges::ranges))]
 fn empty_groups(alloc: Global, entries: u32) -> Result<Vec<List<Row>>, NoMemory>
     ensures { IfOk result (λ groups. groups.items ≡ groups_of entries []) }
 {

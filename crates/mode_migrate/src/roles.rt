@@ -26,7 +26,7 @@ pub struct Roles {
 }
 
 /// So many numbers, from this one on.
-#[tactic(auto, using(crate::proofs::Ranges::ranges, crate::proofs::Ranges::small_ranks))]
+#[tactic(auto, using(lock_structure::proofs::Ranges::ranges, crate::proofs::SmallRanks::small_ranks))]
 fn numbers(alloc: Global, first: u64, count: usize) -> Result<List<u64>, NoMemory>
     requires { first + count ≤ last_number + 1 }
     ensures numbers { IfOk result (λ list. list ≡ range_with_len first count) }
@@ -40,7 +40,7 @@ fn numbers(alloc: Global, first: u64, count: usize) -> Result<List<u64>, NoMemor
 }
 
 /// Puts a row with ranks from this number on behind others, and gives the number behind its last.
-#[tactic(auto, using(crate::proofs::Ranges::small_ranks))]
+#[tactic(auto, using(crate::proofs::SmallRanks::small_ranks))]
 fn add_row(
     alloc: Global,
     ranked: &mut List<(Row, List<u64>)>,
@@ -110,7 +110,7 @@ fn push_if(list: &mut List<u32>, entry: u32, passes: bool) -> Result<(), NoMemor
 }
 
 /// The lock entries that a system manages.
-#[tactic(auto, using(crate::proofs::Ranges::ranges))]
+#[tactic(auto, using(lock_structure::proofs::Ranges::ranges))]
 fn managed_entries(
     alloc: Global,
     groups: &Vec<List<Row>>,
@@ -128,7 +128,7 @@ fn managed_entries(
 }
 
 /// The lock entries in which a system has interest.
-#[tactic(auto, using(crate::proofs::Ranges::ranges))]
+#[tactic(auto, using(lock_structure::proofs::Ranges::ranges))]
 fn interesting_entries(
     alloc: Global,
     groups: &Vec<List<Row>>,

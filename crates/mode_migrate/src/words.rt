@@ -4,12 +4,13 @@ ghost use Rattle.std.specs.List.{list_any};
 ghost use Rattle.grs_base.specs.Limits.{most_systems};
 ghost use Rattle.grs_wire.specs.LockWords.{manager_number};
 ghost use Rattle.grs_wire.specs.Masks.{with_also};
-ghost use Rattle.mode_migrate.specs.Migrate.{is_by, or_this, table_words};
+ghost use Rattle.mode_migrate.specs.Migrate.{is_by, table_words};
 ghost use Rattle.mode_migrate.specs.Groups.{is_among, interest_of, manager_of, word_of};
 
 use crate::groups::grouped;
 use grs_base::{List, MOST_SYSTEMS, NoMemory, Queues, Row, SysId};
 use grs_wire::masks::with_system;
+use lock_structure::or_this;
 use queue_table::Table;
 use std::alloc::Global;
 
@@ -45,16 +46,6 @@ fn with_if(set: u32, system: SysId, passes: bool) -> u32
         with_system(set, system)
     } else {
         set
-    }
-}
-
-/// The system that was found, else this one where it passes.
-fn or_this(found: Option<SysId>, system: SysId, passes: bool) -> Option<SysId>
-    ensures { result ≡ or_this found system.0 passes }
-{
-    match found {
-        Some(least) => Some(least),
-        None => { if passes { Some(system) } else { None } }
     }
 }
 

@@ -24,7 +24,8 @@ use Rattle.grs_base.specs.Same.{same_res, same_task}
 use Rattle.grs_base.proofs.SameLaws.{same_res-exact, same_task-exact}
 use Rattle.mode_migrate.specs.Laws.{are_within}
 use Rattle.mode_migrate.proofs.TableWords.{elements-are, table-free, table-interest, table-manager}
-use Rattle.mode_migrate.proofs.WordLaws.{elements-within, least-passes}
+use Rattle.lock_structure.proofs.LeastLaws.{least-passes}
+use Rattle.mode_migrate.proofs.WordLaws.{elements-within}
 use Rattle.mode_migrate.specs.Migrate.{has_elements, manager_by, table_words, is_by}
 use Rattle.mode_migrate.proofs.Rows.{any-list}
 use Rattle.lock_structure.specs.Entries.{entry_of_res, is_entry}

@@ -1,7 +1,7 @@
 use Rattle.std.proofs.Common.{◌≡◌, Some, None}
 use Rattle.grs_base.specs.Limits.{most_systems}
 use Rattle.mode_migrate.specs.Migrate.{has_elements}
-use Rattle.mode_migrate.proofs.WordLaws.{least-passes, nobody-below, none-passes}
+use Rattle.lock_structure.proofs.LeastLaws.{least-passes, nobody-below, none-passes}
 use Rattle.mode_migrate.proofs.laws.least_manages.Goals as goal
 
 pub returns : goal.returns

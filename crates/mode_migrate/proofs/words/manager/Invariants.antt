@@ -1,5 +1,5 @@
 use Rattle.std.proofs.Common.{◌≡◌}
-use Rattle.mode_migrate.specs.Migrate.{least_below}
+use Rattle.lock_structure.specs.Least.{least_below}
 use Rattle.mode_migrate.specs.Groups.{is_among}
 use Rattle.mode_migrate.proofs.words.manager.Given as goal
 
