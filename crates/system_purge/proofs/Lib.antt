@@ -1,1 +1,3 @@
 pub mod Owners
+pub mod Gathers
+pub mod GatherSamples

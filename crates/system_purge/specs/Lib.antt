@@ -1,1 +1,2 @@
 pub mod Purge
+pub mod Gather

@@ -1,8 +1,12 @@
 //! The removal of a system at another one: the elements of its tasks leave every list of a table, and the tasks that got
-//! control by it are told. It knows nothing of who removes whom, nor of how a removal comes to the system.
+//! control by it are told; and where it managed a lock entry, what the others have on record is gathered. It knows nothing
+//! of who removes whom, nor of how a removal comes to the system.
 #![tactic(auto)]
 
 mod freed;
+mod gather;
+pub mod laws;
 mod removal;
 
+pub use gather::{gathered, merge_parts, part_of_entry};
 pub use removal::remove;

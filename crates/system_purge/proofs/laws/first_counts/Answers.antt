@@ -1,0 +1,5 @@
+use Rattle.system_purge.proofs.Gathers.{first_counts}
+use Rattle.system_purge.proofs.laws.first_counts.Goals as goal
+
+pub returns : goal.returns
+returns c = first_counts

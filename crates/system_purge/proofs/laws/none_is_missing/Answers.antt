@@ -1,0 +1,5 @@
+use Rattle.system_purge.proofs.Gathers.{none_is_missing}
+use Rattle.system_purge.proofs.laws.none_is_missing.Goals as goal
+
+pub returns : goal.returns
+returns c = none_is_missing

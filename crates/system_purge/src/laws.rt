@@ -1,0 +1,27 @@
+//! Laws of what is gathered: each function's contract is one, and there is nothing to run.
+ghost use Rattle.system_purge.specs.Gather.{OrderIsOne, CountingAreClear, ClearAllCount, NoneIsMissing, FirstCounts};
+
+/// Records are in order in one way alone.
+pub fn order_is_one()
+    ensures { OrderIsOne }
+{}
+
+/// Of the records that count no two have one rank, or are of one task and resource.
+pub fn counting_are_clear()
+    ensures { CountingAreClear }
+{}
+
+/// Where there are no such two all count.
+pub fn clear_all_count()
+    ensures { ClearAllCount }
+{}
+
+/// Each record that doesn't count clashes with one that does.
+pub fn none_is_missing()
+    ensures { NoneIsMissing }
+{}
+
+/// The first record counts.
+pub fn first_counts()
+    ensures { FirstCounts }
+{}
