@@ -272,7 +272,7 @@ greatest-from : (k : ℕ) (ns : List ℕ) → k ≤ greatest k ns
 greatest-from k [] = omega arith
 greatest-from k (n ∷ ns) = let rest = greatest-from (max k n) ns in omega (arith, rest)
 
-below-greatest : (k top : ℕ) (ns : List ℕ) → greatest k ns < top → list_all (λ n. nat_lt n top) ns ≡ true
+pub below-greatest : (k top : ℕ) (ns : List ℕ) → greatest k ns < top → list_all (λ n. nat_lt n top) ns ≡ true
 below-greatest k top [] h = refl
 below-greatest k top (n ∷ ns) h =
     let from = greatest-from (max k n) ns in

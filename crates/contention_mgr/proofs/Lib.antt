@@ -9,4 +9,6 @@ pub mod ElementLemmas
 pub mod FirstLaws
 pub mod OwnLemmas
 pub mod ManagerLaws
+pub mod InstallLemmas
+pub mod InstallSamples
 pub mod Samples

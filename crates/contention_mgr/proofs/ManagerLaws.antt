@@ -21,7 +21,7 @@ kept-put (x ∷ es) zero o (suc e) m at here there = there at
 kept-put (x ∷ es) (suc i) o zero m at here there = there at
 kept-put (x ∷ es) (suc i) o (suc e) m at here there = kept-put es i o e m at here there
 
-with-well : (v : ManagerView) (i : ℕ) (m : Managed) → AreWellKept v → IsWellKept v.system.0 m
+pub with-well : (v : ManagerView) (i : ℕ) (m : Managed) → AreWellKept v → IsWellKept v.system.0 m
     → AreWellKept (with_entry v (Some i) (Some m))
 with-well v i m all well e n at =
     kept-put v.entries i (Some m) e n at (λ same. let one : m ≡ n = cc in subst (IsWellKept v.system.0) one well)

@@ -6,14 +6,16 @@ ghost use Rattle.grs_base.specs.State.{State as Plain, release_state};
 ghost use Rattle.grs_wire.specs.Wants.{answer_to, after_want, new_owners};
 ghost use Rattle.contention_mgr.specs.Manager.{plain, no_elements, settled, appends, queues as queues_by, rank_given, with_control, taken_out, with_mark, any_untold_in, first_untold, owner_of};
 ghost use Rattle.contention_mgr.specs.Loads.{loaded};
+ghost use Rattle.contention_mgr.specs.Installs.{installed, places_apart, ranks_on};
 ghost use Rattle.lock_structure.specs.RankedRows.{rows_apart, all_apart, ranks_of};
 ghost use Rattle.contention_mgr.specs.Marks.{mark_in, ranked_all, entry_of_parts, is_gone, AreMarked};
 
+use crate::install::{add_lists, add_marks, greatest_of};
 use crate::load::{add_rows, greatest_rank};
 use crate::marks::{Mark, Marks};
 use crate::untold::first_in;
 use grs_base::{Code, Effect, LAST_NUMBER, List, NoMemory, Res, Row, SysId, TaskId};
-use grs_wire::{Answer, Req, Want};
+use grs_wire::{Answer, PartRec, Req, Want};
 use qel_store::LinkedQueues;
 use queue_table::{Outcome, Table};
 use std::alloc::Global;
@@ -216,6 +218,23 @@ impl Entry {
         add_rows(alloc, &mut table, &mut marks, rows)?;
         Ok(Entry {
             next: greatest_rank(rows) + 1,
+            table,
+            marks,
+        })
+    }
+
+    /// An entry of these records, at a manager of this system.
+    pub(crate) fn install(alloc: Global, system: SysId, recs: &[PartRec]) -> Result<Self, NoMemory>
+        requires apart { places_apart recs.now ≡ true }
+        requires small { list_all (λ n. nat_le n last_number) (ranks_on recs.now) ≡ true }
+        ensures { IfOk result (λ entry. entry ≡ installed system.0 recs.now) }
+    {
+        let mut table = Table::new(alloc, LinkedQueues::new(alloc));
+        let mut marks = Marks::new(alloc);
+        add_lists(alloc, &mut table, recs)?;
+        add_marks(alloc, &mut marks, system, &table, recs)?;
+        Ok(Entry {
+            next: greatest_of(recs) + 1,
             table,
             marks,
         })

@@ -4,6 +4,8 @@
 #![tactic(auto)]
 
 mod entry;
+mod install;
+pub mod install_laws;
 pub mod laws;
 mod load;
 mod manager;

@@ -5,12 +5,13 @@ ghost use Rattle.grs_base.specs.Limits.{last_number};
 ghost use Rattle.grs_wire.specs.Wants.{answer_to, new_owners};
 ghost use Rattle.contention_mgr.specs.Loads.{loaded};
 ghost use Rattle.lock_structure.specs.RankedRows.{IsLoadable};
+ghost use Rattle.contention_mgr.specs.Installs.{installed, IsInstallable};
 ghost use Rattle.contention_mgr.specs.Manager.{plain, no_elements, settled, are_of, entry_of_looks, entry_wanted, kept_at, managed_at, managed_of, managed_for, items_of, with_entry, after_request, rank_for, told, after_telling, any_untold_in, any_untold_at, first_untold, owner_of};
 ghost use Rattle.lock_structure.specs.Entries.{entry_of_res};
 
 use crate::entry::Entry;
 use grs_base::{List, NoMemory, Res, Row, SLICES, SysId, TaskId, entry_of, slice_of};
-use grs_wire::{Answer, Req, Want};
+use grs_wire::{Answer, PartRec, Req, Want};
 use queue_table::Outcome;
 use std::alloc::Global;
 use std::marker::Model;
@@ -244,6 +245,21 @@ impl Manager {
         ensures err { OnErr result (self.new ≡ self.old) }
     {
         let kept = Entry::load(self.alloc, ranked.as_slice())?;
+        self.slots[entry as usize] = Some(kept);
+        Ok(())
+    }
+
+    /// Manages an entry that isn't managed, with the elements of these records, which were gathered of the entry: they are in
+    /// the order of their ranks, and no two are of one task and resource. An owner counts as told where its record says so;
+    /// the manager's own system tells its tasks itself. Without memory nothing changes.
+    pub fn install(&mut self, entry: u32, recs: List<PartRec>) -> Result<(), NoMemory>
+        requires below { entry < length self.old.entries }
+        requires free { is_some (managed_at self.old entry) ≡ false }
+        requires recs { IsInstallable (length self.old.entries) entry recs }
+        ensures ok { OnOk result (self.new ≡ with_entry self.old (Some entry) (Some (installed self.old.system.0 recs))) }
+        ensures err { OnErr result (self.new ≡ self.old) }
+    {
+        let kept = Entry::install(self.alloc, self.system, recs.as_slice())?;
         self.slots[entry as usize] = Some(kept);
         Ok(())
     }

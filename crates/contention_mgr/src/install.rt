@@ -1,0 +1,115 @@
+//! An entry made of the records that were gathered of it.
+ghost use Rattle.std.specs.Prelude.{◌≡◌, ◌++◌, ◌∷◌, ◌&&◌, [], true, false, cond, map, Some, OnOk};
+ghost use Rattle.grs_base.specs.Lists.{has_task, owns};
+ghost use Rattle.grs_base.specs.Same.{same_res, same_task};
+ghost use Rattle.grs_base.specs.State.{list_of};
+ghost use Rattle.grs_base.specs.declared.resource.Res.{Res as ResValue};
+ghost use Rattle.grs_base.specs.declared.resource.TaskId.{TaskId as TaskValue};
+ghost use Rattle.grs_wire.specs.declared.request.Answer.TheVariants.{Coded};
+ghost use Rattle.contention_mgr.specs.Installs.{elem_of, lists_of, ranks_on, is_left, kept_of, places_apart};
+ghost use Rattle.contention_mgr.specs.Loads.{greatest};
+ghost use Rattle.contention_mgr.specs.Marks.{mark_in, ranked_all, is_gone, AreMarked};
+
+use crate::marks::{Mark, Marks};
+use grs_base::{Code, NoMemory, Res, Ret, SysId, TaskId};
+use grs_wire::PartRec;
+use qel_store::LinkedQueues;
+use queue_table::Table;
+use std::alloc::Global;
+
+/// Puts the element of a record last in the list of its resource, in which its task has none.
+fn add_elem(alloc: Global, table: &mut Table<LinkedQueues>, rec: &PartRec) -> Result<(), NoMemory>
+    requires { has_task (list_of table.old.elements rec.now.res) rec.now.task ≡ false }
+    ensures { OnOk result (table.new.elements ≡ table.old.elements ++ (rec.now.res, elem_of rec.now) ∷ []) }
+{
+    table.reserve(&rec.res)?;
+    let _ = table.enq_copied(alloc, &rec.res, rec.task, rec.ctl, Ret::RetHave, false)?;
+    Ok(())
+}
+
+/// Puts the elements of records into lists in which nothing stands.
+pub(crate) fn add_lists(
+    alloc: Global,
+    table: &mut Table<LinkedQueues>,
+    recs: &[PartRec],
+) -> Result<(), NoMemory>
+    requires empty { table.old.elements ≡ [] }
+    requires apart { places_apart recs.now ≡ true }
+    ensures { OnOk result (table.new.elements ≡ lists_of recs.now) }
+{
+    for rec in recs {
+        add_elem(alloc, table, rec)?;
+    }
+    Ok(())
+}
+
+/// Whether a code is 00.
+fn is_zero(code: Code) -> bool
+    ensures { result ≡ is_gone (Coded code) }
+{
+    match code {
+        Code::C00 => true,
+        _ => false,
+    }
+}
+
+/// Whether a task owns a resource: only an owner's DEQ is answered 00.
+fn is_owner(table: &Table<LinkedQueues>, res: &Res, task: TaskId) -> bool
+    ensures { result ≡ owns (list_of table.now.elements res.now) task }
+{
+    is_zero(table.decide_deq(res, task, true))
+}
+
+/// Whether the task of a record is still to be told by its manager that it owns by these lists.
+fn is_left(table: &Table<LinkedQueues>, system: SysId, rec: &PartRec) -> bool
+    ensures { result ≡ is_left system.0 table.now.elements rec.now }
+{
+    !rec.told && system.0 != rec.task.system.0 && is_owner(table, &rec.res, rec.task)
+}
+
+/// Gives the element of a record its mark.
+fn add_mark(
+    alloc: Global,
+    marks: &mut Marks,
+    system: SysId,
+    table: &Table<LinkedQueues>,
+    rec: &PartRec,
+) -> Result<(), NoMemory>
+    ensures { OnOk result ((r : ResValue) (t : TaskValue) → mark_in marks.new.names.entries marks.new.marks.entries r t ≡ cond (same_res rec.now.res r && same_task rec.now.task t) (Some (record { rank = rec.now.rank; untold = is_left system.0 table.now.elements rec.now })) (mark_in marks.old.names.entries marks.old.marks.entries r t)) }
+{
+    let mark = Mark {
+        rank: rec.rank,
+        untold: is_left(table, system, rec),
+    };
+    marks.add(alloc, &rec.res, rec.task, mark)
+}
+
+/// Gives the elements of records their marks, where none has any.
+pub(crate) fn add_marks(
+    alloc: Global,
+    marks: &mut Marks,
+    system: SysId,
+    table: &Table<LinkedQueues>,
+    recs: &[PartRec],
+) -> Result<(), NoMemory>
+    requires marked { AreMarked (mark_in marks.old.names.entries marks.old.marks.entries) [] }
+    requires apart { places_apart recs.now ≡ true }
+    ensures items { OnOk result (ranked_all (mark_in marks.new.names.entries marks.new.marks.entries) (lists_of recs.now) ≡ map (kept_of system.0 table.now.elements) recs.now) }
+    ensures marked { OnOk result (AreMarked (mark_in marks.new.names.entries marks.new.marks.entries) (lists_of recs.now)) }
+{
+    for rec in recs {
+        add_mark(alloc, marks, system, table, rec)?;
+    }
+    Ok(())
+}
+
+/// The greatest rank of records, 0 where there is none.
+pub(crate) fn greatest_of(recs: &[PartRec]) -> u64
+    ensures { result ≡ greatest 0 (ranks_on recs.now) }
+{
+    let mut most: u64 = 0;
+    for rec in recs {
+        most = most.max(rec.rank);
+    }
+    most
+}
