@@ -1,5 +1,6 @@
 -- Records that are put into an entry, one after the other; and what the entry is then.
-use Rattle.std.proofs.Common.{◌≡◌, ◌<◌, ◌+◌, ℕ, zero, suc, Bool, true, false, cond, not, ◌&&◌, ◌||◌, List, [], ◌∷◌, ◌++◌}
+use Rattle.std.proofs.Common.{◌≡◌, ◌<◌, ◌+◌, ℕ, zero, suc, Bool, true, false, cond, not, ◌&&◌, ◌||◌, List, [], ◌∷◌}
+use Rattle.std.proofs.Common.{◌++◌}
 use Rattle.std.proofs.Common.{length, map, take, drop, get_or, Some, refl, ap, sym, ◌∙◌, subst, arith}
 use Rattle.std.specs.Prelude.{◌==◌, nat_lt, max}
 use Rattle.std.specs.List.{list_any, list_all}
@@ -108,7 +109,9 @@ KeptFirst f s lists recs i =
 pub marks-next : (f g : Marking) (s : ℕ) (lists : State) (recs : List PartRec) (i : ℕ) (y : PartRec) → i < length recs
     → y ≡ get_or recs i y → places_apart recs ≡ true
     → ((r : Res) (t : TaskId)
-    → g r t ≡ cond (same_res y.res r && same_task y.task t) (Some (record { rank = y.rank; untold = is_left s lists y })) (f r t))
+    → g r t
+    ≡ cond (same_res y.res r && same_task y.task t) (Some (record { rank = y.rank; untold = is_left s lists y }))
+    (f r t))
     → KeptFirst f s lists recs i → KeptFirst g s lists recs (i + 1)
 marks-next f g s lists recs i y inside is apart change so = (
   ap (ranked_all g) (lists-more recs i y inside is)

@@ -23,9 +23,9 @@ rec s n c rank told = record { res = pq; task = (elem s n c).task; ctl = c; rank
 abbrev kept : ℕ → ℕ → Ctl → ℕ → Bool → Ranked
 kept s n c rank untold = record { res = pq; elem = elem s n c; rank = rank; untold = untold }
 
--- The first of three systems managed an entry and is removed; it owned. The third system's task waited at rank 2 and the
--- second system's at rank 3, both exclusive. The second system takes the entry up: the third system's task owns, and is still
--- to be told.
+-- The first of three systems managed an entry and is removed; it owned. The third system's task waited at rank 2 and
+-- the second system's at rank 3, both exclusive. The second system takes the entry up: the third system's task owns,
+-- and is still to be told.
 of_two :
     (installed 1 (rec 2 0 E 2 false ∷ rec 1 0 E 3 false ∷ [])
     ≡ record { next = 4; items = kept 2 0 E 2 true ∷ kept 1 0 E 3 false ∷ [] })
@@ -46,7 +46,8 @@ shared :
       next = 9;
       items = kept 1 0 S 2 false ∷ kept 2 0 S 5 true ∷ kept 1 1 E 7 false ∷ kept 2 1 S 8 false ∷ [];
     })
-    × (list_of (plain (installed 0 (rec 1 0 S 2 true ∷ rec 2 0 S 5 false ∷ [])).items) pq ≡ elem 1 0 S ∷ elem 2 0 S ∷ [])
+    × (list_of (plain (installed 0 (rec 1 0 S 2 true ∷ rec 2 0 S 5 false ∷ [])).items) pq
+    ≡ elem 1 0 S ∷ elem 2 0 S ∷ [])
 shared = (refl, refl)
 
 installable : IsInstallable 1 0 (rec 2 0 E 2 false ∷ rec 1 0 E 3 false ∷ [])

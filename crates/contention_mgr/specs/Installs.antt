@@ -22,8 +22,8 @@ lists_of recs = map (λ y. (y.res, elem_of y)) recs
 abbrev pub ranks_on : List PartRec → List ℕ
 ranks_on recs = map (λ y. y.rank) recs
 
--- whether the task of a record is still to be told by its manager, which is of system s: it owns by the plain lists, is of
--- another system, and wasn't told
+-- whether the task of a record is still to be told by its manager, which is of system s: it owns by the plain lists, is
+-- of another system, and wasn't told
 abbrev pub is_left : ℕ → State → PartRec → Bool
 is_left s lists y = not y.told && not (s == y.task.system.0) && owns (list_of lists y.res) y.task
 

@@ -249,9 +249,9 @@ impl Manager {
         Ok(())
     }
 
-    /// Manages an entry that isn't managed, with the elements of these records, which were gathered of the entry: they are in
-    /// the order of their ranks, and no two are of one task and resource. An owner counts as told where its record says so;
-    /// the manager's own system tells its tasks itself. Without memory nothing changes.
+    /// Manages an entry that isn't managed, with the elements of these records, which were gathered of the entry: they
+    /// are in the order of their ranks, and no two are of one task and resource. An owner counts as told where its
+    /// record says so; the manager's own system tells its tasks itself. Without memory nothing changes.
     pub fn install(&mut self, entry: u32, recs: List<PartRec>) -> Result<(), NoMemory>
         requires below { entry < length self.old.entries }
         requires free { is_some (managed_at self.old entry) ≡ false }

@@ -10,8 +10,8 @@ use Rattle.lock_structure.specs.Words.{submitted_words}
 abbrev sys : ℕ → SysId
 sys n = record { 0 = n }
 
--- Three systems have interest in an entry, and the first manages it: it is removed, and then the second. The third system
--- is left, and it manages the entry in the second epoch.
+-- Three systems have interest in an entry, and the first manages it: it is removed, and then the second. The third
+-- system is left, and it manages the entry in the second epoch.
 abbrev of_three : List ℕ
 of_three = 263 ∷ []
 
@@ -45,8 +45,8 @@ known :
 unfolding has without with_also manager lock_word purged_word
 known = (refl, refl, refl, refl, refl, refl)
 
--- Of four entries the first system manages two, in one of them beside the second and third system, in the other beside the
--- third alone. The second system manages one, and nobody has interest in one.
+-- Of four entries the first system manages two, in one of them beside the second and third system, in the other beside
+-- the third alone. The second system manages one, and nobody has interest in one.
 abbrev of_four : List ℕ
 of_four = 263 ∷ 0 ∷ 514 ∷ 261 ∷ []
 

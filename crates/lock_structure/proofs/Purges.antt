@@ -369,4 +369,5 @@ moved_for_interested words t s e inside =
     filters-commute (λ m. m.entry == e) (λ m. has m.mask s.0) (moved words t)
     ∙ ap (filter (λ (m : Moved). has m.mask s.0)) (moved_once words t e inside)
     ∙ at-for e (word_at words e) t s.0
-    ∙ ap (λ (w : ℕ). cond (has (interest w) s.0) (moved_at e (word_at words e) t) []) (sym (word-purged words t e inside))
+    ∙ ap (λ (w : ℕ). cond (has (interest w) s.0) (moved_at e (word_at words e) t) [])
+    (sym (word-purged words t e inside))

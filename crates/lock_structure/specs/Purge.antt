@@ -37,7 +37,8 @@ abbrev pub moved_at : ℕ → ℕ → SysId → List Moved
 moved_at e w t =
     cond (is_manager (manager w) t) (made_known e (manager (purged_word w t)) (purged_word w t)) []
 
--- the same of all entries, by number, and that part of it which concerns one system: the entries in which it has interest
+-- the same of all entries, by number, and that part of it which concerns one system: the entries in which it has
+-- interest
 abbrev pub moved : List ℕ → SysId → List Moved
 moved words t = flat_map (λ e. moved_at e (word_at words e) t) (range_with_len 0 (length words))
 

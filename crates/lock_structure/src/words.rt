@@ -136,8 +136,8 @@ impl Words {
         word::leave_reply(before, caller)
     }
 
-    /// A system is removed: it loses its interest in all entries. Where it managed one, the least of the others that have
-    /// interest in it does, in the next epoch; where nobody has, it is without a manager.
+    /// A system is removed: it loses its interest in all entries. Where it managed one, the least of the others that
+    /// have interest in it does, in the next epoch; where nobody has, it is without a manager.
     pub fn purge(&mut self, target: SysId)
         requires { target.0 < most_systems }
         ensures { self.new ≡ purged_words self.old target }
