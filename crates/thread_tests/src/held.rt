@@ -1,5 +1,6 @@
-//! That workers run beside each other: one is held ahead of its first call until another, which begins no sooner, has been answered
-//! its second. That comes about only where nobody waits for the one that is held. And that the printed steps are those of the workers.
+//! That workers are there beside each other: one is held ahead of its first call until another, which begins no sooner, has been
+//! answered its second. Whoever waits for the one that is held, but only for a time, passes this too: that is for `three` to refuse. And
+//! that the printed steps are those of the workers.
 use crate::runs::{ran, reaches};
 use crossbeam_utils::atomic::AtomicCell;
 use grs_base::{List, SysId};
@@ -112,7 +113,7 @@ impl Outcome {
 }
 
 #[test]
-fn a_system_that_is_held_holds_nobody(rt: HostRuntime) -> Result<(), Fail> {
+fn a_system_that_is_held_lets_another_go_on(rt: HostRuntime) -> Result<(), Fail> {
     let right = Outcome {
         status: Status::Done,
         passed: true,

@@ -1,4 +1,4 @@
-//! That of three systems any two go on at full speed while the third is held ahead of its first call.
+//! That of three systems any two go on while the third is held ahead of its first call.
 //!
 //! In a star the two mail to and fro, since both ask for one resource again and again: neither gets to as many calls by its own
 //! requests alone. In a ring, where all want the message, they make what needs none.
