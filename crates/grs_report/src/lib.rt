@@ -4,7 +4,6 @@
 
 mod ends;
 mod history;
-mod laws;
 mod schedule;
 mod shelves;
 mod spelled;
@@ -15,5 +14,4 @@ mod whole;
 
 pub use ends::all_ended;
 pub use history::put_entry;
-pub use laws::printed_events;
 pub use whole::report;

@@ -6,6 +6,10 @@ pub mod DueLemmas
 pub mod OfDeck
 pub mod Doers
 pub mod ScheduleTexts
+pub mod WordLines
+pub mod NamedAgain
+pub mod EventsAgain
+mod EventSamples
 pub mod ReadBack
 pub mod Replayed
 pub mod OneHistory

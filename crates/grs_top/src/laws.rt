@@ -1,6 +1,11 @@
 //! The laws of the commands, which follow from what each says of its source and sink, those of systems that ran beside each
 //! other, and that of runs that are made from a number. There is nothing to run.
-ghost use Rattle.std.specs.Prelude.{List};
+ghost use Rattle.std.specs.Prelude.{◌≡◌, All, List};
+ghost use Rattle.std.specs.List.{flat_map};
+ghost use Rattle.grs_deck.specs.EventLines.{SpellsEvents};
+ghost use Rattle.grs_display.specs.Names.{names_of};
+ghost use Rattle.grs_report.specs.Schedule.{event_line};
+ghost use Rattle.grs_wire.specs.Decks.{IsEventOf, IsDeck};
 ghost use Rattle.grs_wire.specs.declared.deck.Deck.{Deck};
 ghost use Rattle.grs_wire.specs.declared.deck.Event.{Event};
 ghost use Rattle.grs_top.specs.Beside.{MergedRuns, MergedRests};
@@ -13,7 +18,6 @@ ghost use Rattle.grs_top.specs.Whole.{WholeUnlessMemory, RefusedUnlessMemory, Fa
 
 use grs_deck::one_deck;
 use grs_gen::laws::are_decks;
-use grs_report::printed_events;
 use grs_world::laws::runs_are_sound;
 use latch_form::one_list_of_calls;
 
@@ -64,6 +68,12 @@ pub fn merged_rests()
 #[tactic(auto, using(crate::proofs::Doers::doers_of_deck))]
 pub fn doers_are_of_deck()
     ensures { DoersAreOfDeck }
+{}
+
+/// The printed lines of events of a deck spell these events, one each, and no others.
+pub fn printed_events()
+    ensures again { (deck : Deck) (es : List Event) → IsDeck deck → All (IsEventOf deck.systems deck.entries) es → SpellsEvents deck.systems deck.entries (flat_map (event_line (names_of deck)) es) es }
+    ensures only { (deck : Deck) (es fs : List Event) → IsDeck deck → All (IsEventOf deck.systems deck.entries) es → SpellsEvents deck.systems deck.entries (flat_map (event_line (names_of deck)) es) fs → es ≡ fs }
 {}
 
 /// A deck's text up to its events, with the printed lines of events of the deck behind it, spells the deck with these events, where it

@@ -1,9 +1,9 @@
 use Rattle.grs_deck.proofs.EventLaws.{one_text}
-use Rattle.grs_report.proofs.EventsAgain.{printed_spell}
+use Rattle.grs_top.proofs.EventsAgain.{printed_spell}
 use Rattle.grs_display.specs.Names.{names_of}
 use Rattle.grs_report.specs.Schedule.{event_line}
 use Rattle.std.specs.List.{flat_map}
-use Rattle.grs_report.proofs.laws.printed_events.Goals as goal
+use Rattle.grs_top.proofs.laws.printed_events.Goals as goal
 
 pub returns-clause-again : goal.returns-clause-again
 returns-clause-again c = printed_spell
