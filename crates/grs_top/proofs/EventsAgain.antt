@@ -39,7 +39,7 @@ use Rattle.grs_deck.specs.Spells.{IsShortAct}
 use Rattle.grs_display.specs.Lines.{line}
 use Rattle.grs_display.specs.Names.{names_of, name_at, name_in, task_in_job}
 use Rattle.grs_report.specs.Schedule.{choice_words, event_line}
-use Rattle.grs_top.proofs.NamedAgain.{IsFound, found, IsTaskFound, task_found}
+use Rattle.grs_audit.proofs.NamedAgain.{IsFound, found, IsTaskFound, task_found}
 use Rattle.grs_top.proofs.WordLines.{Words, is_line_word, are_words, text_of, numbered, words_spell}
 
 -- ---- words

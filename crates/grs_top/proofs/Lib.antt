@@ -7,7 +7,6 @@ pub mod OfDeck
 pub mod Doers
 pub mod ScheduleTexts
 pub mod WordLines
-pub mod NamedAgain
 pub mod EventsAgain
 mod EventSamples
 pub mod ReadBack

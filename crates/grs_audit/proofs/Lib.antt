@@ -1,0 +1,17 @@
+pub mod NamedAgain
+pub mod LineLaws
+pub mod PartLaws
+pub mod HeadLaws
+pub mod HalvesLaws
+pub mod CompareLaws
+pub mod VerdictLaws
+pub mod AskLaws
+pub mod TaskLaws
+pub mod WordLaws
+pub mod WayLaws
+pub mod StepLaws
+pub mod WalkLaws
+pub mod OneVerdict
+pub mod ReportLaws
+pub mod OwnHalves
+pub mod Samples

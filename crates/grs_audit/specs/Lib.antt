@@ -1,0 +1,10 @@
+pub mod Lines
+pub mod Way
+pub mod Words
+pub mod Verdicts
+pub mod Reports
+pub mod Halves
+pub mod Text
+pub mod Compared
+pub mod Steps
+pub mod Found
