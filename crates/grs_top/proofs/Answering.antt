@@ -7,15 +7,19 @@ use Rattle.grs_io.specs.Moved.{TakesFirst}
 use Rattle.grs_wire.specs.declared.deck.Event.{Event}
 use Rattle.grs_wire.specs.declared.deck.Deck.{Deck as DeckValue}
 use Rattle.grs_report.specs.Ends.{all_ended}
+use Rattle.grs_audit.specs.declared.verdict.Verdict.{Verdict}
+use Rattle.grs_audit.specs.declared.verdict.Verdict.TheVariants as verdicts
 use Rattle.grs_top.specs.declared.status.Status.{Status}
 use Rattle.grs_top.specs.declared.status.Status.TheVariants as statuses
 use Rattle.grs_top.specs.declared.words.Command.{Command}
-use Rattle.grs_top.specs.declared.words.Command.TheVariants.{Replay, Run, Lists, Analyze, Notices, Latch, Stop}
+use Rattle.grs_top.specs.declared.words.Command.TheVariants.{Replay, Run, Lists, Analyze, Notices, Latch, Stop, Audit}
 use Rattle.grs_world.specs.Stopped.{stopped}
 use Rattle.grs_top.specs.Seen.{seen_of_run, ending}
-use Rattle.grs_top.specs.Commands.{limit_of, InputOf, SpellsInput, IsTextOf, EndsRun, EndsDone, EndsBy, NamesStatus}
+use Rattle.grs_top.specs.Commands.{limit_of, InputOf, SpellsInput, IsTextOf, EndsRun, EndsDone, EndsJudged, EndsBy}
+use Rattle.grs_top.specs.Commands.{NamesStatus}
 use Rattle.grs_top.specs.Due.{IsAnswered, IsDue}
 use Rattle.grs_top.specs.Schedules.{unscheduled}
+use Rattle.grs_top.specs.Texts.{verdict_status}
 use Rattle.grs_top.specs.Answers.{Streams, TakesAll, ReadsDue, Writes, Answers, Completes}
 
 -- a front that is shorter than was asked for is all
@@ -39,6 +43,10 @@ ending_ends : (d : DeckValue) (es : List Event) (s : Status) → s ≡ ending d 
 unfolding ending
 ending_ends d es s e = ends_run (all_ended (seen_of_run d es).ended) s e
 
+judged_ends : (v : Verdict) → EndsJudged (verdict_status v)
+judged_ends verdicts.Yes = tt
+judged_ends (verdicts.No l) = tt
+
 -- what a command writes tells how it ends
 ends_by : (c : Command) (x : InputOf c) (out : List ℕ) (s : Status) → IsTextOf c x out s → EndsBy c s
 ends_by Replay d out s is = ending_ends (unscheduled d) d.events s is.ends
@@ -49,6 +57,7 @@ ends_by Notices d out s is = ending_ends (unscheduled d) d.events s is.ends
 ends_by Latch calls out s is = subst (EndsBy Latch) (sym is.1) tt
 ends_by (Stop x) d out s is =
     ending_ends (unscheduled d) (stopped (unscheduled d) is.system x.events d.events) s is.reported.ends
+ends_by Audit x out s is = subst (EndsBy Audit) (sym is.ends) (judged_ends is.verdict)
 
 -- what is spelled is short
 short_input : (c : Command) (text : List ℕ) (x : InputOf c) → SpellsInput c text x → length text ≤ limit_of c
@@ -59,35 +68,66 @@ short_input Analyze text d spelled = spelled.short
 short_input Notices text d spelled = spelled.short
 short_input Latch text calls spelled = spelled.short
 short_input (Stop x) text d spelled = spelled.spelled.short
+short_input Audit text x spelled = spelled.short
 
-done_ends : (s : Status) → EndsDone s → EndsRun s
-done_ends statuses.Done end = tt
-done_ends statuses.Waits end = tt
-done_ends statuses.Deck end = end
-done_ends statuses.Words end = end
-done_ends statuses.ReadFault end = end
-done_ends statuses.WriteFault end = end
-done_ends statuses.NoMemory end = end
+-- a status by which a command ends that has written all
+abbrev IsEnd : Status → Type 0
+IsEnd statuses.Done = Unit {0}
+IsEnd statuses.Waits = Unit {0}
+IsEnd statuses.Bad = Unit {0}
+IsEnd _ = ⊥
+
+run_end : (s : Status) → EndsRun s → IsEnd s
+run_end statuses.Done end = tt
+run_end statuses.Waits end = tt
+run_end statuses.Deck end = end
+run_end statuses.Words end = end
+run_end statuses.ReadFault end = end
+run_end statuses.WriteFault end = end
+run_end statuses.NoMemory end = end
+run_end statuses.Bad end = absurd end
+
+done_end : (s : Status) → EndsDone s → IsEnd s
+done_end statuses.Done end = tt
+done_end statuses.Waits end = absurd end
+done_end statuses.Deck end = end
+done_end statuses.Words end = end
+done_end statuses.ReadFault end = end
+done_end statuses.WriteFault end = end
+done_end statuses.NoMemory end = end
+done_end statuses.Bad end = absurd end
+
+judged_end : (s : Status) → EndsJudged s → IsEnd s
+judged_end statuses.Done end = tt
+judged_end statuses.Waits end = absurd end
+judged_end statuses.Deck end = end
+judged_end statuses.Words end = end
+judged_end statuses.ReadFault end = end
+judged_end statuses.WriteFault end = end
+judged_end statuses.NoMemory end = end
+judged_end statuses.Bad end = tt
 
 -- no other status says of any command that it has written all
-ends_either : (c : Command) (s : Status) → EndsBy c s → EndsRun s
-ends_either Replay s end = end
-ends_either Run s end = end
-ends_either Lists s end = done_ends s end
-ends_either Analyze s end = end
-ends_either Notices s end = end
-ends_either Latch s end = done_ends s end
-ends_either (Stop x) s end = end
+is_end : (c : Command) (s : Status) → EndsBy c s → IsEnd s
+is_end Replay s end = run_end s end
+is_end Run s end = run_end s end
+is_end Lists s end = done_end s end
+is_end Analyze s end = run_end s end
+is_end Notices s end = run_end s end
+is_end Latch s end = done_end s end
+is_end (Stop x) s end = run_end s end
+is_end Audit s end = judged_end s end
 
 completes_answers : (c : Command) (old new : Streams) (s : Status) → EndsBy c s → Completes c old new s
     → Answers c old new s
 completes_answers c old new statuses.Done end done = done
 completes_answers c old new statuses.Waits end done = done
-completes_answers c old new statuses.Deck end done = absurd (ends_either c statuses.Deck end)
-completes_answers c old new statuses.Words end done = absurd (ends_either c statuses.Words end)
-completes_answers c old new statuses.ReadFault end done = absurd (ends_either c statuses.ReadFault end)
-completes_answers c old new statuses.WriteFault end done = absurd (ends_either c statuses.WriteFault end)
-completes_answers c old new statuses.NoMemory end done = absurd (ends_either c statuses.NoMemory end)
+completes_answers c old new statuses.Deck end done = absurd (is_end c statuses.Deck end)
+completes_answers c old new statuses.Words end done = absurd (is_end c statuses.Words end)
+completes_answers c old new statuses.ReadFault end done = absurd (is_end c statuses.ReadFault end)
+completes_answers c old new statuses.WriteFault end done = absurd (is_end c statuses.WriteFault end)
+completes_answers c old new statuses.NoMemory end done = absurd (is_end c statuses.NoMemory end)
+completes_answers c old new statuses.Bad end done = done
 
 completes_whole : (c : Command) (old new : Streams) (text out : List ℕ) (s : Status)
     → TakesFirst (limit_of c + 1) old.left new.left text → IsAnswered c text out s
@@ -156,3 +196,5 @@ names c old new statuses.Words done = done
 names c old new statuses.ReadFault done = tt
 names c old new statuses.WriteFault done = tt
 names c old new statuses.NoMemory done = tt
+names c old new statuses.Bad done =
+    ends_by c done.answered.input done.out statuses.Bad done.answered.is_text

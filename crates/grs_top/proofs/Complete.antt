@@ -12,6 +12,7 @@ use Rattle.grs_wire.specs.declared.deck.Deck.{Deck as DeckValue}
 use Rattle.deck_scan.specs.Reading.{most_text_bytes, byte_fault}
 use Rattle.grs_deck.specs.Faults.{IsFault, IsFaultless, FaultOfLines}
 use Rattle.grs_deck.specs.Spells.{SpellsDeck}
+use Rattle.grs_audit.specs.Halves.{most_audited_bytes, deck_part, Audited, SpellsAudited, IsFaultOfAudited}
 use Rattle.grs_latch.specs.declared.call.LatchCall.{LatchCall}
 use Rattle.latch_form.specs.Faults.{IsFault as IsFaultOfCalls, IsFaultless as IsFaultlessOfCalls}
 use Rattle.latch_form.specs.Faults.{FaultOfLines as FaultOfCallLines}
@@ -21,7 +22,7 @@ use Rattle.grs_io.specs.Moved.{TakesFirst}
 use Rattle.grs_top.specs.declared.status.Status.{Status}
 use Rattle.grs_top.specs.declared.status.Status.TheVariants as statuses
 use Rattle.grs_top.specs.declared.words.Command.{Command}
-use Rattle.grs_top.specs.declared.words.Command.TheVariants.{Replay, Run, Lists, Analyze, Notices, Latch, Stop}
+use Rattle.grs_top.specs.declared.words.Command.TheVariants.{Replay, Run, Lists, Analyze, Notices, Latch, Stop, Audit}
 use Rattle.grs_top.specs.Commands.{limit_of, InputOf, SpellsInput, IsFaultOf, IsTextOf}
 use Rattle.grs_deck.specs.Places.{system_place}
 use Rattle.grs_top.specs.Due.{fault_line}
@@ -82,6 +83,20 @@ deck_front = front_of FaultOfLines (λ text f lines. lines.allowed)
 calls_front : (text : List ℕ) (f : DeckFault) → IsFaultOfCalls text f
     → IsFaultOfCalls (take (most_text_bytes + 1) text) f
 calls_front = front_of FaultOfCallLines (λ text f lines. lines.allowed)
+
+-- ---- texts of a deck and a report
+no_fault_of_long : (n : ℕ) → most_audited_bytes < n → n ≤ most_audited_bytes → ⊥
+no_fault_of_long n long short = absurd (omega (arith, long, short))
+
+audited_front : (text : List ℕ) (f : DeckFault) → IsFaultOfAudited text f
+    → IsFaultOfAudited (take (most_audited_bytes + 1) text) f
+audited_front text f (inl long) =
+    let whole : length (take (most_audited_bytes + 1) text) ≡ most_audited_bytes + 1 =
+    length-take-le (most_audited_bytes + 1) text (let l = long.0 in omega (arith, l)) in
+    inl (omega (arith, whole), long.1)
+audited_front text f (inr short) =
+    subst (λ t. IsFaultOfAudited t f)
+    (sym (take_all (most_audited_bytes + 1) text (let s = short.0 in omega (arith, s)))) (inr short)
 
 -- ---- what is read of a source that tells its bytes
 not_risen : (old new : ℕ) → new ≡ old → old < last_count → HasRisen old new → ⊥
@@ -146,6 +161,7 @@ module _ (c : Command) (reads : IsRead c) where
       absurd (not_risen old.failed_writes new.failed_writes none.failed_writes none.failed_writes_below
       done.failed_writes)
   whole_of x old new statuses.NoMemory done tells none = inr refl
+  whole_of x old new statuses.Bad done tells none = inl (completed x old new statuses.Bad tells done)
 
   refused_of : (f : DeckFault) (old new : Streams) (s : Status) → Answers c old new s → TellsFault c old.left f
       → HasNoFault old new
@@ -167,6 +183,7 @@ module _ (c : Command) (reads : IsRead c) where
       absurd (not_risen old.failed_writes new.failed_writes none.failed_writes none.failed_writes_below
       done.failed_writes)
   refused_of f old new statuses.NoMemory done tells none = inr refl
+  refused_of f old new statuses.Bad done tells none = absurd (not_complete f old new statuses.Bad tells done)
 
 -- ---- the commands
 module _
@@ -226,6 +243,32 @@ module _
       fronts text f (inr a) =
           subst (λ (t : List ℕ). IsFaultFor x t f) (sym (front_whole text a.0 a.1)) (inr a)
 
+  one_audited : (text : List ℕ) (x y : Audited) → SpellsAudited text x → SpellsAudited text y → x ≡ y
+  one_audited text x y s t =
+      ap (λ d. record { deck = d; report = x.report; first = x.first })
+      (one (deck_part text) x.deck y.deck s.deck t.deck)
+      ∙ ap (λ r. record { deck = y.deck; report = r; first = x.first }) (s.report ∙ sym t.report)
+      ∙ ap (λ n. record { deck = y.deck; report = y.report; first = n }) (s.first ∙ sym t.first)
+
+  one_fault_of_audited : (text : List ℕ) (f g : DeckFault) → IsFaultOfAudited text f → IsFaultOfAudited text g → f ≡ g
+  one_fault_of_audited text f g (inl a) (inl b) = a.1 ∙ sym b.1
+  one_fault_of_audited text f g (inl a) (inr b) = absurd (no_fault_of_long (length text) a.0 b.0)
+  one_fault_of_audited text f g (inr a) (inl b) = absurd (no_fault_of_long (length text) b.0 a.0)
+  one_fault_of_audited text f g (inr a) (inr b) = one_fault (deck_part text) f g a.1 b.1
+
+  spelled_audited : (text : List ℕ) (x : Audited) → SpellsAudited text x → (f : DeckFault) → IsFaultOfAudited text f → ⊥
+  spelled_audited text x s f (inl a) = no_fault_of_long (length text) a.0 s.short
+  spelled_audited text x s f (inr a) = spelled (deck_part text) x.deck s.deck f a.1
+
+  audited : IsReader Audited SpellsAudited IsFaultOfAudited most_audited_bytes
+  audited = record {
+    one = one_audited;
+    one_fault = one_fault_of_audited;
+    faultless = spelled_audited;
+    short = λ text x s. s.short;
+    front = audited_front;
+  }
+
   reads : (c : Command) → IsRead c
   reads Replay = decks
   reads Run = decks
@@ -234,6 +277,7 @@ module _
   reads Notices = decks
   reads Latch = calls
   reads (Stop x) = stopping x
+  reads Audit = audited
 
   pub whole : WholeUnlessMemory
   whole c = whole_of c (reads c)

@@ -31,6 +31,7 @@ line_whole n old new f g statuses.Words done same below = absurd done
 line_whole n old new f g statuses.ReadFault done same below = absurd done
 line_whole n old new f g statuses.WriteFault done same below = absurd (not_risen f g same below done.failed)
 line_whole n old new f g statuses.NoMemory done same below = inr refl
+line_whole n old new f g statuses.Bad done same below = absurd done
 
 -- ---- the rounds
 

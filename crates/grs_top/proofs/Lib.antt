@@ -12,6 +12,8 @@ mod EventSamples
 pub mod ReadBack
 pub mod Replayed
 pub mod OneHistory
+mod StoppedOf
+mod OwnReports
 pub mod OneItem
 mod Samples
 mod StarSamples

@@ -26,7 +26,7 @@ use Rattle.grs_top.specs.Schedules.{unscheduled}
 use Rattle.grs_top.specs.Texts.{IsReported}
 use Rattle.grs_top.specs.OneHistory.{moment_in, is_of_its_event, is_of_live, ShowsOneHistory, AnswersShowHistories}
 use Rattle.grs_top.specs.declared.status.Status.{Status}
-use Rattle.grs_top.specs.declared.words.Command.TheVariants.{Replay, Run, Lists, Analyze, Notices, Latch, Stop}
+use Rattle.grs_top.specs.declared.words.Command.TheVariants.{Replay, Run, Lists, Analyze, Notices, Latch, Stop, Audit}
 
 -- What was fixed stays fixed; behind an event it is more, by the event's system,
 more_fixed : (deck : Deck) (w : World) (e : Event)
@@ -215,31 +215,30 @@ only_turns deck s n es =
     by left w turns true = (turns.0, ap (λ fs. left ++ fs) turns.1)
     by left w turns false = ([], refl)
 
+-- A deck without its schedule shows what the deck does.
+pub report_shows : (deck : Deck) (es : List Event) (out : List ℕ) (status : Status)
+    → IsReported (unscheduled deck) es out status → ShowsOneHistory deck es out
+report_shows deck es out status r =
+    ((unread deck es).shows out).0 (reported_shows (unscheduled deck) es out status r)
+
 pub answers_show_histories : AnswersShowHistories
 answers_show_histories Lists text out status a = tt
 answers_show_histories Analyze text out status a = tt
 answers_show_histories Notices text out status a = tt
 answers_show_histories Latch text out status a = tt
-answers_show_histories Replay text out status a = (
-  a.input,
-  a.spelled,
-  ((unread a.input a.input.events).shows out).0
-      (reported_shows (unscheduled a.input) a.input.events out status a.is_text),
-)
+answers_show_histories Audit text out status a = tt
+answers_show_histories Replay text out status a =
+    (a.input, a.spelled, report_shows a.input a.input.events out status a.is_text)
 answers_show_histories Run text out status a = (
   a.input,
   a.spelled,
-  (
-    a.is_text.events,
-    ((unread a.input a.is_text.events).shows out).0
-        (reported_shows (unscheduled a.input) a.is_text.events out status a.is_text.reported),
-  ),
+  (a.is_text.events, report_shows a.input a.is_text.events out status a.is_text.reported),
 )
 answers_show_histories (Stop x) text out status a =
     let s : SysId = a.is_text.system in
     let es : List Event = stopped (unscheduled a.input) s x.events a.input.events in
     let lap = only_turns (unscheduled a.input) s x.events a.input.events in
-    let shown = ((unread a.input es).shows out).0 (reported_shows (unscheduled a.input) es out status a.is_text.reported) in (
+    let shown = report_shows a.input es out status a.is_text.reported in (
       a.input,
       a.spelled.spelled,
       (s, a.is_text.named, (lap.0, subst (λ (fs : List Event). ShowsOneHistory a.input fs out) lap.1 shown)),

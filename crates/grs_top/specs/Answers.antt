@@ -43,7 +43,7 @@ Writes old new failed_writes failed_writes' out status result =
     (Appends old new out × (failed_writes' ≡ failed_writes) × (result ≡ status))
     ⊎ (AppendsPart old new out × HasRisen failed_writes failed_writes' × (result ≡ statuses.WriteFault))
 
--- Done and Waits: the source was read to its end, no read or write failed, and what the command writes for
+-- Done, Waits and Bad: the source was read to its end, no read or write failed, and what the command writes for
 -- what the text spells is written whole.
 pub record Completes (c : Command) (old new : Streams) (status : Status) : Type 0 where
   pub text : List ℕ
@@ -98,3 +98,4 @@ Answers c old new statuses.Words = ⊥
 Answers c old new statuses.ReadFault = FailsToRead old new
 Answers c old new statuses.WriteFault = FailsToWrite c old new
 Answers c old new statuses.NoMemory = WantsMemory old new
+Answers c old new statuses.Bad = Completes c old new statuses.Bad

@@ -19,7 +19,8 @@ use Rattle.grs_world.specs.Running.{at_rest, task_end}
 use Rattle.grs_world.specs.World.{World, first_world, run_from, run}
 use Rattle.grs_top.specs.declared.generate.Figures.{Figures}
 use Rattle.grs_top.specs.declared.status.Status.{Status}
-use Rattle.grs_top.specs.declared.status.Status.TheVariants.{Done, Waits, Deck, Words, ReadFault, WriteFault, NoMemory}
+use Rattle.grs_top.specs.declared.status.Status.TheVariants.{Done, Waits, Deck, Words, ReadFault, WriteFault}
+use Rattle.grs_top.specs.declared.status.Status.TheVariants.{NoMemory, Bad}
 
 -- rounds of events, at most
 abbrev pub most_rounds : ℕ
@@ -126,6 +127,7 @@ AnswersGen n old new failed_writes failed_writes' Words = ⊥
 AnswersGen n old new failed_writes failed_writes' ReadFault = ⊥
 AnswersGen n old new failed_writes failed_writes' WriteFault = FailsLine n old new failed_writes failed_writes'
 AnswersGen n old new failed_writes failed_writes' NoMemory = WritesNothing old new failed_writes failed_writes'
+AnswersGen n old new failed_writes failed_writes' Bad = ⊥
 
 -- No write fails, and the count of those that did isn't at its last value, where it can't rise: then the whole line is
 -- written, and the status says how the run ends, unless memory is wanted.

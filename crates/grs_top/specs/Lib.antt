@@ -13,6 +13,7 @@ pub mod Due
 pub mod Replayed
 pub mod OneHistory
 pub mod Unread
+pub mod OwnReports
 pub mod Answers
 pub mod Generated
 pub mod Forms

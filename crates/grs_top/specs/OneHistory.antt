@@ -19,7 +19,7 @@ use Rattle.grs_world.specs.Stopped.{cut, turn_of}
 use Rattle.grs_top.specs.Due.{IsAnswered}
 use Rattle.grs_top.specs.declared.status.Status.{Status}
 use Rattle.grs_top.specs.declared.words.Command.{Command}
-use Rattle.grs_top.specs.declared.words.Command.TheVariants.{Replay, Run, Lists, Analyze, Notices, Latch, Stop}
+use Rattle.grs_top.specs.declared.words.Command.TheVariants.{Replay, Run, Lists, Analyze, Notices, Latch, Stop, Audit}
 
 -- What one event fixed, where so many things were fixed by the first events.
 abbrev pub fixed_by_event : List (SysId × Fixed) → (ℕ → ℕ) → ℕ → List (SysId × Fixed)
@@ -76,6 +76,7 @@ ShowsHistory Lists text out = Unit {0}
 ShowsHistory Analyze text out = Unit {0}
 ShowsHistory Notices text out = Unit {0}
 ShowsHistory Latch text out = Unit {0}
+ShowsHistory Audit text out = Unit {0}
 ShowsHistory Replay text out = (deck : Deck) × SpellsDeck text deck × ShowsOneHistory deck deck.events out
 ShowsHistory Run text out =
     (deck : Deck) × SpellsDeck text deck × ((es : List Event) × ShowsOneHistory deck es out)

@@ -1,4 +1,4 @@
--- What is written of a deck, or of calls of latches, and the status where all of it is.
+-- What is written of a deck, of calls of latches, or of the report behind a deck, and the status where all of it is.
 use Rattle.std.specs.Prelude.{◌≡◌, ℕ, true, List}
 use Rattle.grs_base.specs.Rows.{rows_of}
 use Rattle.grs_wire.specs.History.{replay}
@@ -13,10 +13,15 @@ use Rattle.grs_world.specs.World.{first_world, run, hist}
 use Rattle.grs_analyze.specs.Text.{analysis_text}
 use Rattle.grs_enf.specs.Notices.{notices}
 use Rattle.grs_enf.specs.Text.{notices_text}
+use Rattle.grs_audit.specs.Halves.{Audited}
+use Rattle.grs_audit.specs.Text.{verdict_text}
+use Rattle.grs_audit.specs.Verdicts.{IsVerdict}
+use Rattle.grs_audit.specs.declared.verdict.Verdict.{Verdict}
+use Rattle.grs_audit.specs.declared.verdict.Verdict.TheVariants.{Yes, No}
 use Rattle.grs_latch.specs.declared.call.LatchCall.{LatchCall}
 use Rattle.latch_text.specs.Text.{latch_text}
 use Rattle.grs_top.specs.declared.status.Status.{Status}
-use Rattle.grs_top.specs.declared.status.Status.TheVariants.{Done}
+use Rattle.grs_top.specs.declared.status.Status.TheVariants.{Done, Bad}
 use Rattle.grs_top.specs.Beside.{AllDo}
 use Rattle.grs_top.specs.Lists.{lists_text}
 use Rattle.grs_top.specs.Seen.{report_of, ending}
@@ -60,3 +65,15 @@ AreAnswered calls out status = (out ≡ latch_text calls) × (status ≡ Done)
 -- The deck's name lists are written, and there is nothing to wait for.
 abbrev pub IsListed : DeckValue → List ℕ → Status → Type 0
 IsListed deck out status = (out ≡ lists_text deck) × (status ≡ Done)
+
+-- how a verdict ends
+abbrev pub verdict_status : Verdict → Status
+verdict_status Yes = Done
+verdict_status (No l) = Bad
+
+-- The verdict on a report is written, and the status says which it is.
+pub record IsJudged (x : Audited) (out : List ℕ) (status : Status) : Type 0 where
+  pub verdict : Verdict
+  pub is : IsVerdict x.deck x.report x.first verdict
+  pub whole : out ≡ verdict_text verdict
+  pub ends : status ≡ verdict_status verdict

@@ -10,7 +10,7 @@ use Rattle.grs_top.specs.StopWords.{stop_of}
 use Rattle.grs_top.specs.declared.words.Form.{Form}
 use Rattle.grs_top.specs.declared.words.Form.TheVariants.{OfText, Generate}
 use Rattle.grs_top.specs.declared.words.Command.{Command}
-use Rattle.grs_top.specs.declared.words.Command.TheVariants.{Replay, Run, Lists, Analyze, Notices, Latch, Stop}
+use Rattle.grs_top.specs.declared.words.Command.TheVariants.{Replay, Run, Lists, Analyze, Notices, Latch, Stop, Audit}
 
 -- the command of a word
 abbrev pub command_named : List ℕ → Option Command
@@ -20,7 +20,8 @@ command_named word =
     else (if bytes_eq word (codes "lists") then Some Lists
     else (if bytes_eq word (codes "analyze") then Some Analyze
     else (if bytes_eq word (codes "notices") then Some Notices
-    else (if bytes_eq word (codes "latch") then Some Latch else None)))))
+    else (if bytes_eq word (codes "latch") then Some Latch
+    else (if bytes_eq word (codes "audit") then Some Audit else None))))))
 
 -- a number of which a deck can be made: 1 to 64
 abbrev pub size_in : ℕ → Option ℕ

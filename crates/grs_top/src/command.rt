@@ -10,13 +10,14 @@ ghost use Rattle.grs_top.specs.Words.{form_of};
 
 use super::Status;
 use super::due::{
-    Due, due_by_analyze, due_by_latch, due_by_lists, due_by_notices, due_by_replay, due_by_run,
-    due_by_stop,
+    Due, due_by_analyze, due_by_audit, due_by_latch, due_by_lists, due_by_notices, due_by_replay,
+    due_by_run, due_by_stop,
 };
 use super::generate::gen_command;
 use super::stop::Stop;
 use super::words::{Command, Form, form_of};
 use deck_scan::MOST_TEXT_BYTES;
+use grs_audit::MOST_AUDITED_BYTES;
 use grs_base::NoMemory;
 use grs_io::{ReadFailure, Sink, Source, read_all, write_all};
 use grs_workers::Gate;
@@ -37,6 +38,7 @@ fn limit_of(command: Command) -> usize
         | Command::Notices
         | Command::Latch
         | Command::Stop(_) => MOST_TEXT_BYTES,
+        Command::Audit => MOST_AUDITED_BYTES,
     }
 }
 
@@ -259,6 +261,30 @@ pub fn stop_command<S: Source, K: Sink>(
     )
 }
 
+/// Reads a deck and a report behind it from a source, and writes to a sink whether the report's history is one of the deck, whoever
+/// wrote it: a legal one, each entry as it is printed, with as many entries as its first line says, and TOLD behind them. What stands
+/// before that first line and behind TOLD isn't judged. The report begins with the first line that is exactly `GRS REPORT 1`. It reads
+/// and writes as `replay_command` does, up to one byte more than a deck and a report may have together.
+///
+/// `Done` says that the history can stand and the line that says so was written, and `Bad` that a line of the report can't, or is missing,
+/// and the line with its number was written; `Deck` that the line of the first fault of the deck, or of a text that is too long, was written
+/// in its place. The other statuses say what they say there; `Waits` never comes.
+pub fn audit_command<S: Source, K: Sink>(alloc: Global, source: &mut S, sink: &mut K) -> Status
+    ensures answer { Answers Command.Audit
+        (streams (S.left source.old) (K.written sink.old) (S.faults source.old) (K.faults sink.old))
+        (streams (S.left source.new) (K.written sink.new) (S.faults source.new) (K.faults sink.new))
+        result }
+    ensures named { NamesStatus Command.Audit result }
+{
+    answer(
+        alloc,
+        Command::Audit,
+        source,
+        sink,
+        &|text| due_by_audit(alloc, text),
+    )
+}
+
 /// Does what a command asks for. Only `run` waits, and looks at the gate.
 fn of_text<R: Threads + Wait + Sync, S: Source, K: Sink, G: Gate + Sync>(
     rt: &R,
@@ -282,6 +308,7 @@ fn of_text<R: Threads + Wait + Sync, S: Source, K: Sink, G: Gate + Sync>(
         Command::Notices => notices_command(alloc, source, sink),
         Command::Latch => latch_command(alloc, source, sink),
         Command::Stop(stop) => stop_command(alloc, stop, source, sink),
+        Command::Audit => audit_command(alloc, source, sink),
     }
 }
 

@@ -1,7 +1,8 @@
 //! What a text is answered by: what the command writes for the deck that it spells, or the line of its first
 //! fault. The answer is built whole before any of it is written.
-ghost use Rattle.std.specs.Prelude.{◌≡◌, ◌<◌, [], length, IfOk, if◌then◌else◌};
+ghost use Rattle.std.specs.Prelude.{◌≡◌, ◌≤◌, ◌<◌, ◌+◌, [], length, IfOk, if◌then◌else◌};
 ghost use Rattle.grs_analyze.specs.Text.{analysis_text};
+ghost use Rattle.grs_audit.specs.Lines.{lines_in, most_lines};
 ghost use Rattle.grs_enf.specs.Notices.{notices};
 ghost use Rattle.grs_enf.specs.Text.{notices_text};
 ghost use Rattle.grs_latch.specs.Calls.{AllCome};
@@ -11,7 +12,7 @@ ghost use Rattle.grs_wire.specs.Decks.{IsDeck};
 ghost use Rattle.grs_world.specs.Stopped.{stopped as events_left};
 ghost use Rattle.grs_top.specs.Due.{fault_line, IsDue};
 ghost use Rattle.grs_top.specs.Schedules.{unscheduled};
-ghost use Rattle.grs_top.specs.Texts.{IsReported, IsRunToRest, IsAnalyzed, AreNoticed, AreAnswered, IsListed};
+ghost use Rattle.grs_top.specs.Texts.{IsReported, IsRunToRest, IsAnalyzed, AreNoticed, AreAnswered, IsListed, IsJudged, verdict_status};
 
 use super::Status;
 use super::beside::seen_of;
@@ -23,6 +24,7 @@ use super::stop::{Stop, system_place};
 use super::words::Command;
 use grs_analyze::analysis_text;
 use grs_analyze::laws::lists_are_apart;
+use grs_audit::{MOST_AUDITED_BYTES, Verdict, audit, halves_of, verdict_text};
 use grs_base::{DeckFault, Kind, List, NoMemory, ReadError, SysId, TaskId};
 use grs_deck::read_deck;
 use grs_enf::notices_text;
@@ -56,6 +58,16 @@ fn ending(done: bool) -> Status
     ensures { result ≡ (if done then Status.Done else Status.Waits) }
 {
     if done { Status::Done } else { Status::Waits }
+}
+
+/// How a verdict ends.
+fn verdict_status(verdict: Verdict) -> Status
+    ensures { result ≡ verdict_status verdict }
+{
+    match verdict {
+        Verdict::Yes => Status::Done,
+        Verdict::No { .. } => Status::Bad,
+    }
 }
 
 /// A text of a run, with how the run ends by the end of each task.
@@ -297,6 +309,39 @@ pub(crate) fn due_by_stop(alloc: Global, stop: Stop, text: &[u8]) -> Result<Due,
             Some(system) => stop_replayed(alloc, deck, SysId(system as u8), stop.events()),
             None => refused(alloc, ReadError::Fault(NO_SUCH_SYSTEM)),
         },
+        Err(error) => refused(alloc, error),
+    }
+}
+
+/// The verdict on a report of a deck, whose first line has this number.
+fn judged(alloc: Global, deck: &Deck, report: &[u8], first: u32) -> Result<Due, NoMemory>
+    requires deck { IsDeck deck.now }
+    requires few { first + length (lines_in report.now) ≤ most_lines }
+    ensures { IfOk result (λ due. IsJudged (record { deck = deck.now; report = report.now; first = first }) due.out due.status) }
+{
+    let verdict = audit(alloc, deck, report, first)?;
+    Ok(Due {
+        out: verdict_text(alloc, verdict)?,
+        status: verdict_status(verdict),
+    })
+}
+
+/// What a text is answered by under `audit`.
+pub(crate) fn due_by_audit(alloc: Global, text: &[u8]) -> Result<Due, NoMemory>
+    ensures { IfOk result (λ due. IsDue Command.Audit text.now due.out due.status) }
+{
+    if text.len() > MOST_AUDITED_BYTES {
+        return refused(
+            alloc,
+            ReadError::Fault(DeckFault {
+                line: 0,
+                kind: Kind::TooLong,
+            }),
+        );
+    }
+    let halves = halves_of(text);
+    match read_deck(alloc, halves.deck) {
+        Ok(deck) => judged(alloc, &deck, halves.report, halves.first),
         Err(error) => refused(alloc, error),
     }
 }

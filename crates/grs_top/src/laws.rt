@@ -11,11 +11,13 @@ ghost use Rattle.grs_wire.specs.declared.deck.Event.{Event};
 ghost use Rattle.grs_top.specs.Beside.{MergedRuns, MergedRests};
 ghost use Rattle.grs_top.specs.Generated.{LineUnlessMemory, GeneratedRuns};
 ghost use Rattle.grs_top.specs.OneHistory.{AnswersShowHistories};
+ghost use Rattle.grs_top.specs.OwnReports.{OwnReportsAreYes};
 ghost use Rattle.grs_top.specs.Replayed.{RunsAreReplayed};
 ghost use Rattle.grs_top.specs.Schedules.{DoersAreOfDeck, SchedulesReadBack};
 ghost use Rattle.grs_top.specs.Unread.{ScheduleIsUnread};
 ghost use Rattle.grs_top.specs.Whole.{WholeUnlessMemory, RefusedUnlessMemory, FaultsAreFailedCalls};
 
+use grs_audit::reports_are_yes;
 use grs_deck::one_deck;
 use grs_gen::laws::are_decks;
 use grs_world::laws::runs_are_sound;
@@ -91,6 +93,16 @@ pub fn schedules_read_back()
 pub fn schedules_are_unread()
     ensures { (deck : Deck) → (events : List Event) → ScheduleIsUnread deck events }
 {}
+
+/// A deck's text whose last line has its end, and which has no line that begins a report, with what `replay`, `run` or `stop`
+/// wrote for it behind it, is answered Yes by `audit`, where both aren't too long together.
+pub fn own_reports_are_yes()
+    ensures { OwnReportsAreYes }
+{
+    one_deck();
+    doers_are_of_deck();
+    reports_are_yes();
+}
 
 /// What `run` wrote for a deck has the schedule of its run, and `replay` of the deck with these lines in place of its own schedule
 /// writes the same bytes and ends by the same status, where that text isn't too long.

@@ -17,8 +17,8 @@ mod words;
 
 pub use beside::seen_of;
 pub use command::{
-    analyze_command, grs, latch_command, lists_command, notices_command, replay_command,
-    run_command, stop_command,
+    analyze_command, audit_command, grs, latch_command, lists_command, notices_command,
+    replay_command, run_command, stop_command,
 };
 pub use generate::gen_command;
 pub use seen::seen_by_replay;

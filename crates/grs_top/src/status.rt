@@ -5,7 +5,7 @@ ghost use Rattle.std.specs.Prelude.{◌≡◌};
 #[derive(Clone, Copy, Debug, PartialEq, Eq)]
 pub enum Status {
     /// The whole report, or the line of a number, was written, and each task ended or was removed with its
-    /// system; or the name lists were written.
+    /// system; or the name lists were written, what latches were answered, or that a report can stand.
     Done,
     /// The whole report, or the line of a number, was written, and some task of a live system hasn't
     /// ended.
@@ -20,6 +20,8 @@ pub enum Status {
     WriteFault,
     /// Memory was wanted and not given. Nothing was written.
     NoMemory,
+    /// The report behind a deck has a line that can't stand, or lacks one, and the line that says which was written.
+    Bad,
 }
 
 impl Status {
@@ -37,6 +39,7 @@ impl Status {
             Status::ReadFault => 16,
             Status::WriteFault => 20,
             Status::NoMemory => 24,
+            Status::Bad => 28,
         }
     }
 }

@@ -25,6 +25,8 @@ pub enum Command {
     Latch,
     /// Runs the schedule of a deck with a system that stops, and reports the run.
     Stop(Stop),
+    /// Judges the report behind a deck.
+    Audit,
 }
 
 /// What the words after the program's name ask for.
@@ -52,6 +54,8 @@ fn command_named(word: &[u8]) -> Option<Command>
         Some(Command::Notices)
     } else if word == b"latch".as_slice() {
         Some(Command::Latch)
+    } else if word == b"audit".as_slice() {
+        Some(Command::Audit)
     } else {
         None
     }
