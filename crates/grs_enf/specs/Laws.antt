@@ -17,7 +17,7 @@ use Rattle.grs_enf.specs.Notices.{is_contended, resources_of, notices, told_noti
 abbrev pub CodesTellNotices : Type 0
 CodesTellNotices = (deck : Deck) (hist : List HistEntry) → Legal deck hist → told_notices hist ≡ notices deck.limit hist
 
--- An entry changes no list but those of the resources at which is looked, so no change goes unnoticed.
+-- An entry changes no list but those of the resources at which is looked, so no other list needs to be looked at.
 abbrev pub OthersStay : Type 0
 OthersStay =
     (limit : ℕ) (s : State) (h : HistEntry) (r : Res) → list_any (same_res r) (resources_of s h) ≡ false

@@ -12,7 +12,7 @@ pub fn notices_alternate()
     ensures { NoticesAlternate }
 {}
 
-/// An entry changes no list but those of the resources of which notices may come, so no change goes unnoticed.
+/// An entry changes no list but those of the resources at which is looked, so no other list needs to be looked at.
 pub fn others_stay()
     ensures { OthersStay }
 {}
