@@ -183,7 +183,7 @@ class Walk:
             for gone in left if form.how == "ONE" else ["RET", "ECB"] if word in ("RET", "ECB") else [word]:
                 left = {choice: items for choice, items in left.items() if choice != gone}
         if self.rest:
-            raise Wrong(self.rest[0], "", "", self.met)
+            raise Wrong(self.rest[0], "", "", self.met, self.rest[1:])
         for word in self.needed(form, left):
             raise Wrong(None, word, word, self.met)
 
