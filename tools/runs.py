@@ -219,13 +219,16 @@ class Node:
 
     # events: each answers why it had nothing to do, or None
 
+    def learns(self):
+        """What the system is only told in place of its next event, or None."""
+        gone = [self.run.name(it) for it in sorted(set(self.medium.removed) - self.knows)]
+        return "%s only learns that %s was removed" % (self.name, " and ".join(gone)) if gone else None
+
     def stale(self):
         """In place of what it was to do a system is only told who was removed."""
-        if self.knows == set(self.medium.removed):
-            return None
-        gone = [self.run.name(it) for it in sorted(set(self.medium.removed) - self.knows)]
+        learns = self.learns()
         self.knows = set(self.medium.removed)
-        return "by it %s only learns that %s was removed; its next event goes on" % (self.name, " and ".join(gone))
+        return learns and "by it %s; its next event goes on" % learns
 
     def task(self, place):
         state, lines = self.tasks[place], self.deck.systems[self.number].tasks[place].lines
@@ -774,13 +777,19 @@ class Says:
                 tells = untold[:untold.index((task, resource)) + 1]
                 mails = sum(it[0] == node.number for it, _ in tells)
                 return "it is told so by %s" % self.recipe((manager, "TELL %d" % entry, len(tells)), (node, "TAKE", len(mail) + mails))
-        return "%s is told when the message comes by: %s TURN" % (node.name, node.name)
+        return "%s is told when the message comes by: %s" % (node.name, self.turns(node))
 
     def recipe(self, *events):
         """Events that bring something home, each as often as what stands in front of it makes needed."""
         said = ["%s %s" % (node.name, what) + " (%d times)" % times * (times > 1) for node, what, times in events if times]
         late = sorted({node.name for node, _, _ in events if not node.is_star})
         return "once %s changed to star mode, " % " and ".join(late) * bool(late) + ", ".join(said)
+
+    def turns(self, node, times=1):
+        """So many turns of a system in ring mode, and one more where by the first it only learns something."""
+        learns = node.learns()
+        why = ", by the first of which %s" % learns if learns else ""
+        return "%s TURN" % node.name + " (%d times%s)" % (times + bool(learns), why) * (times + bool(learns) > 1)
 
     def request(self, state, task):
         return "its RELEASE of %s" % resource_text(self.run, state.asked.resource) if state.asked.verb == "RELEASE" else (
@@ -793,11 +802,10 @@ class Says:
         if not node.is_star:
             at = "the message is at %s" % self.run.name(self.run.medium.at)
             if state.phase == TO_SEND and self.run.medium.closed:
-                return "%s waits for a SEND, behind the %s TURN by which %s changes to star mode; %s" % (asked, name, name, at)
+                return "%s waits for a SEND, behind the %s by which %s changes to star mode; %s" % (asked, self.turns(node), name, at)
             if state.phase == TO_SEND:
-                turns = node.outbox.index(state.asked) // TURN_TAKES + 1
-                return "%s waits for a %s TURN%s; %s" % (asked, name, " (%d times)" % turns * (turns > 1), at)
-            return "%s goes round with the message, and is answered at %s TURN once it is back; %s" % (asked, name, at)
+                return "%s waits for a %s; %s" % (asked, self.turns(node, node.outbox.index(state.asked) // TURN_TAKES + 1), at)
+            return "%s goes round with the message, and is answered at %s once it is back; %s" % (asked, self.turns(node), at)
         if state.phase == TO_SEND:
             return "%s waits for %s SEND %s" % (asked, name, self.run.task_name(task).partition(".")[2])
         inbox = self.run.medium.inbox
