@@ -596,20 +596,24 @@ def row_text(run, letter, row):
     return " ".join([letter, resource_text(run, resource), *elements])
 
 
+def entry_lines(run, number, asked, place, answer):
+    by = "H %d %s" % (number, run.name(asked.task[0]) if asked.verb == "REMOVE" else run.task_name(asked.task))
+    if asked.verb == "REMOVE":
+        yield "%s REMOVE %s" % (by, run.name(asked.target))
+    elif asked.verb == "LOOK":
+        yield "%s LOOK %s %s %d" % (by, place if isinstance(place, int) else "LOCAL", asked.wanted, len(answer))
+        yield from (row_text(run, "R", row) for row in answer)
+    elif asked.verb == "ENQ":
+        yield "%s ENQ %s %s %s %s" % (by, resource_text(run, asked.resource), asked.control, asked.ret, answer)
+    elif asked.verb == "DEQ":
+        yield "%s DEQ %s %s %s" % (by, resource_text(run, asked.resource), asked.ret, answer)
+    else:
+        yield "%s RELEASE %s" % (by, resource_text(run, asked.resource))
+
+
 def history_lines(run):
-    for number, (_, asked, place, answer) in enumerate(run.history, 1):
-        by = "H %d %s" % (number, run.name(asked.task[0]) if asked.verb == "REMOVE" else run.task_name(asked.task))
-        if asked.verb == "REMOVE":
-            yield "%s REMOVE %s" % (by, run.name(asked.target))
-        elif asked.verb == "LOOK":
-            yield "%s LOOK %s %s %d" % (by, place if isinstance(place, int) else "LOCAL", asked.wanted, len(answer))
-            yield from (row_text(run, "R", row) for row in answer)
-        elif asked.verb == "ENQ":
-            yield "%s ENQ %s %s %s %s" % (by, resource_text(run, asked.resource), asked.control, asked.ret, answer)
-        elif asked.verb == "DEQ":
-            yield "%s DEQ %s %s %s" % (by, resource_text(run, asked.resource), asked.ret, answer)
-        else:
-            yield "%s RELEASE %s" % (by, resource_text(run, asked.resource))
+    for number, (_, *entry) in enumerate(run.history, 1):
+        yield from entry_lines(run, number, *entry)
 
 
 def told_line(run, event, kind, of):
