@@ -1,6 +1,6 @@
 // Runs the script of pages of ./grs-picture without a browser, over a document that keeps what is written into it, and answers what stands there.
-// It reads from standard input {script, pages: [data of a page], used: {title, data, script}}, and writes {pages: [{states, table, sum, widths,
-// dark}], used: what the other script, which uses the page, has looked at}. Each letter is 7 points wide here.
+// It reads from standard input {script, pages: [data of a page], used: {title, data, script}}, and writes {pages: [{states, table, wrong, verdict,
+// sum, widths, dark}], used: what the other script, which uses the page, has looked at}. Each letter is 7 points wide here.
 "use strict";
 const vm = require("vm");
 
@@ -68,7 +68,9 @@ function looked(script, data) {
   const widths = [360, 1300].map(at), ink = of("colours.ink");
   dark.matches = true;
   dark.heard.change();
-  return { states, table, sum: document.getElementById("sum").textContent, widths, dark: [ink, of("colours.ink"), at(700).texts.map(it => it.colour)] };
+  // what is marked as what can't stand, in both views
+  const wrong = ["ofTasks()", "ofLists()"].map(it => of(it).rows.flatMap(row => row.boxes.filter(box => box[2] === "wrong").map(box => [row.full, box[0], box[1], box[5]])));
+  return { states, table, wrong, verdict: document.getElementById("verdict").textContent, sum: document.getElementById("sum").textContent, widths, dark: [ink, of("colours.ink"), at(700).texts.map(it => it.colour)] };
 }
 
 const { script, pages, used } = JSON.parse(require("fs").readFileSync(0, "utf8"));

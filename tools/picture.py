@@ -5,7 +5,8 @@
 
 The report is read from the file, else from standard input. With the deck beside it nothing in the picture is a guess. A TEXT is what
 ./grs analyze or ./grs notices wrote of the same run: the cycle is shown that the one tells, in place of a deadlock that is found here, and
-the notices of the other stand as marks under the list of each resource.
+the notices of the other stand as marks under the list of each resource. Or it is what ./grs audit wrote of the report behind the deck: where
+that can't stand, the page says so, and marks the request of its first line that can't. Such a report is drawn without a model of the run.
 
 The page stands alone: what it shows is in it, and it asks no network. Its first view has a lane for each task, with the events
 from left to right; its second the list of each resource, with the places in the history from left to right. A panel says who owns
@@ -60,6 +61,7 @@ TEMPLATE = HERE / "picture.html"
 HISTORY = re.compile(r"H (?P<n>\d+) (?P<by>\S+) (?:ENQ (?P<enq>.*) (?P<control>[ES]) (?P<ret>\w+) (?P<answer>\w+)"
                      r"|DEQ (?P<deq>.*) (?:NONE|HAVE) (?P<answered>\w+)|RELEASE (?P<release>.*)|LOOK (?P<look>.*)|REMOVE (?P<remove>\S+))")
 QUEUE = re.compile(r"Q (?P<name>.*?\)) (?P<elements>[^ ()']+:[ES]\*?(?: [^ ()']+:[ES]\*?)*)")
+AUDIT = re.compile(r"AUDIT (?:YES|NO LINE (\d{1,10}))\n?")
 NOTICE = re.compile(r"N (\d+) (BEGIN|CHANGE|END) (.*\)) (\d+) (\d+)")
 TOLD = re.compile(r"T (?P<k>\d+|END) (?P<what>.*?) ?@(?P<event>\d+)")
 
@@ -627,6 +629,21 @@ def beside(run, texts):
     return found, notices
 
 
+def judged(verdict, report, deck):
+    """What ./grs audit wrote of a report behind its deck: nothing where it can stand; else the line that can't, by its number from the deck's
+    first line on and from the report's, its text, and of which entry of the history it is, where it is of one."""
+    line, lines, front = int(AUDIT.fullmatch(verdict)[1] or 0), report.split("\n"), len(deck.removesuffix("\n").split("\n"))
+    lines = lines[:-1] if lines[-1] == "" else lines
+    if not line:
+        return {"line": None, "entry": None}
+    if not front < line <= front + len(lines) + 1:
+        raise NoReport("a verdict beside the report isn't what ./grs audit writes of this deck and this report")
+    place = line - front
+    text = "".join(lines[place - 1:place])
+    entry = sum(it.startswith("H ") for it in lines[:place]) if text.startswith(("H ", "R ")) and "TOLD" not in lines[:place] else None
+    return {"line": line, "ofReport": place, "text": text, "entry": entry}
+
+
 def is_of(run, notice):
     """Whether a notice is by an entry of the history that may change the list of its resource."""
     number = int(notice[1])
@@ -656,6 +673,21 @@ def commanded(run, what, event):
 
 def picture(report, deck=None, texts=()):
     """What the page shows of a report; by its deck and by texts beside it, where these are given too."""
+    verdicts, texts = [it for it in texts if AUDIT.fullmatch(it)], [it for it in texts if not AUDIT.fullmatch(it)]
+    if verdicts and (deck is None or len(set(verdicts)) > 1):
+        raise NoReport("one verdict of ./grs audit can stand beside a report, and --deck DECK, from whose first line on it counts")
+    verdict = judged(verdicts[0], report, deck) if verdicts else None
+    if not verdict or not verdict["line"]:
+        return {**drawn(report, deck, texts), "verdict": verdict}
+    try:
+        return {**drawn(report, None, texts), "verdict": verdict}
+    except Exception:
+        raise NoReport("this report can't be drawn; line %d of the deck and it, its line %d, is the first that can't stand: %s" % (
+            verdict["line"], verdict["ofReport"], verdict["text"] or "it ends there")) from None
+
+
+def drawn(report, deck, texts):
+    """The same without a verdict."""
     run = read(report)
     tasks, stays, managers, *known = follow(run) if deck is None else by_deck(run, deck, report)
     queues, last, (told, notices) = lists(run), len(run["events"]), beside(run, texts)
