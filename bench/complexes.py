@@ -1,5 +1,5 @@
 """What the scripts share that time complexes of eight systems with 64 tasks each: how long their runs are, for which
-resources the tasks ask, and how requests come round a ring.
+resources the tasks ask, how requests come round a ring; and decks of systems that run beside each other.
 """
 SYSTEMS = "ABCDEFGH"
 TASKS = 64
@@ -75,3 +75,32 @@ def ring(name, events, control="S"):
         turn, system = divmod(number, len(SYSTEMS))
         text += [*LAP, goes_on(SYSTEMS[system], turn % TASKS)]
     return text
+
+
+# Decks of systems that run beside each other, and so without a schedule
+
+def lines_beside(kind, system, task):
+    """The lines of a task that asks for a resource and gives it back, four times: one of its system alone, or in `few` one of eight
+    that the whole complex shares."""
+    for pair in range(4):
+        if kind == "own":
+            yield "ENQ (Q,R%d,E,SYSTEM)" % task
+            yield "DEQ (Q,R%d,SYSTEM)" % task
+        else:
+            name = "R%d" % ((system + task + pair) % 8)
+            yield "ENQ (Q,%s,E,SYSTEMS)" % name
+            yield "DEQ (Q,%s,SYSTEMS)" % name
+
+
+def beside(mode, kind, systems, at):
+    """So many systems: a `ring`, a `star`, a ring that becomes a star (`move`), or one of which the last system is removed
+    (`removal`), by the first one's desk behind so many of its events."""
+    rows = ["COMPLEX MODE(STAR) ENTRIES(64)"] if mode == "star" else []
+    desk = {"move": "AT %d SETGRS MODE=STAR" % at, "removal": "AT %d VARY GRS(S%d),PURGE" % (at, systems - 1)}
+    for system in range(systems):
+        rows += ["SYSTEM S%d" % system]
+        rows += [desk[mode]] if mode in desk and system == 0 else []
+        rows += ["JOB J"]
+        for task in range(TASKS):
+            rows += ["TASK T%d" % task, *lines_beside(kind, system, task)]
+    return "".join(row + "\n" for row in rows)
