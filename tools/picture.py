@@ -6,7 +6,9 @@
 The report is read from the file, else from standard input. With the deck beside it nothing in the picture is a guess. A TEXT is what
 ./grs analyze or ./grs notices wrote of the same run: the cycle is shown that the one tells, in place of a deadlock that is found here, and
 the notices of the other stand as marks under the list of each resource. Or it is what ./grs audit wrote of the report behind the deck: where
-that can't stand, the page says so, and marks the request of its first line that can't. Such a report is drawn without a model of the run.
+that can't stand, the page says so, and marks the request of its first line that can't. Such a report is drawn by itself alone, and so is
+one that can stand and that a run of the deck with its events doesn't write. Where a model of legal histories (tools/histories.py) comes to
+another verdict, that is refused; past 20,000 entries only where no report with these lines has it.
 
 The page stands alone: what it shows is in it, and it asks no network. Its first view has a lane for each task, with the events
 from left to right; its second the list of each resource, with the places in the history from left to right. A panel says who owns
@@ -44,6 +46,7 @@ import itertools
 import json
 import pathlib
 import re
+import runpy
 import sys
 
 sys.dont_write_bytecode = True
@@ -62,12 +65,17 @@ HISTORY = re.compile(r"H (?P<n>\d+) (?P<by>\S+) (?:ENQ (?P<enq>.*) (?P<control>[
                      r"|DEQ (?P<deq>.*) (?:NONE|HAVE) (?P<answered>\w+)|RELEASE (?P<release>.*)|LOOK (?P<look>.*)|REMOVE (?P<remove>\S+))")
 QUEUE = re.compile(r"Q (?P<name>.*?\)) (?P<elements>[^ ()']+:[ES]\*?(?: [^ ()']+:[ES]\*?)*)")
 AUDIT = re.compile(r"AUDIT (?:YES|NO LINE (\d{1,10}))\n?")
+HEAD = re.compile(r"HISTORY (?:0|[1-9][0-9]*)")
 NOTICE = re.compile(r"N (\d+) (BEGIN|CHANGE|END) (.*\)) (\d+) (\d+)")
 TOLD = re.compile(r"T (?P<k>\d+|END) (?P<what>.*?) ?@(?P<event>\d+)")
 
 
 class NoReport(Exception):
     """What is drawn isn't a whole report; why."""
+
+
+class OtherRun(NoReport):
+    """The deck's run comes to another report."""
 
 
 def read(report):
@@ -77,12 +85,13 @@ def read(report):
         raise NoReport("this is no report; make one by ./grs replay or ./grs run")
     if lines[-1] not in ("END DONE", "END WAITS"):
         raise NoReport("this report isn't whole")
-    count = int(lines[1].split()[1])
-    run = {"events": lines[2:2 + count], "history": [], "systems": [], "tasks": [], "desk": [], "words": [], "units": [], "queues": []}
-    for line in lines[2 + count:]:
+    behind = events_end(lines)
+    run = {"events": lines[2:behind], "history": [], "systems": [], "tasks": [], "desk": [], "words": [], "units": [], "queues": []}
+    for line in lines[behind:]:
         word = line.split(" ", 1)[0]
         if word == "H":
-            run["history"].append(HISTORY.fullmatch(line).groupdict())
+            # by its place, whatever number stands in a report that somebody changed
+            run["history"].append({**HISTORY.fullmatch(line).groupdict(), "n": str(len(run["history"]) + 1)})
         elif word == "SYSTEM":
             run["systems"].append(line[7:])
         elif word == "TASK":
@@ -104,6 +113,11 @@ def read(report):
         elif word in ("MODE", "END"):
             run[word.lower()] = line
     return run
+
+
+def events_end(lines):
+    """Behind how many of a report's lines its history begins; in front of it stand events alone."""
+    return 2 + int(lines[1].split()[1])
 
 
 def resource(entry):
@@ -435,7 +449,7 @@ def by_deck(run, text, report):
     except Exception:  # whatever a text leads to that is no deck, or another one
         model = None
     if not model or runs.report(model) != report:
-        raise NoReport("this is no report of that deck, or the deck has a mistake, which ./grs replay tells")
+        raise OtherRun("this is no report of that deck, or the deck has a mistake, which ./grs replay tells")
     return (*found, [model.task_name(it) for it in runs.deadlock(model)])
 
 
@@ -495,7 +509,7 @@ def of_deck(step):
 
 def bars(task, last):
     """A bar for each request of a task in the history, one for a display, one for a WAIT line, and one for what is still on its way there:
-    its number, what it is (an element of a list, what gives one back, a display, a line that waits, what is on its way, or another), the
+    its number (of a display that of its first look, and those of all), what it is (an element of a list, what gives one back, a display, a line that waits, what is on its way, or another), the
     edges between events at which it begins, has its place, owns, has control, has it exclusively by a change and ends, who was in front
     of it and kept it away, its text, and its row in the lane.
     The edge e lies behind event e."""
@@ -511,7 +525,7 @@ def bars(task, last):
     for step in [*task.asked_steps, *task.steps]:
         asked = step.asked or task.ending or last
         if step.is_display():
-            add("look", int(step.entries[0]["n"]), asked, step.told or last, shown(step))
+            add("look", int(step.entries[0]["n"]), asked, step.told or last, shown(step))["looks"] = [int(it["n"]) for it in step.entries]
         elif step.what.startswith("WAIT ") or step.is_held or not step.entries and not task.ended and task.end == "WAITS":
             add("line", 0, asked, step.told or last, step.what and step.what + " (line %s)" % step.line or "WAIT, not told" + of_deck(step))
         elif not step.entries and not step.what and step.asked and task.end in ("OPEN", "REMOVED") and (step.spelled or not task.is_guessed()):
@@ -629,19 +643,40 @@ def beside(run, texts):
     return found, notices
 
 
+OTHER_VERDICT = "a verdict beside the report isn't what ./grs audit writes of this deck and this report"
+
+
 def judged(verdict, report, deck):
     """What ./grs audit wrote of a report behind its deck: nothing where it can stand; else the line that can't, by its number from the deck's
-    first line on and from the report's, its text, and of which entry of the history it is, where it is of one."""
-    line, lines, front = int(AUDIT.fullmatch(verdict)[1] or 0), report.split("\n"), len(deck.removesuffix("\n").split("\n"))
-    lines = lines[:-1] if lines[-1] == "" else lines
-    if not line:
+    first line on and from the report's, and its text. That is one of those behind the first line HISTORY n up to TOLD, or what is missing
+    where the report ends before; a verdict that no report with these lines has is refused."""
+    line, lines, front = int(AUDIT.fullmatch(verdict)[1] or 0), report.removesuffix("\n").split("\n"), len(deck.removesuffix("\n").split("\n"))
+    head = next((place for place, it in enumerate(lines, 1) if HEAD.fullmatch(it)), len(lines))
+    last = next((place for place, it in enumerate(lines, 1) if place > head and it == "TOLD"), len(lines) + 1)
+    if line == 0 and verdict.startswith("AUDIT YES") and last <= len(lines):
         return {"line": None, "entry": None}
-    if not front < line <= front + len(lines) + 1:
-        raise NoReport("a verdict beside the report isn't what ./grs audit writes of this deck and this report")
-    place = line - front
-    text = "".join(lines[place - 1:place])
-    entry = sum(it.startswith("H ") for it in lines[:place]) if text.startswith(("H ", "R ")) and "TOLD" not in lines[:place] else None
-    return {"line": line, "ofReport": place, "text": text, "entry": entry}
+    if not front + head < line <= front + last:
+        raise NoReport(OTHER_VERDICT)
+    return {"line": line, "ofReport": line - front, "text": "".join(lines[line - front - 1:line - front])}
+
+
+def is_by_model(verdict, report, deck):
+    """Whether a model of legal histories comes to the verdict too, or doesn't follow so far."""
+    text = deck.removesuffix("\n") + "\n" + report
+    audited = runpy.run_path(str(HERE / "audited"))
+    try:
+        deck, lines, first = audited["parted"](text, verdict["line"])
+        return audited["verdict"](decks.read(deck), lines, first)[0] == verdict["line"]
+    except (audited["TooLong"], LookupError, TypeError, ValueError, AttributeError):
+        return True
+
+
+def entry_of(verdict, report):
+    """Of which entry of the history the line is that can't stand, where it is of one."""
+    lines = report.split("\n")
+    if verdict["line"] and verdict["text"].startswith(("H ", "R ")):
+        return sum(it.startswith("H ") for it in lines[events_end(lines):verdict["ofReport"]])
+    return None
 
 
 def is_of(run, notice):
@@ -677,13 +712,21 @@ def picture(report, deck=None, texts=()):
     if verdicts and (deck is None or len(set(verdicts)) > 1):
         raise NoReport("one verdict of ./grs audit can stand beside a report, and --deck DECK, from whose first line on it counts")
     verdict = judged(verdicts[0], report, deck) if verdicts else None
+    if verdict and not is_by_model(verdict, report, deck):
+        raise NoReport(OTHER_VERDICT)
     if not verdict or not verdict["line"]:
-        return {**drawn(report, deck, texts), "verdict": verdict}
+        try:
+            return {**drawn(report, deck, texts), "verdict": verdict}
+        except OtherRun:
+            # a report that can stand is drawn whoever wrote it, and then by itself alone
+            if not verdict:
+                raise
     try:
-        return {**drawn(report, None, texts), "verdict": verdict}
+        return {**drawn(report, None, texts), "verdict": {**verdict, "entry": entry_of(verdict, report)}}
     except Exception:
-        raise NoReport("this report can't be drawn; line %d of the deck and it, its line %d, is the first that can't stand: %s" % (
-            verdict["line"], verdict["ofReport"], verdict["text"] or "it ends there")) from None
+        raise NoReport("this report can't be drawn, though its history can stand: what it tells behind TOLD doesn't go with that" if not verdict["line"] else
+                       "this report can't be drawn; line %d of the deck and it, its line %d, is the first that can't stand: %s" % (
+                           verdict["line"], verdict["ofReport"], verdict["text"] or "it ends there")) from None
 
 
 def drawn(report, deck, texts):
