@@ -1,3 +1,2 @@
-pub mod Owners
 pub mod Gathers
 pub mod GatherSamples

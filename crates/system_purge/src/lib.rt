@@ -3,7 +3,6 @@
 //! of who removes whom, nor of how a removal comes to the system.
 #![tactic(auto)]
 
-mod freed;
 mod gather;
 pub mod laws;
 mod removal;

@@ -4,7 +4,7 @@ ghost use Rattle.grs_base.specs.Rows.{rows_of};
 ghost use Rattle.grs_base.specs.State.{remove_state};
 ghost use Rattle.system_purge.specs.Purge as purge;
 
-use super::freed::freed;
+use freed_owners::freed;
 use grs_base::{NoMemory, Queues, Row, SysId};
 use queue_table::Table;
 use std::alloc::Global;

@@ -23,7 +23,8 @@ use Rattle.grs_base.proofs.OrderLaws.{same_res-tie}
 use Rattle.grs_base.proofs.SameLaws.{same_res-exact, same_res-itself, same_task-exact}
 use Rattle.grs_wire.specs.declared.deck.Deck.{Deck}
 use Rattle.grs_wire.proofs.RemoveLaws.{list_of-remove}
-use Rattle.system_purge.specs.Purge.{freed, newcomers, tell_freed}
+use Rattle.freed_owners.specs.Freed.{freed, newcomers}
+use Rattle.system_purge.specs.Purge.{tell_freed}
 use Rattle.task_state.specs.Replies.{tell_new}
 use Rattle.task_state.specs.View.{TasksView, is_task, state_of}
 use Rattle.task_state.specs.declared.state.Phase.{Phase}

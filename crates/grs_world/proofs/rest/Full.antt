@@ -70,7 +70,8 @@ use Rattle.task_state.proofs.Stays.{system-outstanding, system-phase, system-ran
 use Rattle.task_state.proofs.Stays.{system-told, system-without}
 use Rattle.grs_base.specs.Rows.{rows_of}
 use Rattle.grs_base.specs.declared.resource.Row.{Row}
-use Rattle.system_purge.specs.Purge.{freed, tell_freed}
+use Rattle.freed_owners.specs.Freed.{freed}
+use Rattle.system_purge.specs.Purge.{tell_freed}
 use Rattle.grs_world.proofs.run.Came.{Acts, Came, acted, already, began, changed, decided, informed, last_turn, left}
 use Rattle.grs_world.proofs.run.Came.{rejoined, no_such, nothing, refused, removes_one, sent, settled, took, turn}
 use Rattle.grs_world.proofs.run.Came.{went_on, told as told_one, Result}

@@ -17,7 +17,8 @@ use Rattle.grs_wire.specs.declared.request.Fixed.TheVariants as fixing
 use Rattle.grs_wire.specs.declared.request.Req.{Req}
 use Rattle.grs_wire.specs.declared.told.ToldLine.{ToldLine}
 use Rattle.grs_wire.proofs.RemoveLaws.{list_of-remove}
-use Rattle.system_purge.specs.Purge.{newcomers, freed, tell_freed}
+use Rattle.freed_owners.specs.Freed.{newcomers, freed}
+use Rattle.system_purge.specs.Purge.{tell_freed}
 use Rattle.task_state.specs.Replies.{tell_new}
 use Rattle.task_state.specs.View.{TasksView}
 use Rattle.grs_known.specs.Items.{RunItem, is_of, rounds, lists, history}

@@ -1,8 +1,8 @@
 use Rattle.std.proofs.Common.{ℕ, take, ap, ◌∙◌}
 use Rattle.std.specs.List.{list_any}
 use Rattle.grs_base.specs.Same.{same_task}
-use Rattle.system_purge.proofs.Owners.{owners_any}
-use Rattle.system_purge.proofs.freed.owns.Goals as goal
+use Rattle.freed_owners.proofs.OwnerLemmas.{owners_any}
+use Rattle.freed_owners.proofs.owners.owns.Goals as goal
 
 pub returns : goal.returns
 returns c =

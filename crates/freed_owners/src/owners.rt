@@ -1,11 +1,11 @@
-//! Who gets control of a resource when the elements of a system leave its list. Nothing here changes anything.
+//! The elements that are left, and who owns by them.
 ghost use Rattle.std.specs.Prelude.{◌≡◌, filter, IfOk};
 ghost use Rattle.std.specs.List.{list_any};
 ghost use Rattle.grs_base.specs.Lists as lists;
 ghost use Rattle.grs_base.specs.Same.{same_task};
 ghost use Rattle.grs_base.specs.State as states;
 ghost use Rattle.grs_base.specs.State.{is_of_other};
-ghost use Rattle.system_purge.specs.Purge as purge;
+ghost use Rattle.freed_owners.specs.Freed as by_list;
 
 use grs_base::{Elem, List, NoMemory, Res, SysId, TaskId, is_same_task};
 use ret_codes::owners_among;
@@ -47,7 +47,7 @@ fn owns(elems: &[Elem], task: TaskId) -> bool
 
 /// The tasks that own by the list afterwards and didn't by the list before.
 fn newcomers(alloc: Global, before: &[Elem], after: &[Elem]) -> Result<List<TaskId>, NoMemory>
-    ensures { IfOk result (λ tasks. tasks ≡ purge.newcomers before.now after.now) }
+    ensures { IfOk result (λ tasks. tasks ≡ by_list.newcomers before.now after.now) }
 {
     let mut tasks = List::new(alloc);
     let owning = &after[..owners_among(after)];
@@ -59,14 +59,15 @@ fn newcomers(alloc: Global, before: &[Elem], after: &[Elem]) -> Result<List<Task
     Ok(tasks)
 }
 
-/// The tasks that get control of a resource when the elements of a system leave its list.
-pub(crate) fn freed(
+/// The tasks that get control of a resource when the elements of a system's tasks leave its list, in the order of the list.
+/// They leave only lists of the whole complex. NoMemory comes where there is none for the copies.
+pub fn freed(
     alloc: Global,
     system: SysId,
     res: &Res,
     elems: &[Elem],
 ) -> Result<List<TaskId>, NoMemory>
-    ensures { IfOk result (λ tasks. tasks ≡ purge.freed system.0 res.now elems.now) }
+    ensures { IfOk result (λ tasks. tasks ≡ by_list.freed system.0 res.now elems.now) }
 {
     if !is_systems(res) {
         return Ok(List::new(alloc));

@@ -1,7 +1,7 @@
 use Rattle.std.proofs.Common.{◌≡◌, ◌++◌, not, drop}
 use Rattle.grs_base.specs.Lists.{owns}
 use Rattle.grs_base.specs.State.{pick}
-use Rattle.system_purge.proofs.freed.newcomers.Given as goal
+use Rattle.freed_owners.proofs.owners.newcomers.Given as goal
 
 abbrev pub invariant-loop-elem : goal.invariant-loop-elem
 invariant-loop-elem l =
