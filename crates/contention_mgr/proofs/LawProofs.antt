@@ -44,7 +44,7 @@ pub telling_keeps_lists : TellingKeepsLists
 telling_keeps_lists b r t [] = refl
 telling_keeps_lists b r t (x ∷ xs) = grind (arith, telling_keeps_lists b r t xs)
 
-plain-control : (s : ℕ) (r : Res) (ts : List TaskId) (xs : List Ranked) → plain (with_control s r ts xs) ≡ plain xs
+pub plain-control : (s : ℕ) (r : Res) (ts : List TaskId) (xs : List Ranked) → plain (with_control s r ts xs) ≡ plain xs
 plain-control s r [] xs = refl
 plain-control s r (t ∷ ts) xs =
     plain-control s r ts (cond (not (s == t.system.0)) (with_mark true r t xs) xs) ∙ step (not (s == t.system.0))

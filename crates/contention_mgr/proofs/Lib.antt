@@ -10,5 +10,8 @@ pub mod FirstLaws
 pub mod OwnLemmas
 pub mod ManagerLaws
 pub mod InstallLemmas
+pub mod LoseLemmas
+pub mod LoseLawProofs
+pub mod LoseSamples
 pub mod InstallSamples
 pub mod Samples

@@ -2,6 +2,9 @@ pub mod Manager
 pub mod Marks
 pub mod Untold
 pub mod Loads
+pub mod Loses
+pub mod LoseLaws
+pub mod Removed
 pub mod Installs
 pub mod InstallLaws
 pub mod Laws

@@ -6,12 +6,14 @@ ghost use Rattle.grs_base.specs.State.{State as Plain, release_state};
 ghost use Rattle.grs_wire.specs.Wants.{answer_to, after_want, new_owners};
 ghost use Rattle.contention_mgr.specs.Manager.{plain, no_elements, settled, appends, queues as queues_by, rank_given, with_control, taken_out, with_mark, any_untold_in, first_untold, owner_of};
 ghost use Rattle.contention_mgr.specs.Loads.{loaded};
+ghost use Rattle.contention_mgr.specs.Loses.{freed_lists, with_freed, lost};
 ghost use Rattle.contention_mgr.specs.Installs.{installed, places_apart, ranks_on};
 ghost use Rattle.lock_structure.specs.RankedRows.{rows_apart, all_apart, ranks_of};
 ghost use Rattle.contention_mgr.specs.Marks.{mark_in, ranked_all, entry_of_parts, is_gone, AreMarked};
 
 use crate::install::{add_lists, add_marks, greatest_of};
 use crate::load::{add_rows, greatest_rank};
+use crate::lose::freed_rows;
 use crate::marks::{Mark, Marks};
 use crate::untold::first_in;
 use grs_base::{Code, Effect, LAST_NUMBER, List, NoMemory, Res, Row, SysId, TaskId};
@@ -93,6 +95,17 @@ fn give_all_control(marks: &mut Marks, system: SysId, res: &Res, tasks: &[TaskId
     let mut rest = tasks;
     'tasks: while let Some((task, tail)) = rest.split_first() {
         give_control(marks, system, res, *task);
+        rest = tail;
+    }
+}
+
+/// These tasks got control of these resources: those of other systems are still to be told.
+fn give_freed(marks: &mut Marks, system: SysId, all: &[(Res, List<TaskId>)])
+    ensures { (s : Plain) → AreMarked (mark_in marks.old.names.entries marks.old.marks.entries) s → (ranked_all (mark_in marks.new.names.entries marks.new.marks.entries) s ≡ with_freed system.0 all.now (ranked_all (mark_in marks.old.names.entries marks.old.marks.entries) s)) × AreMarked (mark_in marks.new.names.entries marks.new.marks.entries) s }
+{
+    let mut rest = all;
+    'all: while let Some((one, tail)) = rest.split_first() {
+        give_all_control(marks, system, &one.0, one.1.as_slice());
         rest = tail;
     }
 }
@@ -283,6 +296,28 @@ impl Entry {
                 req,
             )
         }
+    }
+
+    /// The tasks that get control, resource by resource, when the elements of a system leave the lists.
+    pub(crate) fn freed(
+        &self,
+        alloc: Global,
+        target: SysId,
+    ) -> Result<List<(Res, List<TaskId>)>, NoMemory>
+        ensures { IfOk result (λ freed. freed ≡ freed_lists target.0 (plain self.now.items)) }
+    {
+        let rows = self.table.rows(alloc)?;
+        freed_rows(alloc, target, rows.as_slice())
+    }
+
+    /// The elements of a system's tasks leave the lists, by which these tasks get control. It takes no memory.
+    pub(crate) fn lose(&mut self, system: SysId, target: SysId, freed: &[(Res, List<TaskId>)])
+        requires { freed.now ≡ freed_lists target.0 (plain self.old.items) }
+        ensures { self.new ≡ lost system.0 target.0 self.old }
+    {
+        self.table.remove_system(target);
+        self.marks.take_system(target);
+        give_freed(&mut self.marks, system, freed);
     }
 
     /// A task is told that it owns a resource.

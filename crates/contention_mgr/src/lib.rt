@@ -8,6 +8,8 @@ mod install;
 pub mod install_laws;
 pub mod laws;
 mod load;
+mod lose;
+pub mod lose_laws;
 mod manager;
 mod marks;
 mod untold;

@@ -1,15 +1,17 @@
 //! The manager of a system: of each lock entry what it keeps, where it manages it.
-ghost use Rattle.std.specs.Prelude.{◌≡◌, ◌≢◌, ◌<◌, ◌≤◌, ◌+◌, ◌==◌, true, false, is_some, length, replicate, slice_set, None, Some, option_map, IfOk, IfSome, OnOk, OnErr};
+ghost use Rattle.std.specs.Prelude.{◌≡◌, ◌≢◌, ◌<◌, ◌≤◌, ◌+◌, ◌==◌, true, false, is_some, length, replicate, slice_set, map, None, Some, option_map, IfOk, IfSome, OnOk, OnErr};
 ghost use Rattle.std.specs.Option.{option_copied};
 ghost use Rattle.grs_base.specs.Limits.{last_number};
 ghost use Rattle.grs_wire.specs.Wants.{answer_to, new_owners};
 ghost use Rattle.contention_mgr.specs.Loads.{loaded};
 ghost use Rattle.lock_structure.specs.RankedRows.{IsLoadable};
 ghost use Rattle.contention_mgr.specs.Installs.{installed, IsInstallable};
+ghost use Rattle.contention_mgr.specs.Loses.{freed_at, lost, gained, after_losing};
 ghost use Rattle.contention_mgr.specs.Manager.{plain, no_elements, settled, are_of, entry_of_looks, entry_wanted, kept_at, managed_at, managed_of, managed_for, items_of, with_entry, after_request, rank_for, told, after_telling, any_untold_in, any_untold_at, first_untold, owner_of};
 ghost use Rattle.lock_structure.specs.Entries.{entry_of_res};
 
 use crate::entry::Entry;
+use crate::lose::own_in_order;
 use grs_base::{List, NoMemory, Res, Row, SLICES, SysId, TaskId, entry_of, slice_of};
 use grs_wire::{Answer, PartRec, Req, Want};
 use queue_table::Outcome;
@@ -177,6 +179,62 @@ fn any_in(slots: &[Option<Entry>], home: SysId) -> bool
         rest = tail;
     }
     false
+}
+
+/// The tasks that get control, resource by resource, when the elements of a system leave the lists of an entry.
+fn freed_at(
+    alloc: Global,
+    target: SysId,
+    slot: &Option<Entry>,
+) -> Result<List<(Res, List<TaskId>)>, NoMemory>
+    ensures { IfOk result (λ freed. freed ≡ freed_at target.0 slot.now) }
+{
+    match slot {
+        Some(kept) => kept.freed(alloc, target),
+        None => Ok(List::new(alloc)),
+    }
+}
+
+/// The same of each entry.
+fn freed_in(
+    alloc: Global,
+    target: SysId,
+    slots: &[Option<Entry>],
+) -> Result<List<List<(Res, List<TaskId>)>>, NoMemory>
+    ensures { IfOk result (λ all. all ≡ map (freed_at target.0) slots.now) }
+{
+    let mut all = List::with_room(alloc, slots.len())?;
+    for slot in slots {
+        all.push(freed_at(alloc, target, slot)?)?;
+    }
+    Ok(all)
+}
+
+/// The elements of a system leave the lists of an entry, by which these tasks get control.
+fn lose_at(slot: &mut Option<Entry>, system: SysId, target: SysId, freed: &[(Res, List<TaskId>)])
+    requires { freed.now ≡ freed_at target.0 slot.old }
+    ensures { slot.new ≡ option_map (lost system.0 target.0) slot.old }
+{
+    match slot {
+        Some(kept) => kept.lose(system, target, freed),
+        None => {}
+    }
+}
+
+/// So they do of each entry.
+fn lose_all(
+    slots: &mut Vec<Option<Entry>>,
+    system: SysId,
+    target: SysId,
+    all: &[List<(Res, List<TaskId>)>],
+)
+    requires { all.now ≡ map (freed_at target.0) slots.old.items }
+    ensures { slots.new.items ≡ map (option_map (lost system.0 target.0)) slots.old.items }
+{
+    for i in 0..slots.len() {
+        let slot = &mut slots[i];
+        lose_at(slot, system, target, all[i].as_slice());
+    }
 }
 
 impl Manager {
@@ -360,6 +418,20 @@ impl Manager {
             Some(entry) => tell_at(&mut self.slots, entry, task, res),
             None => unreachable!(),
         }
+    }
+
+    /// A system is removed: the elements of its tasks leave all lists. Who gets control by that and is of another system than
+    /// the manager's is still to be told; those of its own system are given, each with the resource, in the order in which they
+    /// are told: resources as they are shown, and the tasks of a list in its order. Without memory nothing changes.
+    pub fn lose(&mut self, target: SysId) -> Result<List<(TaskId, Res)>, NoMemory>
+        ensures gained { IfOk result (λ owners. owners ≡ gained self.old target) }
+        ensures after { OnOk result (self.new ≡ after_losing self.old target) }
+        ensures unchanged { OnErr result (self.new ≡ self.old) }
+    {
+        let all = freed_in(self.alloc, target, self.slots.as_slice())?;
+        let owners = own_in_order(self.alloc, self.system, all.as_slice())?;
+        lose_all(&mut self.slots, self.system, target, all.as_slice());
+        Ok(owners)
     }
 
     /// Whether nothing stands in the lists of an entry.

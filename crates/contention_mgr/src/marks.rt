@@ -1,7 +1,7 @@
 //! The ranks of the elements of one lock entry, and which of their tasks are still to be told that they own. They stand
 //! beside the lists: each resource that had an element has a number, and each element is found by that number and its
 //! task. Nothing here knows who owns.
-ghost use Rattle.std.specs.Prelude.{◌≡◌, ◌≤◌, ◌++◌, ◌∷◌, [], ◌&&◌, ℕ, true, false, cond, length, None, Some, is_some, IfSome, IfNone, IfOk, OnOk, OnErr};
+ghost use Rattle.std.specs.Prelude.{◌≡◌, ◌≤◌, ◌++◌, ◌∷◌, [], ◌&&◌, ◌==◌, ℕ, true, false, not, cond, filter, length, slice_get, None, Some, is_some, IfSome, IfNone, IfOk, OnOk, OnErr};
 ghost use Rattle.std.specs.List.{list_all};
 ghost use Rattle.std.specs.Map.{lookup};
 ghost use Rattle.std.specs.Ordering.{is_lt};
@@ -11,6 +11,8 @@ ghost use Rattle.grs_base.specs.Same.{same_res, same_task};
 ghost use Rattle.grs_base.specs.declared.resource.Res.{Res as ResValue};
 ghost use Rattle.grs_base.specs.declared.resource.TaskId.{TaskId as TaskValue};
 ghost use Rattle.contention_mgr.specs.Marks.{same_spot, mark_at, mark_in, numbered_from, untold_in, is_told, with_told};
+ghost use Rattle.contention_mgr.specs.Removed.{is_wide, is_removed};
+ghost use Rattle.grs_base.specs.State.{is_systems};
 ghost use Rattle.contention_mgr.specs.Untold.{is_to_tell};
 ghost use Rattle.contention_mgr.specs.declared.marks.Spot.{Spot as SpotValue};
 
@@ -107,6 +109,33 @@ fn take_mark(marks: &mut IndexMap<Spot, Mark>, spot: Spot) -> Option<Mark>
     ensures { (s : SpotValue) → lookup (same_spot s) marks.new.entries ≡ cond (same_spot spot s) None (lookup (same_spot s) marks.old.entries) }
 {
     marks.swap_remove(&spot)
+}
+
+/// Whether the resource of a number is one of the whole complex.
+fn is_wide(names: &IndexMap<Res, usize>, number: usize) -> bool
+    ensures { result ≡ is_wide (slice_get names.now.entries number) }
+{
+    match names.get_index(number) {
+        Some((res, _)) => match res {
+            Res::Systems { .. } => true,
+            _ => false,
+        },
+        None => false,
+    }
+}
+
+/// Whether the element at a spot leaves when a system is removed.
+fn is_removed(names: &IndexMap<Res, usize>, spot: Spot, target: SysId) -> bool
+    ensures { result ≡ is_removed names.now.entries target.0 spot }
+{
+    target.0 == spot.task.system.0 && is_wide(names, spot.number)
+}
+
+/// Takes the marks of elements away that leave when a system is removed.
+fn remove_marks(names: &IndexMap<Res, usize>, marks: &mut IndexMap<Spot, Mark>, target: SysId)
+    ensures { marks.new.entries ≡ filter (λ e. not (is_removed names.now.entries target.0 e.0)) marks.old.entries }
+{
+    marks.retain(|spot, _mark| !is_removed(names, *spot, target));
 }
 
 /// Whether by no mark a task is still to be told.
@@ -224,6 +253,14 @@ impl Marks {
             let mark = take_mark(&mut self.marks, Spot { number, task });
             self.told = told_without(self.told, mark, &self.marks);
         }
+    }
+
+    /// Takes the marks of the elements of a system's tasks on resources of the whole complex away.
+    pub(crate) fn take_system(&mut self, target: SysId)
+        ensures { (r : ResValue) (t : TaskValue) → mark_in self.new.names.entries self.new.marks.entries r t ≡ cond (is_systems r && (target.0 == t.system.0)) None (mark_in self.old.names.entries self.old.marks.entries r t) }
+    {
+        remove_marks(&self.names, &mut self.marks, target);
+        self.told = told_after(self.told, false, &self.marks);
     }
 
     /// The task of an element on a resource is still to be told, or was told.
