@@ -249,6 +249,20 @@ unknown_waiter :
     ≡ fixing_none (one phases.Sent [] looking) (managing [])
 unknown_waiter = refl
 
+-- nor is it told of a list in which a task of the deck stands twice
+abbrev owned_twice : TaskId → List Row
+owned_twice t = record {
+  res = res;
+  elems = record { task = t; ctl = S } ∷ record { task = t; ctl = S } ∷ [];
+  owners = 2;
+} ∷ []
+
+twice_in_row :
+    take_mail deck (one phases.Sent [] looking) (managing []) (Answered (task 0 0) (Rows (owned_twice (task 1 0))) 0)
+    ≡ fixing_none (one phases.Sent [] looking) (managing [])
+unfolding state_of after_mail took_mail
+twice_in_row = refl
+
 -- ---- mail to tasks
 -- an answer and control reach a task of the deck and of this system
 own_answer : take_mail deck (one phases.Sent [] (outstanding enq)) (managing []) (Answered (task 0 0) (Coded C00) 2)

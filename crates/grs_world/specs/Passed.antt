@@ -67,11 +67,15 @@ lines_passed x = passed_by x.outstanding x.phase x.line
 abbrev pub state_in : Deck → List Event → TaskId → TaskState
 state_in deck es t = state_of (node_at deck (run deck es).nodes t.system).tasks t
 
--- Each line that a task has passed, and that has a code line, has it.
-abbrev pub LinesAreTold : Deck → List Event → Type 0
-LinesAreTold deck es =
+-- Each line that a task has passed by these events, and that has a code line, has it among these.
+abbrev pub TellLines : Deck → List Event → List ToldLine → Type 0
+TellLines deck es T =
     (t : TaskId) (ls : List Meaning) (k : ℕ) → lines_of deck t ≡ Some ls → 0 < k → k ≤ lines_passed (state_in deck es t)
-    → has_code (slice_get ls (k - 1)) ≡ true → list_any (is_code_of t k) (lines_of_told (told deck es)) ≡ true
+    → has_code (slice_get ls (k - 1)) ≡ true → list_any (is_code_of t k) T ≡ true
+
+-- so it is among what is told
+abbrev pub LinesAreTold : Deck → List Event → Type 0
+LinesAreTold deck es = TellLines deck es (lines_of_told (told deck es))
 
 -- whether a task has ended
 abbrev pub has_ended : Phase → Bool

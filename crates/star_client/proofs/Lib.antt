@@ -1,2 +1,3 @@
+pub mod ApartLaws
 pub mod RankLaws
 pub mod Samples

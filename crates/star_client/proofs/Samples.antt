@@ -101,6 +101,21 @@ no_list = refl
 twice : can_get (Look 52 1 All) (Rows (row_of res 1 ∷ row_of res 1 ∷ [])) ≡ false
 twice = refl
 
+-- nor one in whose list a task stands twice, be it that it owns by both elements or waits by one
+abbrev shared_by : TaskId → TaskId → TaskId → Row
+shared_by t u v = record {
+  res = res;
+  elems = record { task = t; ctl = S } ∷ record { task = u; ctl = S } ∷ record { task = v; ctl = E } ∷ [];
+  owners = 2;
+}
+
+task_twice :
+    (can_get (Look 52 1 All) (Rows (shared_by (asker 0) (asker 1) (asker 2) ∷ [])) ≡ true)
+    × (can_get (Look 52 1 All) (Rows (shared_by (asker 0) (asker 0) (asker 2) ∷ [])) ≡ false)
+    × (can_get (Look 52 1 All) (Rows (shared_by (asker 0) (asker 1) (asker 0) ∷ [])) ≡ false)
+    × (can_get (Look 52 1 All) (Rows (shared_by (asker 0) (asker 1) (asker 1) ∷ [])) ≡ false)
+task_twice = (refl, refl, refl, refl)
+
 -- ---- one task of system 0, which has asked for (A,B) by its first line
 abbrev task : TaskId
 task = record { system = record { 0 = 0 }; job = 0; task = 0 }

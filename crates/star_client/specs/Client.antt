@@ -6,7 +6,7 @@ use Rattle.std.specs.List.{list_all, list_any, flat_map}
 use Rattle.std.specs.Option.{option_map_or}
 use Rattle.std.specs.Ordering.{is_lt}
 use Rattle.grs_base.specs.Limits.{last_number}
-use Rattle.grs_base.specs.Lists.{owners, enq_decision, deq_code}
+use Rattle.grs_base.specs.Lists.{owners, is_apart, enq_decision, deq_code}
 use Rattle.grs_base.specs.Looks.{matches, is_contended}
 use Rattle.grs_base.specs.ResOrder.{res_order}
 use Rattle.grs_base.specs.Slices.{slice_of}
@@ -71,9 +71,11 @@ is_among first count r = option_map_or (λ n. nat_le first n && nat_lt n (first 
 abbrev pub tells_owners : Row → Bool
 tells_owners row = not (length row.elems == 0) && (row.owners == owners row.elems)
 
--- whether looks at so many slices from this one on, with this filter, can show a row, whatever stands in the lists
+-- Whether looks at so many slices from this one on, with this filter, can show a row, whatever stands in the lists. No
+-- task stands twice in one.
 abbrev pub can_show : ℕ → ℕ → Filter → Row → Bool
-can_show first count f row = is_among first count row.res && (matches f row.res (is_contended row) && tells_owners row)
+can_show first count f row =
+    is_among first count row.res && (matches f row.res (is_contended row) && (tells_owners row && is_apart row.elems))
 
 -- whether looks show the first of two resources before the second: slice after slice, and in a slice by name
 abbrev pub is_before_in : Option ℕ → Option ℕ → Bool → Bool

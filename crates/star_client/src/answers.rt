@@ -1,14 +1,16 @@
 //! Which answers a request can get. Nothing here changes anything.
-ghost use Rattle.std.specs.Prelude.{◌≡◌};
+ghost use Rattle.std.specs.Prelude.{◌≡◌, IfOk};
 ghost use Rattle.std.specs.List.{list_all};
 ghost use Rattle.std.specs.Ordering.{is_lt};
 ghost use Rattle.grs_base.specs.ResOrder.{res_order};
 ghost use Rattle.star_client.specs.Client as client;
 
+use super::apart::are_apart;
 use gqscan::matches_filter;
-use grs_base::{Code, Filter, Res, Ret, Row, slice_of};
+use grs_base::{Code, Filter, NoMemory, Res, Ret, Row, slice_of};
 use grs_wire::{Answer, Want};
 use ret_codes::owners_among;
+use std::alloc::Global;
 use std::cmp::Ordering;
 
 /// Whether the table of ENQ has a code, whatever stands in the list.
@@ -67,11 +69,24 @@ fn tells_owners(row: &Row) -> bool
 }
 
 /// Whether looks at so many slices from this one on can show a row.
-fn can_show(first: u32, count: u32, filter: &Filter, row: &Row) -> bool
-    ensures { result ≡ client.can_show first count filter.now row.now }
+fn can_show(
+    alloc: Global,
+    first: u32,
+    count: u32,
+    filter: &Filter,
+    row: &Row,
+) -> Result<bool, NoMemory>
+    ensures { IfOk result (λ shown. shown ≡ client.can_show first count filter.now row.now) }
 {
     let waits = (row.owners as usize) < row.elems.len();
-    is_among(first, count, &row.res) && matches_filter(filter, &row.res, waits) && tells_owners(row)
+    if is_among(first, count, &row.res)
+        && matches_filter(filter, &row.res, waits)
+        && tells_owners(row)
+    {
+        are_apart(alloc, row.elems.as_slice())
+    } else {
+        Ok(false)
+    }
 }
 
 /// Whether the first of two names comes before the second.
@@ -119,27 +134,48 @@ fn are_in_order(rows: &[Row]) -> bool
 }
 
 /// Whether looks at so many slices from this one on can show each of these rows.
-fn can_show_each(first: u32, count: u32, filter: &Filter, rows: &[Row]) -> bool
-    ensures { result ≡ list_all (client.can_show first count filter.now) rows.now }
+fn can_show_each(
+    alloc: Global,
+    first: u32,
+    count: u32,
+    filter: &Filter,
+    rows: &[Row],
+) -> Result<bool, NoMemory>
+    ensures { IfOk result (λ shown. shown ≡ list_all (client.can_show first count filter.now) rows.now) }
 {
-    rows.iter().all(|row| can_show(first, count, filter, row))
+    for row in rows {
+        if !can_show(alloc, first, count, filter, row)? {
+            return Ok(false);
+        }
+    }
+    Ok(true)
 }
 
 /// Whether looks at so many slices from this one on can show these rows, in their order.
-fn can_show_all(first: u32, count: u32, filter: &Filter, rows: &[Row]) -> bool
-    ensures { result ≡ client.can_show_all first count filter.now rows.now }
+fn can_show_all(
+    alloc: Global,
+    first: u32,
+    count: u32,
+    filter: &Filter,
+    rows: &[Row],
+) -> Result<bool, NoMemory>
+    ensures { IfOk result (λ shown. shown ≡ client.can_show_all first count filter.now rows.now) }
 {
-    can_show_each(first, count, filter, rows) && are_in_order(rows)
+    if are_in_order(rows) {
+        can_show_each(alloc, first, count, filter, rows)
+    } else {
+        Ok(false)
+    }
 }
 
 /// Whether a request can get this answer.
-pub(crate) fn can_get(want: &Want, answer: &Answer) -> bool
-    ensures { result ≡ client.can_get want.now answer.now }
+pub(crate) fn can_get(alloc: Global, want: &Want, answer: &Answer) -> Result<bool, NoMemory>
+    ensures { IfOk result (λ gets. gets ≡ client.can_get want.now answer.now) }
 {
     match (want, answer) {
-        (Want::Enq { ret, full, .. }, Answer::Coded(code)) => is_enq_code(*ret, *full, *code),
-        (Want::Deq { have, .. }, Answer::Coded(code)) => is_deq_code(*have, *code),
-        (Want::Release { .. }, Answer::Coded(code)) => matches!(code, Code::C00),
+        (Want::Enq { ret, full, .. }, Answer::Coded(code)) => Ok(is_enq_code(*ret, *full, *code)),
+        (Want::Deq { have, .. }, Answer::Coded(code)) => Ok(is_deq_code(*have, *code)),
+        (Want::Release { .. }, Answer::Coded(code)) => Ok(matches!(code, Code::C00)),
         (
             Want::Look {
                 first,
@@ -147,7 +183,7 @@ pub(crate) fn can_get(want: &Want, answer: &Answer) -> bool
                 filter,
             },
             Answer::Rows(rows),
-        ) => can_show_all(*first, *count, filter, rows.as_slice()),
-        _ => false,
+        ) => can_show_all(alloc, *first, *count, filter, rows.as_slice()),
+        _ => Ok(false),
     }
 }

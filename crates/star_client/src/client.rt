@@ -59,24 +59,31 @@ pub fn tell_answer_ranked(
 }
 
 /// Whether an answer is one that the outstanding request of a task can get.
-fn is_awaited(answer: &Answer, asked: Option<&Asked>) -> bool
-    ensures { result ≡ client.is_awaited answer.now (option_copied asked.entry) }
+fn is_awaited(alloc: Global, answer: &Answer, asked: Option<&Asked>) -> Result<bool, NoMemory>
+    ensures { IfOk result (λ awaited. awaited ≡ client.is_awaited answer.now (option_copied asked.entry)) }
 {
     match asked {
-        None => false,
-        Some(asked) => can_get(&asked.req.want, answer),
+        None => Ok(false),
+        Some(asked) => can_get(alloc, &asked.req.want, answer),
     }
 }
 
 /// Whether the answer to a task's request has an effect: the task has sent one that can get this answer, and the rank is
 /// one that there can be.
-fn has_effect(tasks: &Tasks, task: TaskId, answer: &Answer, rank: u64) -> bool
-    ensures { result ≡ client.has_effect tasks.now task answer.now rank }
+fn has_effect(
+    alloc: Global,
+    tasks: &Tasks,
+    task: TaskId,
+    answer: &Answer,
+    rank: u64,
+) -> Result<bool, NoMemory>
+    ensures { IfOk result (λ has. has ≡ client.has_effect tasks.now task answer.now rank) }
 {
-    tasks.has(task)
-        && tasks.phase(task).is_sent()
-        && rank <= LAST_NUMBER
-        && is_awaited(answer, tasks.asked(task))
+    if tasks.has(task) && tasks.phase(task).is_sent() && rank <= LAST_NUMBER {
+        is_awaited(alloc, answer, tasks.asked(task))
+    } else {
+        Ok(false)
+    }
 }
 
 /// A mail reaches its task: the answer to a request that it has sent, or control that it got. What no task here awaits has
@@ -91,7 +98,7 @@ pub fn on_mail(alloc: Global, tasks: &mut Tasks, mail: Mail) -> Result<(), NoMem
     match mail {
         Mail::Request { .. } => Ok(()),
         Mail::Answered { task, answer, rank } => {
-            if has_effect(tasks, task, &answer, rank) {
+            if has_effect(alloc, tasks, task, &answer, rank)? {
                 tell_answer_ranked(alloc, tasks, task, &answer, rank)
             } else {
                 Ok(())

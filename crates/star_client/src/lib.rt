@@ -3,6 +3,7 @@
 #![tactic(auto)]
 
 mod answers;
+mod apart;
 mod client;
 pub mod laws;
 

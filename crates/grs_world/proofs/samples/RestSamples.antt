@@ -1,5 +1,5 @@
 -- Worked runs that end at rest, by which the definition of nothing lost is checked.
-use Rattle.std.proofs.Common.{◌≡◌, ℕ, true, false, List, [], ◌∷◌, ◌++◌, length, Some, refl, arith}
+use Rattle.std.proofs.Common.{◌≡◌, ◌≤◌, ℕ, true, false, List, [], ◌∷◌, ◌++◌, length, Some, refl, sym, subst, arith}
 use Rattle.std.specs.Prelude.{unwrap_or}
 use Rattle.std.specs.List.{count_by, list_any}
 use Rattle.grs_base.specs.Lists.{owns}
@@ -50,7 +50,7 @@ use Rattle.task_state.specs.View.{without_record, with_told, with_exclusive, wit
 use Rattle.grs_world.specs.Agree.{lines_of_told}
 use Rattle.grs_world.specs.AtRest.{DisplaysAreTold, first_uncoded, goes_on_with, is_coded, is_reserve, lists_after}
 use Rattle.grs_world.specs.AtRest.{unit_count}
-use Rattle.grs_world.specs.Passed.{has_ended, lines_passed, state_in}
+use Rattle.grs_world.specs.Passed.{TellLines, has_ended, lines_passed, state_in}
 use Rattle.grs_world.specs.Running.{at_rest, task_end, units_of}
 use Rattle.grs_world.specs.World.{first_world, carry_out, chosen, placed, happens_at, happens, run, hist, told}
 use Rattle.grs_world.proofs.samples.Samples.{system, task_of, own, enq, deq, wait_for, deck_of, goes, turn, at}
@@ -261,3 +261,11 @@ unfolding state_of with_state with_line with_phase with_outstanding with_record 
     turn_reply wakes rest_after_turn turned turn_row row apply first_node first_world carry_out chosen placed happens_at
     happens
 passed_lines = (refl, refl, refl, refl, refl, refl, refl, refl, refl)
+
+-- a display that is passed is told: this run passes one, and may not tell the task's end alone
+pub display_untold : TellLines displays displayed (Ended first 0 ∷ []) → ⊥
+display_untold tells =
+    let one : passes displays displayed first ≡ 1 = passed_lines.6 in
+    let no : false ≡ true =
+    tells first shows 1 refl (omega arith) (subst (λ (n : ℕ). 1 ≤ n) (sym one) (omega arith)) refl in
+    absurd (cc)

@@ -270,6 +270,7 @@ module _ (deck : Deck) (words words' : List ℕ) (T : List RunItem) (right : IsH
           asked = i.asked;
           home = i.home;
           lists = i.lists;
+          apart = i.apart;
           made = i.made;
           entry = i.entry;
           at = i.at;

@@ -1,4 +1,4 @@
--- What looks show of any lists looks can show.
+-- What looks show of lists in which no task stands twice looks can show; and so are the lists of a run.
 use Rattle.std.proofs.Common.{◌≡◌, ◌<◌, ◌+◌, ℕ, zero, suc, Bool, true, false, cond, ◌&&◌, List, [], ◌∷◌, ◌++◌, Some}
 use Rattle.std.proofs.Common.{refl, ap, ◌∙◌, arith}
 use Rattle.std.specs.Prelude.{◌==◌, nat_le, nat_lt}
@@ -8,23 +8,49 @@ use Rattle.std.specs.Prelude.{filter}
 use Rattle.std.proofs.lemmas.Bool.{and_from, and_parts, or_left, or_right, leb-true, ltb-true, le-leb, lt-ltb, eqb-true}
 use Rattle.std.proofs.lemmas.Bool.{eq-eqb}
 use Rattle.std.proofs.lemmas.List.Folds.{list_all-append}
-use Rattle.grs_base.specs.Lists.{owners}
+use Rattle.grs_base.specs.Lists.{is_apart}
 use Rattle.grs_base.specs.Looks.{look, is_of_place, is_shown, matches, is_contended}
 use Rattle.grs_base.specs.ResOrder.{res_order}
 use Rattle.grs_base.specs.Rows.{rows_of}
 use Rattle.grs_base.specs.Slices.{slice_of}
-use Rattle.grs_base.specs.State.{State}
+use Rattle.grs_base.specs.State.{State, list_of}
 use Rattle.grs_base.specs.declared.look.Filter.{Filter}
 use Rattle.grs_base.specs.declared.look.Place.TheVariants.{Slice}
 use Rattle.grs_base.specs.declared.resource.Res.{Res}
 use Rattle.grs_base.specs.declared.resource.Res.TheVariants as resources
 use Rattle.grs_base.specs.declared.resource.Row.{Row}
+use Rattle.grs_wire.specs.History.{after_fixed}
 use Rattle.grs_wire.specs.Wants.{looks}
 use Rattle.star_client.specs.Client.{slice_in, is_among, tells_owners, can_show, can_show_all, is_before_in}
 use Rattle.star_client.specs.Client.{is_shown_before, are_in_order}
+use Rattle.grs_known.specs.Items.{RunItem, lists, lists_from}
+use Rattle.grs_known.proofs.lists.Elements.{apart-fixed}
 use Rattle.grs_known.proofs.lists.Facts.{all-filter}
-use Rattle.grs_known.proofs.lists.Rows.{rows-tell}
+use Rattle.grs_known.proofs.lists.Rows.{AreLists, rows-lists, rows-tell}
 use Rattle.grs_known.proofs.lists.Shows.{do_rise, is_before_all, look-rises}
+
+-- no task stands twice in a list
+abbrev pub AreApart : State → Type 0
+AreApart s = (r : Res) → is_apart (list_of s r) ≡ true
+
+apart-from : (xs : List RunItem) (s : State) → AreApart s → AreApart (lists_from s xs)
+apart-from [] s apart = apart
+apart-from (x ∷ xs) s apart = apart-from xs (after_fixed s x.fixed) (apart-fixed s x.fixed apart)
+
+-- so it is behind all items
+pub apart-lists : (T : List RunItem) → AreApart (lists T)
+apart-lists T = apart-from T [] (λ r. refl)
+
+-- whether a row tells its owners, and has no task twice
+abbrev is_right : Row → Bool
+is_right row = tells_owners row && is_apart row.elems
+
+are-right : (s : State) → AreApart s → (rows : List Row) → AreLists s rows → list_all tells_owners rows ≡ true
+    → list_all is_right rows ≡ true
+are-right s apart [] of_lists tells = refl
+are-right s apart (x ∷ xs) of_lists tells =
+    let t = and_parts (tells_owners x) (list_all tells_owners xs) tells in
+    and_from _ _ (and_from _ _ t.0 (ap is_apart of_lists.0 ∙ apart x.res)) (are-right s apart xs of_lists.1 t.1)
 
 -- each of these rows is of this slice, or of one behind it
 abbrev AreAt : ℕ → List Row → Type 0
@@ -93,12 +119,12 @@ among-more n count (resources.Step s j q r) e = absurd (cc)
 
 -- the rows of one slice
 module _ (n count : ℕ) (f : Filter) where
-  -- each is shown, and tells its owners
-  first-rows : (rows : List Row) → list_all tells_owners rows ≡ true → list_all (is_shown (Slice n) f) rows ≡ true
+  -- each is shown, tells its owners and has no task twice
+  first-rows : (rows : List Row) → list_all is_right rows ≡ true → list_all (is_shown (Slice n) f) rows ≡ true
       → (list_all (can_show n (suc count) f) rows ≡ true) × AreAt n rows
-  first-rows [] tells shown = (refl, tt)
-  first-rows (x ∷ xs) tells shown =
-      let t = and_parts (tells_owners x) (list_all tells_owners xs) tells in
+  first-rows [] right shown = (refl, tt)
+  first-rows (x ∷ xs) right shown =
+      let t = and_parts (is_right x) (list_all is_right xs) right in
       let s = and_parts (is_shown (Slice n) f x) (list_all (is_shown (Slice n) f) xs) shown in
       let here = and_parts (is_of_place (Slice n) x.res) (matches f x.res (is_contended x)) s.0 in
       let at = slice-is n x.res here.0 in
@@ -111,7 +137,7 @@ module _ (n count : ℕ) (f : Filter) where
   more-rows [] shown = (refl, tt)
   more-rows (x ∷ xs) shown =
       let s = and_parts (can_show (suc n) count f x) (list_all (can_show (suc n) count f) xs) shown in
-      let here = and_parts (is_among (suc n) count x.res) (matches f x.res (is_contended x) && tells_owners x) s.0 in
+      let here = and_parts (is_among (suc n) count x.res) (matches f x.res (is_contended x) && is_right x) s.0 in
       let wide = among-more n count x.res here.0 in
       let more = more-rows xs s.1 in
       (and_from _ _ (and_from _ _ wide.0 here.1) more.0, (wide.1, more.1))
@@ -125,15 +151,17 @@ filter-all p (x ∷ xs) = go (p x) refl (filter-all p xs)
     go true e h = and_from _ _ e h
     go false e h = h
 
-pub can-show : (s : State) (first count : ℕ) (f : Filter) → can_show_all first count f (looks s first count f) ≡ true
-can-show s first zero f = refl
-can-show s first (suc count) f =
+pub can-show : (s : State) → AreApart s → (first count : ℕ) (f : Filter)
+    → can_show_all first count f (looks s first count f) ≡ true
+can-show s apart first zero f = refl
+can-show s apart first (suc count) f =
     let rest =
     and_parts (list_all (can_show (suc first) count f) (looks s (suc first) count f))
-    (are_in_order (looks s (suc first) count f)) (can-show s (suc first) count f) in
+    (are_in_order (looks s (suc first) count f)) (can-show s apart (suc first) count f) in
     let here =
     first-rows first count f (look s (Slice first) f)
-    (all-filter tells_owners (is_shown (Slice first) f) (rows_of s) (rows-tell s))
+    (all-filter is_right (is_shown (Slice first) f) (rows_of s)
+    (are-right s apart (rows_of s) (rows-lists s) (rows-tell s)))
     (filter-all (is_shown (Slice first) f) (rows_of s)) in
     let more = more-rows first count f (looks s (suc first) count f) rest.0 in
     and_from _ _ (list_all-append (can_show first (suc count) f) (look s (Slice first) f) (looks s (suc first) count f)

@@ -46,6 +46,7 @@ use Rattle.grs_known.proofs.system.Says.{is_home_at, askers}
 use Rattle.grs_world.proofs.star.Answering.{Settled, asker-settled}
 use Rattle.grs_world.proofs.star.Ghosts.{ghosted, IsAt, IsOthers, at-other}
 use Rattle.grs_world.proofs.star.Members.{has_manager}
+use Rattle.grs_world.proofs.star.Shown.{AreApart, apart-lists}
 use Rattle.grs_known.proofs.known.Blank.{blank, right-blank, coming-other, coming-sent, coming-granted}
 
 -- ---- what comes, by the mail
@@ -79,6 +80,7 @@ pub record IsLate (deck : Deck) (words : List ℕ) (s : ℕ) (x : RunItem) : Typ
   pub asked : x.fixed ≡ fixing.Asked req
   pub home : is_home_at deck s req.task ≡ true
   pub lists : State
+  pub apart : AreApart lists
   pub made : x.entries ≡ entries_for lists req.task req.want
   pub entry : ℕ
   pub at : entry_wanted deck.entries req.want ≡ Some entry
@@ -175,6 +177,7 @@ late-keeps deck words words' s (x ∷ xs) k h = (
     asked = h.0.asked;
     home = h.0.home;
     lists = h.0.lists;
+    apart = h.0.apart;
     made = h.0.made;
     entry = h.0.entry;
     at = h.0.at;
@@ -430,6 +433,7 @@ module _ (deck : Deck) (words : List ℕ) (T : List RunItem) (s : ℕ) (n : Node
             asked = refl;
             home = home;
             lists = lists T;
+            apart = apart-lists T;
             made = refl;
             entry = entry;
             at = is;

@@ -42,6 +42,7 @@ use Rattle.grs_world.proofs.star.Ghosts.{ghosted}
 use Rattle.grs_world.proofs.star.Mailed.{sent-among}
 use Rattle.grs_world.proofs.star.Members.{has_manager}
 use Rattle.grs_world.proofs.star.OwnEvents.{late-in}
+use Rattle.grs_world.proofs.star.Shown.{AreApart}
 use Rattle.grs_world.proofs.star.Systems.{Away, IsLate, IsSystem, behind-late, here, is_late, late-none, news_of}
 use Rattle.grs_world.proofs.star.hearing.Mails.{answers}
 use Rattle.grs_world.proofs.system.AtNode.{opens_of}
@@ -201,11 +202,12 @@ module _ (deck : Deck) (words : List ℕ) (T : List RunItem) (right : IsHistory 
       ∙ (here deck s T later out n h.at t home).task.distinct
 
 -- ---- an answer comes first
--- What it answers: the request that the task has sent, by some lists.
+-- What it answers: the request that the task has sent, by some lists in which no task stands twice.
 pub record IsAnswered (n : NodeState) (t : TaskId) (answer : Answer) : Type 0 where
   pub asked : Asked
   pub is : (state_of n.tasks t).outstanding ≡ Some asked
   pub lists : State
+  pub apart : AreApart lists
   pub reply : answer ≡ answer_to lists t asked.req.want
   pub sent : is_sent (state_of n.tasks t).phase ≡ true
 
@@ -237,6 +239,7 @@ answer-awaited deck words T right s n t answer rank ms later out h home =
       asked = rq.0;
       is = rq.1;
       lists = i.lists;
+      apart = i.apart;
       reply = sym z.2 ∙ (ap reply_in made ∙ replies_are_answers i.lists t (rq.0).req.want);
       sent = (due-sent deck words T right s n (Answered t answer rank ∷ ms) later out h t home z.0 due).1;
     }

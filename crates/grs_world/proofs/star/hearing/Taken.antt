@@ -66,7 +66,7 @@ use Rattle.grs_world.proofs.star.hearing.Passing.{Grown, Hearable, Requested, ha
 use Rattle.grs_world.proofs.star.hearing.Passing.{is_untold_by, own-recorded-ready, untold-here, untold-own}
 use Rattle.grs_world.specs.World.{World, Turnout, fixed_by, placed}
 use Rattle.grs_wire.specs.Masks.{has}
-use Rattle.grs_world.proofs.star.Shown.{can-show}
+use Rattle.grs_world.proofs.star.Shown.{AreApart, can-show}
 use Rattle.grs_world.proofs.run.Site.{Site, site-below}
 use Rattle.grs_world.proofs.star.Boxes.{taken-box, untaken-box}
 
@@ -155,11 +155,11 @@ gets-enq Absent ret full false =
 gets-deq : (st : Standing) (have : Bool) → is_code_of (deq_codes have) (deq_code st have) ≡ true
 gets-deq st have = grind arith
 
-gets : (s : State) (t : TaskId) (w : Want) → can_get w (answer_to s t w) ≡ true
-gets s t (Enq q c ret full) = gets-enq (standing_of (list_of s q) t) ret full (can_have (list_of s q) c)
-gets s t (Deq q have) = gets-deq (standing_of (list_of s q) t) have
-gets s t (Release q) = refl
-gets s t (Look first count f) = can-show s first count f
+gets : (s : State) → AreApart s → (t : TaskId) (w : Want) → can_get w (answer_to s t w) ≡ true
+gets s apart t (Enq q c ret full) = gets-enq (standing_of (list_of s q) t) ret full (can_have (list_of s q) c)
+gets s apart t (Deq q have) = gets-deq (standing_of (list_of s q) t) have
+gets s apart t (Release q) = refl
+gets s apart t (Look first count f) = can-show s apart first count f
 
 -- ---- the first mail is taken
 module _ (deck : Deck) (w : World) (g : IsWhole deck w) (c : SysId) (n : NodeState) (at : Site w c.0 n) (p : StarPart)
@@ -429,7 +429,7 @@ module _ (deck : Deck) (w : World) (g : IsWhole deck w) (c : SysId) (n : NodeSta
           (and_from (is_task n.tasks t) (is_sent (state_of n.tasks t).phase) (here t home) z.sent)
           (and_from (nat_le rank last_number) (is_awaited answer (state_of n.tasks t).outstanding) low
           (ap (is_awaited answer) z.is
-          ∙ (ap (can_get z.asked.req.want) z.reply ∙ gets z.lists t z.asked.req.want)))
+          ∙ (ap (can_get z.asked.req.want) z.reply ∙ gets z.lists z.apart t z.asked.req.want)))
 
       -- it has none: it has a rank out of time, or is of no task of the system
       takes-nothing : (is_home_at deck c.0 t ≡ true → has_effect n.tasks t answer rank ≡ false)
