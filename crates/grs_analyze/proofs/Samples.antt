@@ -34,12 +34,12 @@ s_of n = record { task = task n; ctl = S }
 abbrev pub res : ℕ → Res
 res n = System (record { 0 = 0 }) (65 ∷ []) (n ∷ [])
 
-abbrev row : ℕ → ℕ → List Elem → Row
-row n owners elems = record { res = res n; elems = elems; owners = owners }
+abbrev queue : ℕ → ℕ → List Elem → Row
+queue n owners elems = record { res = res n; elems = elems; owners = owners }
 
 -- each of two tasks holds what the other waits for
 abbrev pub crossed : List Row
-crossed = row 88 1 (e_of 0 ∷ e_of 1 ∷ []) ∷ row 89 1 (e_of 1 ∷ e_of 0 ∷ []) ∷ []
+crossed = queue 88 1 (e_of 0 ∷ e_of 1 ∷ []) ∷ queue 89 1 (e_of 1 ∷ e_of 0 ∷ []) ∷ []
 
 pub first_depends : depends crossed (task 0) (task 1) ≡ true
 first_depends = refl
@@ -71,7 +71,7 @@ who_is_blocked = refl
 
 -- the walk begins at the least of them, in whichever order the lists stand
 abbrev turned : List Row
-turned = row 88 1 (e_of 1 ∷ e_of 0 ∷ []) ∷ row 89 1 (e_of 0 ∷ e_of 1 ∷ []) ∷ []
+turned = queue 88 1 (e_of 1 ∷ e_of 0 ∷ []) ∷ queue 89 1 (e_of 0 ∷ e_of 1 ∷ []) ∷ []
 
 greater_is_met_first : greatest turned ≡ task 1 ∷ task 0 ∷ []
 greater_is_met_first = refl
@@ -80,13 +80,13 @@ least_still_stands_first : reported_cycle turned ≡ task 0 ∷ task 1 ∷ []
 least_still_stands_first = refl
 
 -- of several that keep a task away the first is told
-first_of_two_is_told : blocked_in (row 88 1 (e_of 2 ∷ e_of 1 ∷ e_of 0 ∷ []))
+first_of_two_is_told : blocked_in (queue 88 1 (e_of 2 ∷ e_of 1 ∷ e_of 0 ∷ []))
     ≡ record { res = res 88; task = task 1; by = task 2 } ∷ record { res = res 88; task = task 0; by = task 2 } ∷ []
 first_of_two_is_told = refl
 
 -- one task waits for the other alone
 abbrev straight : List Row
-straight = row 88 1 (e_of 0 ∷ e_of 1 ∷ []) ∷ []
+straight = queue 88 1 (e_of 0 ∷ e_of 1 ∷ []) ∷ []
 
 nobody_is_left : greatest straight ≡ []
 nobody_is_left = refl
@@ -96,7 +96,7 @@ no_cycle = refl
 
 -- who shares waits behind one that doesn't: not for the owner that shares before it, but for the one between
 abbrev shared : List Row
-shared = row 88 1 (s_of 0 ∷ e_of 1 ∷ s_of 2 ∷ []) ∷ []
+shared = queue 88 1 (s_of 0 ∷ e_of 1 ∷ s_of 2 ∷ []) ∷ []
 
 sharer_waits_for_the_exclusive : depends shared (task 2) (task 1) ≡ true
 sharer_waits_for_the_exclusive = refl
@@ -104,21 +104,21 @@ sharer_waits_for_the_exclusive = refl
 sharer_doesnt_wait_for_a_sharer : depends shared (task 2) (task 0) ≡ false
 sharer_doesnt_wait_for_a_sharer = refl
 
-sharer_is_blocked_by_it : blocked_in (row 88 1 (s_of 0 ∷ e_of 1 ∷ s_of 2 ∷ []))
+sharer_is_blocked_by_it : blocked_in (queue 88 1 (s_of 0 ∷ e_of 1 ∷ s_of 2 ∷ []))
     ≡ record { res = res 88; task = task 1; by = task 0 } ∷ record { res = res 88; task = task 2; by = task 1 } ∷ []
 sharer_is_blocked_by_it = refl
 
 -- owners that share don't wait, and who waits doesn't depend on those behind it
-owners_dont_wait : (depends (row 88 2 (s_of 0 ∷ s_of 1 ∷ e_of 2 ∷ []) ∷ []) (task 1) (task 0)) ≡ false
+owners_dont_wait : (depends (queue 88 2 (s_of 0 ∷ s_of 1 ∷ e_of 2 ∷ []) ∷ []) (task 1) (task 0)) ≡ false
 owners_dont_wait = refl
 
-not_on_those_behind : (depends (row 88 1 (e_of 0 ∷ e_of 1 ∷ e_of 2 ∷ []) ∷ []) (task 1) (task 2)) ≡ false
+not_on_those_behind : (depends (queue 88 1 (e_of 0 ∷ e_of 1 ∷ e_of 2 ∷ []) ∷ []) (task 1) (task 2)) ≡ false
 not_on_those_behind = refl
 
 -- a walk that begins beside the cycle: the first task waits for the second, which is in a circle with the third
 abbrev led_in : List Row
 led_in =
-    row 88 1 (e_of 1 ∷ e_of 0 ∷ []) ∷ row 89 1 (e_of 2 ∷ e_of 1 ∷ []) ∷ row 90 1 (e_of 1 ∷ e_of 2 ∷ []) ∷ []
+    queue 88 1 (e_of 1 ∷ e_of 0 ∷ []) ∷ queue 89 1 (e_of 2 ∷ e_of 1 ∷ []) ∷ queue 90 1 (e_of 1 ∷ e_of 2 ∷ []) ∷ []
 
 all_are_left : greatest led_in ≡ task 1 ∷ task 0 ∷ task 2 ∷ []
 all_are_left = refl
@@ -129,7 +129,8 @@ the_first_isnt_in_it = refl
 -- a task behind the cycle goes on to the least of those on which it depends
 abbrev two_ways : List Row
 two_ways =
-    row 88 1 (e_of 3 ∷ e_of 2 ∷ e_of 0 ∷ []) ∷ row 89 1 (e_of 0 ∷ e_of 2 ∷ []) ∷ row 90 1 (e_of 0 ∷ e_of 3 ∷ []) ∷ []
+    queue 88 1 (e_of 3 ∷ e_of 2 ∷ e_of 0 ∷ []) ∷ queue 89 1 (e_of 0 ∷ e_of 2 ∷ [])
+    ∷ queue 90 1 (e_of 0 ∷ e_of 3 ∷ []) ∷ []
 
 the_lesser_way : reported_cycle two_ways ≡ task 0 ∷ task 2 ∷ []
 the_lesser_way = refl
@@ -170,5 +171,5 @@ text_of_none : cycle_line two [] ≡ codes "CYCLE NONE" ++ 10 ∷ []
 unfolding line cycle_line
 text_of_none = refl
 
-nobody_waits : row_lines two (row 88 1 (e_of 0 ∷ [])) ≡ []
+nobody_waits : row_lines two (queue 88 1 (e_of 0 ∷ [])) ≡ []
 nobody_waits = refl
