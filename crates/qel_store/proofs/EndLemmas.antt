@@ -19,7 +19,7 @@ use Rattle.qel_store.proofs.ItemLemmas.{by_cases, found-members, has_key-none, h
 use Rattle.qel_store.proofs.ItemLemmas.{members-dropped, dropped-absent, length-dropped}
 use Rattle.qel_store.proofs.RingLemmas.{key-tie}
 use Rattle.qel_store.proofs.WalkLemmas.{found-member}
-use Rattle.qel_store.proofs.LinkedLemmas.{of-tied, length-tied, leads-tied, same_task-tied, ring-same, held_of-tied}
+use Rattle.qel_store.proofs.TieLemmas.{of-tied, length-tied, leads-tied, same_task-tied, ring-same, held_of-tied}
 
 -- a circle leads from each element to the next
 threaded-chain : (a : Item) (xs : Items) (z : Item) → chain Task a xs z ≡ true → threaded (a ∷ xs) z.0 ≡ true

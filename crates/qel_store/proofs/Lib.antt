@@ -4,6 +4,7 @@ pub mod RingLemmas
 pub mod WalkLemmas
 pub mod HeadLemmas
 pub mod TaskLemmas
+pub mod TieLemmas
 pub mod LinkedLemmas
 pub mod StandingLemmas
 pub mod EndLemmas

@@ -16,7 +16,7 @@ use Rattle.qel_store.specs.Rings.{leads}
 use Rattle.qel_store.specs.Heads.{head_at, in_use}
 use Rattle.qel_store.specs.Linked.{QueuesLinked, is_live_in}
 use Rattle.qel_store.proofs.ItemLemmas.{by_cases}
-use Rattle.qel_store.proofs.LinkedLemmas.{list_at-held}
+use Rattle.qel_store.proofs.TieLemmas.{list_at-held}
 
 -- where the elements' queues stay in use, and all circles and counts stay
 module _ (xs : Items) (hs gs : List Head) (l : QueuesLinked xs hs)

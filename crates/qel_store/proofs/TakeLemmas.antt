@@ -29,8 +29,9 @@ use Rattle.qel_store.specs.Tasks.{TaskRings, ring_of, is_known}
 use Rattle.qel_store.proofs.ItemLemmas.{by_cases, passes, found-members, has_key-found, has_key-some, has_key-members}
 use Rattle.qel_store.proofs.ItemLemmas.{key_of-members, key_of-passes, changed-absent}
 use Rattle.qel_store.proofs.HeadLemmas.{live_there}
-use Rattle.qel_store.proofs.LinkedLemmas.{QueuesLinked-changed, all_pass-found, held-exclusive, length-members}
-use Rattle.qel_store.proofs.LinkedLemmas.{count_exclusive-le, queued_by-held, list_at-held}
+use Rattle.qel_store.proofs.TieLemmas.{all_pass-found, length-members}
+use Rattle.qel_store.proofs.LinkedLemmas.{QueuesLinked-changed, held-exclusive}
+use Rattle.qel_store.proofs.TieLemmas.{count_exclusive-le, queued_by-held, list_at-held}
 use Rattle.qel_store.proofs.StandingLemmas.{has_task-key, own-there, length-elems_of}
 use Rattle.qel_store.proofs.TaskLemmas.{ring_known}
 use Rattle.qel_store.proofs.WalkLemmas.{found-member, leads-length, circle-length, place_in, place-item}

@@ -10,7 +10,8 @@ use Rattle.qel_store.specs.Heads.{head_at, with_elem}
 use Rattle.qel_store.specs.Tasks.{ring_of}
 use Rattle.qel_store.proofs.ItemLemmas.{has_key-none}
 use Rattle.qel_store.proofs.HeadLemmas.{live_there, live-kept}
-use Rattle.qel_store.proofs.LinkedLemmas.{has_key-tied, has_neighbours-tied, queue_neighbours, task_neighbours, pushed}
+use Rattle.qel_store.proofs.TieLemmas.{has_key-tied, has_neighbours-tied}
+use Rattle.qel_store.proofs.LinkedLemmas.{queue_neighbours, task_neighbours, pushed}
 use Rattle.qel_store.proofs.TakeLemmas.{first_has, ring_few, exclusives_few, queue_circle, task_circle}
 use Rattle.qel_store.proofs.linked.push_in.Goals as goal
 

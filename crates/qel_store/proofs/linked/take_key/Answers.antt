@@ -7,7 +7,8 @@ use Rattle.qel_store.specs.declared.elements.Side.TheVariants.{Task}
 use Rattle.qel_store.specs.Items.{Items, has_key, held_of}
 use Rattle.qel_store.specs.Rings.{has_neighbours, tied}
 use Rattle.qel_store.specs.Linked.{QueuesLinked, AllLinked}
-use Rattle.qel_store.proofs.LinkedLemmas.{unqueued-absent, task_neighbours-taken, QueuesLinked-tied, AllLinked-taken}
+use Rattle.qel_store.proofs.TieLemmas.{unqueued-absent, task_neighbours-taken}
+use Rattle.qel_store.proofs.LinkedLemmas.{QueuesLinked-tied, AllLinked-taken}
 use Rattle.qel_store.proofs.LinkedLemmas.{held-taken}
 use Rattle.qel_store.proofs.TakeLemmas.{task_known}
 use Rattle.qel_store.proofs.linked.take_key.Goals as goal

@@ -7,7 +7,8 @@ use Rattle.qel_store.specs.Heads.{head_at, exclusive_one, without_elem}
 use Rattle.qel_store.specs.Linked.{QueuesLinked}
 use Rattle.qel_store.proofs.ItemLemmas.{has_key-found, has_key-dropped_itself}
 use Rattle.qel_store.proofs.HeadLemmas.{live-kept}
-use Rattle.qel_store.proofs.LinkedLemmas.{queue_there, exclusive_there, queue_neighbours-taken, QueuesLinked-taken}
+use Rattle.qel_store.proofs.TieLemmas.{queue_there, exclusive_there, queue_neighbours-taken}
+use Rattle.qel_store.proofs.LinkedLemmas.{QueuesLinked-taken}
 use Rattle.qel_store.proofs.linked.unqueue.Goals as goal
 
 pub remove-element-requires : goal.remove-element-requires

@@ -3,7 +3,7 @@ use Rattle.grs_base.specs.Lists.{all_shared}
 use Rattle.qel_store.specs.declared.heads.Head.{Head}
 use Rattle.qel_store.specs.Items.{members, is_in}
 use Rattle.qel_store.proofs.HeadLemmas.{live_there}
-use Rattle.qel_store.proofs.LinkedLemmas.{list_at-held}
+use Rattle.qel_store.proofs.TieLemmas.{list_at-held}
 use Rattle.qel_store.proofs.StandingLemmas.{shared_of-count}
 use Rattle.qel_store.proofs.linked.LinkedQueuesQueues.all_shared.Goals as goal
 

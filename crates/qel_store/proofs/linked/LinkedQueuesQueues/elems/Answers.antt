@@ -4,7 +4,7 @@ use Rattle.grs_base.specs.Lists.{is_apart}
 use Rattle.grs_base.specs.State.{list_at}
 use Rattle.grs_base.specs.declared.resource.Elem.{Elem}
 use Rattle.qel_store.specs.Items.{held_of}
-use Rattle.qel_store.proofs.LinkedLemmas.{list_at-held}
+use Rattle.qel_store.proofs.TieLemmas.{list_at-held}
 use Rattle.qel_store.proofs.linked.LinkedQueuesQueues.elems.Goals as goal
 
 on_ok : {A B : Type 0} (r : Result A B) (P : Type 0) → P → OnOk r P

@@ -1,7 +1,7 @@
 use Rattle.std.proofs.Common.{◌∙◌, List, ap, sym}
 use Rattle.grs_base.specs.Lists.{standing_of}
 use Rattle.grs_base.specs.declared.resource.Elem.{Elem}
-use Rattle.qel_store.proofs.LinkedLemmas.{list_at-held}
+use Rattle.qel_store.proofs.TieLemmas.{list_at-held}
 use Rattle.qel_store.proofs.linked.LinkedQueuesQueues.standing.Goals as goal
 
 pub returns : goal.returns

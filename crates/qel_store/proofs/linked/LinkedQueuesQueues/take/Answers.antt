@@ -1,7 +1,7 @@
 use Rattle.std.proofs.Common.{◌<◌, ◌∙◌, List, ap, length, subst}
 use Rattle.std.specs.Prelude.{slice_get}
 use Rattle.grs_base.specs.declared.resource.Elem.{Elem}
-use Rattle.qel_store.proofs.LinkedLemmas.{list_at-held}
+use Rattle.qel_store.proofs.TieLemmas.{list_at-held}
 use Rattle.qel_store.proofs.linked.LinkedQueuesQueues.take.Goals as goal
 
 pub take_in-requires-clause-place : goal.take_in-requires-clause-place

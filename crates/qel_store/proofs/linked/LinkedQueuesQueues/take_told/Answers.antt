@@ -3,7 +3,7 @@ use Rattle.std.specs.Prelude.{IfOk}
 use Rattle.grs_base.specs.Behind.{tasks_behind}
 use Rattle.grs_base.specs.Lists.{is_apart, place_of}
 use Rattle.grs_base.specs.declared.resource.Elem.{Elem}
-use Rattle.qel_store.proofs.LinkedLemmas.{list_at-held}
+use Rattle.qel_store.proofs.TieLemmas.{list_at-held}
 use Rattle.qel_store.proofs.linked.LinkedQueuesQueues.take_told.Goals as goal
 
 pub returns-clause-apart : goal.returns-clause-apart

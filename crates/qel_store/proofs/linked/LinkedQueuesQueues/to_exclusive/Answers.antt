@@ -3,7 +3,7 @@ use Rattle.std.specs.Prelude.{IfSome, slice_get}
 use Rattle.grs_base.specs.State.{with_exclusive}
 use Rattle.grs_base.specs.declared.resource.Elem.{Elem}
 use Rattle.qel_store.specs.Items.{held_of}
-use Rattle.qel_store.proofs.LinkedLemmas.{list_at-held}
+use Rattle.qel_store.proofs.TieLemmas.{list_at-held}
 use Rattle.qel_store.proofs.linked.LinkedQueuesQueues.to_exclusive.Goals as goal
 
 pub exclude_in-requires-clause-place : goal.exclude_in-requires-clause-place
