@@ -1,5 +1,5 @@
 -- Worked texts, by which the definitions are checked.
-use Rattle.std.proofs.Common.{◌≡◌, ℕ, true, false, List, [], ◌∷◌, ◌++◌, Some, None, refl}
+use Rattle.std.proofs.Common.{◌≡◌, ◌≤◌, ℕ, true, false, List, [], ◌∷◌, ◌++◌, length, Some, None, refl, arith}
 use Rattle.std.specs.Prelude.{codes}
 use Rattle.std.specs.Fmt.{digits}
 use Rattle.deck_form.specs.Words as words
@@ -14,6 +14,7 @@ use Rattle.grs_base.specs.declared.resource.TaskId.{TaskId}
 use Rattle.grs_base.specs.declared.rnl.Which.TheVariants as which
 use Rattle.grs_base.specs.Rnl.{no_entries}
 use Rattle.grs_wire.specs.declared.deck.Deck.{Deck}
+use Rattle.grs_wire.specs.declared.history.HistEntry.{HistEntry}
 use Rattle.grs_wire.specs.declared.history.HistEntry.TheVariants.{Enq, Deq}
 use Rattle.grs_display.specs.Lines.{line}
 use Rattle.grs_display.specs.Names.{names_of, name_at, name_in, task_in_job, task_word}
@@ -21,6 +22,7 @@ use Rattle.grs_display.specs.Rows.{names_word, res_word}
 use Rattle.grs_report.specs.History.{history_line}
 use Rattle.grs_audit.specs.Lines.{lines_in, behind}
 use Rattle.grs_audit.specs.Verdicts.{count_in, IsVerdict}
+use Rattle.grs_audit.specs.Way.{told_word, way}
 use Rattle.grs_audit.specs.Words.{asker_word, behind_asker}
 use Rattle.grs_audit.specs.declared.verdict.Verdict.TheVariants.{Yes, No}
 use Rattle.grs_audit.proofs.OneVerdict.{one_verdict}
@@ -141,3 +143,37 @@ no_line_wrong v = let e = one_verdict deck report 10 Yes (No 17) whole_report v 
 -- where there is no report, it is missing behind the deck
 no_report : IsVerdict deck [] 10 (No 10)
 no_report = refl
+
+-- behind no entry TOLD is wanted, so a line in its place is the first that can't stand
+abbrev untold : List ℕ
+untold =
+    ended (codes "GRS REPORT 1")
+    ++ ended (codes "SCHEDULE 0")
+    ++ ended (codes "HISTORY 0")
+    ++ ended (codes "SYSTEM SYA")
+
+other_than_told : (rest : List (List ℕ)) → codes "SYSTEM SYA" ∷ [] ≡ told_word ∷ rest → ⊥
+other_than_told rest e = absurd (cc)
+
+no_way : (hist : List HistEntry) (rest : List (List ℕ)) → length hist ≤ 0
+    → way deck 0 hist ≡ codes "SYSTEM SYA" ∷ rest → ⊥
+no_way [] rest few e = absurd (cc)
+no_way (h ∷ hist) rest few e = absurd (omega (arith, few))
+
+no_whole : (hist : List HistEntry) (rest : List (List ℕ)) → length hist ≡ 0
+    → codes "SYSTEM SYA" ∷ [] ≡ way deck 0 hist ++ rest → ⊥
+no_whole [] rest count e = other_than_told rest e
+no_whole (h ∷ hist) rest count e = absurd (omega (arith, count))
+
+pub told_wanted : IsVerdict deck untold 10 (No 13)
+unfolding words.digits
+told_wanted = (
+  0,
+  refl,
+  record {
+    whole = λ w. no_whole w.hist w.rest w.count w.begins;
+    within = omega arith;
+    on = record { hist = []; legal = tt; few = omega arith; rest = told_word ∷ []; front = refl };
+    off = λ some on. no_way on.hist on.rest on.few on.front;
+  },
+)
