@@ -1,11 +1,11 @@
 -- Where a report begins, found line by line.
-use Rattle.std.proofs.Common.{◌≡◌, ◌<◌, ◌≤◌, ◌+◌, ◌-◌, ℕ, suc, Bool, true, false, cond, ◌&&◌, List, [], ◌∷◌, ◌++◌, length}
-use Rattle.std.proofs.Common.{take, drop, ◌^◌, refl, ap, sym, subst, ◌∙◌, arith, append_assoc, append-nil, length-append}
+use Rattle.std.proofs.Common.{◌≡◌, ◌<◌, ◌≤◌, ◌+◌, ◌-◌, ℕ, suc, Bool, true, false, cond, List, [], ◌∷◌, ◌++◌, length}
+use Rattle.std.proofs.Common.{take, drop, ◌^◌, refl, ap, sym, subst, ◌∙◌, arith, append_assoc, length-append}
 use Rattle.std.specs.Prelude.{◌==◌}
 use Rattle.std.proofs.lemmas.Bool.{eqb-true}
 use Rattle.std.specs.Str.{bytes_eq}
 use Rattle.grs_audit.specs.Found.{IsReportAt}
-use Rattle.grs_audit.specs.Halves.{most_audited_bytes, report_word, report_at, deck_part, report_part, first_line}
+use Rattle.grs_audit.specs.Halves.{most_audited_bytes, report_word, report_at, deck_part}
 use Rattle.grs_audit.specs.Lines.{before_lines, lines_in, front, behind}
 use Rattle.grs_audit.proofs.HeadLaws.{behind-shorter, lines-some}
 use Rattle.grs_audit.proofs.LineLaws.{lines-append}

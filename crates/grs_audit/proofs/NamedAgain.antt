@@ -1,7 +1,7 @@
 -- The names of a deck find their systems, jobs and tasks again.
-use Rattle.std.proofs.Common.{◌≡◌, ℕ, zero, suc, ◌+◌, ◌<◌, Bool, true, false, cond, not, ltb, List, [], ◌∷◌, ◌++◌}
+use Rattle.std.proofs.Common.{◌≡◌, ℕ, zero, suc, ◌+◌, ◌<◌, Bool, true, false, List, [], ◌∷◌, ◌++◌}
 use Rattle.std.proofs.Common.{length}
-use Rattle.std.proofs.Common.{map, take, get_or, Option, Some, None, refl, sym, ap, subst, ◌∙◌, arith, length-append}
+use Rattle.std.proofs.Common.{map, take, get_or, Option, Some, refl, sym, ap, subst, ◌∙◌, arith}
 use Rattle.std.specs.Prelude.{All, ◌≢◌, slice_get, unwrap_or}
 use Rattle.std.specs.Str.{bytes_eq}
 use Rattle.std.specs.List.{flat_map, position, position_or_len}
@@ -13,13 +13,11 @@ use Rattle.std.proofs.lemmas.Slice.Eq.{bytes_eq-Decides}
 use Rattle.grs_base.specs.ShortNames.{IsShortName}
 use Rattle.grs_base.specs.declared.resource.SysId.{SysId}
 use Rattle.grs_base.specs.declared.resource.TaskId.{TaskId}
-use Rattle.grs_wire.specs.Decks.{task_count, all_names, AreDistinct, IsNamedOnce, IsTaskOf, IsDeck}
-use Rattle.grs_wire.specs.declared.seen.Names.{Names}
+use Rattle.grs_wire.specs.Decks.{task_count, AreDistinct, IsNamedOnce, IsTaskOf, IsDeck}
 use Rattle.grs_wire.specs.declared.deck.TaskDef.{TaskDef}
 use Rattle.grs_wire.specs.declared.deck.JobDef.{JobDef}
 use Rattle.grs_wire.specs.declared.deck.SystemDef.{SystemDef}
 use Rattle.grs_wire.specs.declared.deck.Deck.{Deck}
-use Rattle.deck_scan.specs.Next.{◌>>=◌}
 use Rattle.grs_deck.specs.Places.{system_place, job_place, task_place, system_at, system_id, task_in}
 use Rattle.grs_display.specs.Names.{names_of_jobs, names_of_tasks, names_in_jobs, names_of, name_at, name_in}
 

@@ -1,5 +1,5 @@
 -- A text has one verdict.
-use Rattle.std.proofs.Common.{◌≡◌, ◌<◌, ◌≤◌, ◌+◌, ℕ, zero, suc, Bool, true, false, List, [], ◌∷◌, ◌++◌, length, take, drop}
+use Rattle.std.proofs.Common.{◌≡◌, ◌<◌, ◌≤◌, ℕ, zero, suc, Bool, true, false, List, [], ◌∷◌, ◌++◌, length, take, drop}
 use Rattle.std.proofs.Common.{Option, Some, None, refl, ap, sym, ◌∙◌, arith, append_assoc}
 use Rattle.std.specs.Prelude.{nat_lt}
 use Rattle.std.proofs.lemmas.Bool.{ltb-true, ltb-false}
@@ -7,7 +7,7 @@ use Rattle.std.proofs.lemmas.List.{take-append-drop}
 use Rattle.grs_wire.specs.declared.deck.Deck.{Deck}
 use Rattle.grs_audit.specs.Lines.{lines_in}
 use Rattle.grs_audit.specs.Verdicts.{Head, head_in, IsVerdictBehind, IsVerdictOn, OneVerdict}
-use Rattle.grs_audit.specs.Way.{way, IsOnTheWay, IsOff}
+use Rattle.grs_audit.specs.Way.{IsOnTheWay, IsOff}
 use Rattle.grs_audit.specs.declared.verdict.Verdict.{Verdict}
 use Rattle.grs_audit.specs.declared.verdict.Verdict.TheVariants.{Yes, No}
 

@@ -1,6 +1,6 @@
 -- A report whose history is legal is answered Yes.
-use Rattle.std.proofs.Common.{◌≡◌, ◌<◌, ◌≤◌, ◌+◌, ◌-◌, ◌*◌, ◌/◌, ◌%◌, ◌^◌, ℕ, zero, suc, Bool, true, false, cond, ◌&&◌, ◌||◌, List, []}
-use Rattle.std.proofs.Common.{◌∷◌, ◌++◌, length, take, drop, get_or, Option, Some, None, refl, ap, sym, subst, ◌∙◌, arith}
+use Rattle.std.proofs.Common.{◌≡◌, ◌<◌, ◌≤◌, ◌+◌, ◌-◌, ◌*◌, ◌/◌, ◌%◌, ◌^◌, ℕ, zero, suc, Bool, true, false, cond, List, []}
+use Rattle.std.proofs.Common.{◌∷◌, ◌++◌, length, take, drop, get_or, Some, None, refl, ap, sym, subst, ◌∙◌, arith}
 use Rattle.std.proofs.Common.{append_assoc, append-nil, length-append}
 use Rattle.std.specs.Prelude.{◌==◌, All, codes, if◌then◌else◌}
 use Rattle.std.specs.Fmt.{decimal}
@@ -39,10 +39,10 @@ use Rattle.grs_wire.specs.declared.seen.Names.{Names}
 use Rattle.grs_wire.specs.declared.seen.Seen.{Seen}
 use Rattle.grs_base.specs.declared.resource.SysId.{SysId}
 use Rattle.grs_audit.specs.Halves.{report_at}
-use Rattle.grs_audit.specs.Lines.{lines_in, front, behind, holds}
+use Rattle.grs_audit.specs.Lines.{lines_in, behind, holds}
 use Rattle.grs_audit.specs.Reports.{ReportsAreYes}
 use Rattle.grs_audit.specs.Verdicts.{Head, later, head_by, head_in, history_word, count_in, plain_number, IsVerdictOn}
-use Rattle.grs_audit.specs.Way.{told_word, printed, told_behind, way, IsWhole}
+use Rattle.grs_audit.specs.Way.{told_word, printed, IsWhole}
 use Rattle.grs_audit.specs.declared.verdict.Verdict.TheVariants.{Yes}
 use Rattle.grs_audit.proofs.HeadLaws.{lines-some}
 use Rattle.grs_audit.proofs.LineLaws.{front-past, behind-past, holds-parts, holds-past, lines-append}

@@ -20,7 +20,7 @@ use Rattle.grs_display.specs.Lines.{line}
 use Rattle.grs_display.specs.Names.{names_of, name_at, name_in, task_in_job, task_word}
 use Rattle.grs_display.specs.Rows.{names_word, res_word}
 use Rattle.grs_report.specs.History.{history_line}
-use Rattle.grs_audit.specs.Lines.{lines_in, behind}
+use Rattle.grs_audit.specs.Lines.{lines_in}
 use Rattle.grs_audit.specs.Verdicts.{count_in, IsVerdict}
 use Rattle.grs_audit.specs.Way.{told_word, way}
 use Rattle.grs_audit.specs.Words.{asker_word, behind_asker}

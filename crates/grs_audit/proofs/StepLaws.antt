@@ -15,7 +15,7 @@ use Rattle.grs_report.specs.History.{history_line, history_lines}
 use Rattle.grs_track.specs.Tracks.{TracksView, IsBehind, MayCome, GoesOn}
 use Rattle.grs_track.proofs.Standing.{stands_by_tracks, longer_by_tracks}
 use Rattle.grs_audit.specs.Lines.{lines_in, front}
-use Rattle.grs_audit.specs.Way.{told_word, printed, told_behind, way, IsOnTheWay, IsWhole, IsOff}
+use Rattle.grs_audit.specs.Way.{told_word, printed, told_behind, IsOnTheWay, IsWhole, IsOff}
 use Rattle.grs_audit.specs.Words.{next_by_line, NextLineIsSaid}
 use Rattle.grs_audit.proofs.WordLaws.{says-next}
 use Rattle.grs_audit.proofs.WayLaws.{entry_lines, entry_first, entry_more, entry-begins, no-told, Begins, one-way}

@@ -1,5 +1,5 @@
 -- The verdict on a text, by its first line of a history and by the lines behind.
-use Rattle.std.proofs.Common.{◌≡◌, ◌≤◌, ◌<◌, ◌+◌, ℕ, suc, List, [], ◌∷◌, length, Bor, Option, Some, None, refl, ap, sym, subst}
+use Rattle.std.proofs.Common.{◌≡◌, ◌≤◌, ◌+◌, ℕ, suc, List, [], ◌∷◌, length, Bor, Option, Some, None, refl, ap, sym, subst}
 use Rattle.std.proofs.Common.{arith}
 use Rattle.grs_wire.specs.declared.deck.Deck.{Deck}
 use Rattle.grs_audit.specs.Found.{capped, IsFound}

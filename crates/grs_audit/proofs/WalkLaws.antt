@@ -15,7 +15,7 @@ use Rattle.grs_deck.specs.Places.{system_at, task_in}
 use Rattle.grs_display.specs.Names.{names_of}
 use Rattle.grs_wire.specs.declared.seen.Names.{Names}
 use Rattle.grs_report.specs.History.{history_line}
-use Rattle.grs_track.specs.Tracks.{TracksView, IsBehind, GoesOn, MayCome, next_of, next_removal, may_remove}
+use Rattle.grs_track.specs.Tracks.{TracksView, IsBehind, GoesOn, MayCome, may_remove}
 use Rattle.grs_track.proofs.Standing.{next_is_own}
 use Rattle.grs_audit.specs.Compared.{Parts, AreCompared}
 use Rattle.grs_audit.specs.Lines.{most_lines, lines_in, front, behind, holds}

@@ -19,7 +19,7 @@ use Rattle.grs_report.specs.History.{history_line, history_lines}
 use Rattle.grs_track.specs.Tracks.{tracks_of, IsBehind}
 use Rattle.grs_track.proofs.Standing.{stands_by_tracks}
 use Rattle.grs_audit.specs.Lines.{lines_in, front, behind}
-use Rattle.grs_audit.specs.Way.{told_word, printed, way}
+use Rattle.grs_audit.specs.Way.{told_word, printed}
 use Rattle.grs_audit.specs.Words.{next_by_line}
 use Rattle.grs_audit.proofs.LineLaws.{lines-append, lines-cut}
 use Rattle.grs_audit.proofs.WordLaws.{entry-asked, says-next}

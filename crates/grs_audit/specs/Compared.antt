@@ -1,5 +1,5 @@
 -- How far lines begin with others that are wanted.
-use Rattle.std.specs.Prelude.{◌≡◌, ℕ, List, [], ◌∷◌, ◌++◌, length}
+use Rattle.std.specs.Prelude.{◌≡◌, ℕ, List, ◌∷◌, ◌++◌, length}
 use Rattle.grs_audit.specs.Lines.{lines_in}
 use Rattle.grs_audit.specs.declared.compare.Compared.{Compared}
 use Rattle.grs_audit.specs.declared.compare.Compared.TheVariants as compared

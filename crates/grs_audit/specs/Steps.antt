@@ -1,12 +1,12 @@
 -- What one entry more comes to.
-use Rattle.std.specs.Prelude.{◌≡◌, ℕ, List, [], ◌∷◌, ◌++◌, length, Option, Some, None, Result}
+use Rattle.std.specs.Prelude.{◌≡◌, ℕ, List, [], ◌∷◌, ◌++◌, length, Option, Some, None}
 use Rattle.grs_wire.specs.declared.deck.Deck.{Deck}
 use Rattle.grs_wire.specs.declared.history.HistEntry.{HistEntry}
 use Rattle.grs_wire.specs.declared.seen.Names.{Names}
 use Rattle.grs_report.specs.History.{history_line}
 use Rattle.grs_track.specs.Tracks.{TracksView, GoesOn}
 use Rattle.grs_audit.specs.Compared.{Parts}
-use Rattle.grs_audit.specs.Lines.{lines_in, front}
+use Rattle.grs_audit.specs.Lines.{lines_in}
 use Rattle.grs_audit.specs.Way.{IsWhole, IsOff}
 use Rattle.grs_audit.specs.Words.{next_by_line}
 use Rattle.grs_audit.specs.declared.compare.Compared.{Compared}

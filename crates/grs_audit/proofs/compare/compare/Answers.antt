@@ -1,6 +1,6 @@
 use Rattle.std.proofs.Common.{◌<◌, ℕ, List, length, sym, subst}
 use Rattle.grs_audit.specs.Lines.{front}
-use Rattle.grs_audit.proofs.CompareLaws.{alike-end, alike-other, alike-more, alike-all}
+use Rattle.grs_audit.proofs.CompareLaws.{alike-end, alike-other, alike-more}
 use Rattle.grs_audit.proofs.HeadLaws.{behind-shorter}
 use Rattle.grs_audit.proofs.PartLaws.{some-from, none-from, same-from, other-from}
 use Rattle.grs_audit.proofs.compare.compare.Goals as goal

@@ -1,4 +1,4 @@
-use Rattle.std.proofs.Common.{length, arith}
+use Rattle.std.proofs.Common.{arith}
 use Rattle.grs_audit.proofs.PartLaws.{lines-few}
 use Rattle.grs_audit.proofs.halves.halves_of.Goals as goal
 
