@@ -2,21 +2,23 @@
 use Rattle.std.proofs.Common.{◌≡◌, ℕ, true, false, List, [], ◌∷◌, ◌++◌, refl}
 use Rattle.std.specs.Prelude.{codes}
 use Rattle.std.specs.List.{flat_map}
+use Rattle.std.specs.Fmt.{digits}
 use Rattle.grs_base.specs.declared.resource.TaskId.{TaskId}
 use Rattle.grs_base.specs.declared.resource.Res.{Res}
 use Rattle.grs_base.specs.declared.resource.Res.TheVariants.{System}
 use Rattle.grs_base.specs.declared.resource.Row.{Row}
 use Rattle.grs_base.specs.declared.resource.Elem.{Elem}
 use Rattle.grs_base.specs.declared.resource.Ctl.TheVariants.{E, S}
+use Rattle.grs_wire.specs.declared.deck.Deck.{Deck}
 use Rattle.grs_wire.specs.declared.seen.Names.{Names}
 use Rattle.grs_display.specs.Lines.{line}
-use Rattle.grs_display.specs.Names.{name_at, name_in, task_in_job, task_word}
+use Rattle.grs_display.specs.Names.{names_of, name_at, name_in, task_in_job, task_word}
 use Rattle.grs_display.specs.Rows.{names_word, res_word, elem_word, row_line}
 use Rattle.grs_analyze.specs.Depends.{depends}
 use Rattle.grs_analyze.specs.Greatest.{greatest}
 use Rattle.grs_analyze.specs.Walk.{is_less, reported_cycle, is_cycle}
 use Rattle.grs_analyze.specs.Waits.{blocked_in}
-use Rattle.grs_analyze.specs.Text.{wait_line, row_lines, cycle_line}
+use Rattle.grs_analyze.specs.Text.{wait_line, row_lines, cycle_line, analysis_text}
 
 -- a task of the first job of the first system, and one of a system
 abbrev pub task : ℕ → TaskId
@@ -170,6 +172,18 @@ text_of_the_cycle = refl
 text_of_none : cycle_line two [] ≡ codes "CYCLE NONE" ++ 10 ∷ []
 unfolding line cycle_line
 text_of_none = refl
+
+whole_text : (deck : Deck) → analysis_text deck crossed
+    ≡ (codes "ANALYZE 2" ++ 10 ∷ [])
+    ++ flat_map (row_lines (names_of deck)) crossed
+    ++ cycle_line (names_of deck) (task 0 ∷ task 1 ∷ [])
+unfolding digits line analysis_text
+whole_text deck = refl
+
+pub text_of_no_list : (deck : Deck) → analysis_text deck []
+    ≡ (codes "ANALYZE 0" ++ 10 ∷ []) ++ codes "CYCLE NONE" ++ 10 ∷ []
+unfolding digits line cycle_line analysis_text
+text_of_no_list deck = refl
 
 nobody_waits : row_lines two (queue 88 1 (e_of 0 ∷ [])) ≡ []
 nobody_waits = refl

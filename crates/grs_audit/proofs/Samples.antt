@@ -1,8 +1,11 @@
 -- Worked texts, by which the definitions are checked.
 use Rattle.std.proofs.Common.{◌≡◌, ◌≤◌, ℕ, true, false, List, [], ◌∷◌, ◌++◌, length, Some, None, refl, arith}
+use Rattle.std.proofs.Common.{◌∙◌, ◌*◌, subst, append_assoc, inl, inr}
 use Rattle.std.specs.Prelude.{codes}
 use Rattle.std.specs.Fmt.{digits}
 use Rattle.deck_form.specs.Words as words
+use Rattle.grs_base.specs.declared.fault.DeckFault.{DeckFault}
+use Rattle.grs_base.specs.declared.fault.Kind.TheVariants.{TooLong}
 use Rattle.grs_base.specs.declared.decision.Code.TheVariants.{C00}
 use Rattle.grs_base.specs.declared.line.Line.TheVariants as texts
 use Rattle.grs_base.specs.declared.line.Scope.TheVariants as scopes
@@ -16,13 +19,17 @@ use Rattle.grs_base.specs.Rnl.{no_entries}
 use Rattle.grs_wire.specs.declared.deck.Deck.{Deck}
 use Rattle.grs_wire.specs.declared.history.HistEntry.{HistEntry}
 use Rattle.grs_wire.specs.declared.history.HistEntry.TheVariants.{Enq, Deq}
+use Rattle.grs_legal.specs.Legal.{Legal}
+use Rattle.grs_deck.specs.Faults.{IsFault}
 use Rattle.grs_display.specs.Lines.{line}
 use Rattle.grs_display.specs.Names.{names_of, name_at, name_in, task_in_job, task_word}
 use Rattle.grs_display.specs.Rows.{names_word, res_word}
 use Rattle.grs_report.specs.History.{history_line}
+use Rattle.grs_audit.specs.Halves.{deck_part, report_part, first_line, most_audited_bytes, IsFaultOfAudited}
 use Rattle.grs_audit.specs.Lines.{lines_in}
+use Rattle.grs_audit.specs.Text.{verdict_text}
 use Rattle.grs_audit.specs.Verdicts.{count_in, IsVerdict}
-use Rattle.grs_audit.specs.Way.{told_word, way}
+use Rattle.grs_audit.specs.Way.{told_word, told_behind, printed, way}
 use Rattle.grs_audit.specs.Words.{asker_word, behind_asker}
 use Rattle.grs_audit.specs.declared.verdict.Verdict.TheVariants.{Yes, No}
 use Rattle.grs_audit.proofs.OneVerdict.{one_verdict}
@@ -109,28 +116,39 @@ deck = record {
 abbrev ended : List ℕ → List ℕ
 ended text = text ++ 10 ∷ []
 
-abbrev report : List ℕ
-report =
+abbrev entries : List ℕ
+entries =
+    ended (codes "H 1 SYA.J1.T1 ENQ SYSTEM(SYA,PAYROLL,MASTER) E NONE 00")
+    ++ ended (codes "H 2 SYA.J1.T1 DEQ SYSTEM(SYA,PAYROLL,MASTER) NONE 00")
+
+abbrev up_to_entries : List ℕ
+up_to_entries =
     ended (codes "GRS REPORT 1")
     ++ ended (codes "SCHEDULE 3")
     ++ ended (codes "SYA TASK J1.T1")
     ++ ended (codes "SYA TASK J1.T1")
     ++ ended (codes "SYA TASK J1.T1")
     ++ ended (codes "HISTORY 2")
-    ++ ended (codes "H 1 SYA.J1.T1 ENQ SYSTEM(SYA,PAYROLL,MASTER) E NONE 00")
-    ++ ended (codes "H 2 SYA.J1.T1 DEQ SYSTEM(SYA,PAYROLL,MASTER) NONE 00")
-    ++ ended (codes "TOLD")
-    ++ ended (codes "SYSTEM SYA")
+    ++ entries
+
+abbrev report : List ℕ
+report = up_to_entries ++ ended (codes "TOLD") ++ ended (codes "SYSTEM SYA")
 
 -- its deck has nine lines
+abbrev both : List HistEntry
+both = Enq task payroll E RetNone C00 ∷ Deq task payroll false C00 ∷ []
+
+they_are_legal : Legal deck both
+they_are_legal = (
+  record { reply = refl; live = refl; next = refl; waited = tt; passed = refl },
+  (record { reply = refl; live = refl; next = refl; waited = λ e. absurd (cc); passed = refl }, tt),
+)
+
 pub whole_report : IsVerdict deck report 10 Yes
 unfolding words.digits digits line names_of name_at name_in task_in_job task_word names_word res_word history_line
 whole_report = record {
-  hist = Enq task payroll E RetNone C00 ∷ Deq task payroll false C00 ∷ [];
-  legal = (
-    record { reply = refl; live = refl; next = refl; waited = tt; passed = refl },
-    (record { reply = refl; live = refl; next = refl; waited = λ e. absurd (cc); passed = refl }, tt),
-  );
+  hist = both;
+  legal = they_are_legal;
   count = refl;
   rest = codes "SYSTEM SYA" ∷ [];
   begins = refl;
@@ -143,6 +161,11 @@ no_line_wrong v = let e = one_verdict deck report 10 Yes (No 17) whole_report v 
 -- where there is no report, it is missing behind the deck
 no_report : IsVerdict deck [] 10 (No 10)
 no_report = refl
+
+-- as it is where no line begins a history, behind the last line
+pub no_history : IsVerdict deck (ended (codes "GRS REPORT 1") ++ ended (codes "HISTORY 02")) 10 (No 12)
+unfolding words.digits
+no_history = refl
 
 -- behind no entry TOLD is wanted, so a line in its place is the first that can't stand
 abbrev untold : List ℕ
@@ -177,3 +200,73 @@ told_wanted = (
     off = λ some on. no_way on.hist on.rest on.few on.front;
   },
 )
+
+-- behind both entries TOLD is wanted, and a text that ends there lacks it: the line behind its last one is told
+told_of_two : (x y : List ℕ) (printed rest : List (List ℕ)) → (x ≡ told_word → ⊥) → (y ≡ told_word → ⊥)
+    → x ∷ y ∷ [] ≡ printed ++ told_word ∷ rest → ⊥
+told_of_two x y [] rest a b e = a (cc (e))
+told_of_two x y (p ∷ []) rest a b e = b (cc (e))
+told_of_two x y (p ∷ q ∷ []) rest a b e = absurd (cc (e))
+told_of_two x y (p ∷ q ∷ r ∷ ps) rest a b e = absurd (cc (e))
+
+no_told_behind : (x y : List ℕ) (hist : List HistEntry) (rest : List (List ℕ)) → (x ≡ told_word → ⊥)
+    → (y ≡ told_word → ⊥) → length hist ≡ 2 → x ∷ y ∷ [] ≡ way deck 2 hist ++ rest → ⊥
+no_told_behind x y hist rest a b count e =
+    told_of_two x y (printed deck 1 hist) rest a b
+    (subst (λ n. x ∷ y ∷ [] ≡ (printed deck 1 hist ++ told_behind 2 n) ++ rest) count e
+    ∙ append_assoc (printed deck 1 hist) (told_word ∷ []) rest)
+
+pub told_missing : IsVerdict deck up_to_entries 10 (No 18)
+unfolding words.digits digits line names_of name_at name_in task_in_job task_word names_word res_word history_line
+told_missing = (
+  2,
+  refl,
+  record {
+    whole = λ w.
+        no_told_behind (codes "H 1 SYA.J1.T1 ENQ SYSTEM(SYA,PAYROLL,MASTER) E NONE 00")
+        (codes "H 2 SYA.J1.T1 DEQ SYSTEM(SYA,PAYROLL,MASTER) NONE 00") w.hist w.rest (λ e. absurd (cc)) (λ e. absurd (cc))
+        w.count w.begins;
+    within = omega arith;
+    on = record { hist = both; legal = they_are_legal; few = omega arith; rest = told_word ∷ []; front = refl };
+    off = λ some. absurd (omega (arith, some));
+  },
+)
+
+-- ---- a deck and a report in one text: the report begins at the first line that is its word, whole
+abbrev two_lines : List ℕ
+two_lines = ended (codes "SYSTEM SYA") ++ ended (codes "* GRS REPORT 1")
+
+deck_before : deck_part (two_lines ++ up_to_entries) ≡ two_lines
+deck_before = refl
+
+report_behind : report_part (two_lines ++ up_to_entries) ≡ up_to_entries
+report_behind = refl
+
+it_begins_behind_both : first_line (two_lines ++ up_to_entries) ≡ 3
+it_begins_behind_both = refl
+
+other_report : report_part (ended (codes "GRS REPORT 10") ++ ended (codes "GRS REPORT 1 ")) ≡ []
+other_report = refl
+
+-- one whose last line end is missing has a first line too
+nothing_behind : first_line (codes "SYSTEM SYA") ≡ 2
+nothing_behind = refl
+
+-- ---- the limit is 256 times 1,048,576 bytes: a text of as many has its deck's faults, and one more byte is a fault of line 0
+limit : most_audited_bytes ≡ 256 * 1048576
+limit = refl
+
+one_more : (text : List ℕ) → length text ≡ 268435457
+    → IsFaultOfAudited text (record { line = 0; kind = TooLong })
+one_more text n = inl (omega (arith, n), refl)
+
+as_many : (text : List ℕ) (f : DeckFault) → length text ≡ 268435456 → IsFault (deck_part text) f → IsFaultOfAudited text f
+as_many text f n fault = inr (omega (arith, n), fault)
+
+-- ---- verdicts
+yes_text : verdict_text Yes ≡ codes "AUDIT YES" ++ 10 ∷ []
+yes_text = refl
+
+no_text : verdict_text (No 18) ≡ codes "AUDIT NO LINE 18" ++ 10 ∷ []
+unfolding digits
+no_text = refl

@@ -9,18 +9,19 @@ use Rattle.grs_base.specs.declared.resource.Res.TheVariants.{System, Systems}
 use Rattle.grs_base.specs.declared.resource.Ctl.TheVariants.{E, S}
 use Rattle.grs_base.specs.declared.resource.Ret.TheVariants.{RetNone, RetHave}
 use Rattle.grs_base.specs.declared.decision.Code.TheVariants.{C00, C14, Wait, End}
+use Rattle.grs_wire.specs.declared.deck.Deck.{Deck}
 use Rattle.grs_wire.specs.declared.history.HistEntry.{HistEntry}
 use Rattle.grs_wire.specs.declared.history.HistEntry.TheVariants.{Enq, Deq, Remove}
 use Rattle.grs_wire.specs.declared.seen.Names.{Names}
 use Rattle.grs_display.specs.Lines.{line}
-use Rattle.grs_display.specs.Names.{name_at}
+use Rattle.grs_display.specs.Names.{names_of, name_at}
 use Rattle.grs_display.specs.Rows.{names_word, res_word}
 use Rattle.grs_enf.specs.declared.notice.Noted.{Noted}
 use Rattle.grs_enf.specs.declared.notice.What.{What}
 use Rattle.grs_enf.specs.declared.notice.What.TheVariants.{Begin, Change, End as Ends}
 use Rattle.grs_enf.specs.Notices.{notices_at, notices, told_notices}
 use Rattle.grs_enf.specs.Laws.{leads}
-use Rattle.grs_enf.specs.Text.{notice_line}
+use Rattle.grs_enf.specs.Text.{notice_line, notices_text}
 
 -- a task of a system
 abbrev pub task : ℕ → ℕ → TaskId
@@ -110,3 +111,12 @@ text_of_notices : flat_map (notice_line one) (notices 4096 waited)
     ++ (codes "N 4 END SYSTEM(SYA,A,B) 2 0" ++ 10 ∷ [])
 unfolding digits line name_at names_word res_word notice_line
 text_of_notices = refl
+
+whole_text : (deck : Deck) → notices_text deck (notices 4096 waited)
+    ≡ (codes "NOTICES 3" ++ 10 ∷ []) ++ flat_map (notice_line (names_of deck)) (notices 4096 waited)
+unfolding digits line notices_text
+whole_text deck = refl
+
+pub text_of_no_notice : (deck : Deck) → notices_text deck [] ≡ codes "NOTICES 0" ++ 10 ∷ []
+unfolding digits line notices_text
+text_of_no_notice deck = refl
