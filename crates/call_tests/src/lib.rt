@@ -19,4 +19,8 @@ mod medium;
 #[cfg(test)]
 mod merging;
 #[cfg(test)]
+mod queues;
+#[cfg(test)]
 mod readers;
+#[cfg(test)]
+mod tables;
