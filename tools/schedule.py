@@ -15,6 +15,7 @@ The events are found by a model of the program (tools/runs.py), which isn't prov
 Exit status: 0, all was printed; 4, the deck would have grown past 1,048,576 bytes, so later events are wanting; 8, 12, 16
 and others as ./grs has them.
 """
+import os
 import pathlib
 import subprocess
 import sys
@@ -165,6 +166,12 @@ def patiently(pieces, now=time.monotonic, say=streams.say):
             say("grs-schedule", "still finding events, since %d seconds" % (last - begun))
 
 
+def is_built():
+    """Whether there is a program; one that is wanting is built, which says what it does."""
+    ways = [HERE / "proved"], [HERE / "unproved", "--for", str(os.getpid())]
+    return any(subprocess.run(words, stdin=subprocess.DEVNULL, stdout=subprocess.DEVNULL).returncode == 0 for words in ways)
+
+
 def checked(deck):
     """What ./grs says against a deck, as its status; 0 where that is nothing."""
     done = subprocess.run([HERE.parent / "grs", "--quiet", "lists"], input=deck, stdout=subprocess.DEVNULL)
@@ -180,6 +187,8 @@ def main(words):
     if len(words) > 1 or words and words[0].startswith("--"):
         raise streams.Failed(12, "these are no words of it: ./grs-schedule [--entries] [DECK], or --help")
     deck = streams.take(words[0] if words else None, MOST_BYTES + 1)
+    if not is_built():
+        raise streams.Failed(2, "nothing was run")
     status = checked(deck)
     if status:
         return status
