@@ -3,6 +3,7 @@
 A deck falls into tokens and these into statements; a statement's form is a word and what stands behind it (STATEMENTS, as in
 docs/FORMATS.md). `read` takes a deck without a fault and gives its systems, tasks, lines and events.
 """
+import functools
 import itertools
 import re
 from typing import NamedTuple
@@ -210,6 +211,7 @@ def printed(name):
     return "X'%s'" % name.encode("latin-1").hex().upper()
 
 
+@functools.lru_cache(maxsize=1 << 16)
 def slice_of(qname, rname):
     """The slice of a resource of the whole complex; its lock entry is this modulo the number of entries."""
     found = 0

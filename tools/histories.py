@@ -12,10 +12,10 @@ class Asker:
 
 
 class Followed:
-    """A legal history as far as it was followed."""
+    """A legal history as far as it was followed, with how many lists or elements its entries went through."""
 
     def __init__(self, deck):
-        self.deck, self.lists, self.removed, self.count = deck, Lists(), {}, 0
+        self.deck, self.lists, self.removed, self.count, self.reached = deck, Lists(), {}, 0, 0
         self.tasks = {(number, place): Asker() for number, system in enumerate(deck.systems) for place in range(len(system.tasks))}
         self.by_name = {self.task_name(task): task for task in self.tasks}
         self.systems = {system.name: number for number, system in enumerate(deck.systems)}
@@ -103,6 +103,7 @@ class Followed:
     def go_on(self, asked, place, parts):
         """Carries out an entry that may stand next."""
         self.count += 1
+        self.reached += len(self.lists.of if asked.verb in ("LOOK", "REMOVE") else self.lists.list(asked.resource))
         if asked.verb == "REMOVE":
             self.lists.remove(asked.target)
             self.removed[asked.target] = self.count

@@ -159,7 +159,7 @@ class Lists:
         """What is answered, and the tasks that became owners by another's request."""
         if asked.verb == "LOOK":
             return [row for place in range(asked.first, asked.first + asked.count) for row in self.look(place, asked.wanted)], []
-        before = self.owning(asked.resource)
+        before = set(self.owning(asked.resource))
         if asked.verb == "ENQ":
             answer = self.enq(asked.resource, asked.task, asked.control, asked.ret, full)
         elif asked.verb == "DEQ":
@@ -173,7 +173,7 @@ class Lists:
         """A removed system's tasks leave the lists of the whole complex; who came to own by it, resources by name."""
         freed = []
         for resource in sorted(filter(is_shared, self.of), key=by_name):
-            before = self.owning(resource)
+            before = set(self.owning(resource))
             self.drop(resource, lambda it: it[0] == system)
             freed += [(task, resource) for task in self.owning(resource) if task not in before]
         return freed

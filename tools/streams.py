@@ -2,7 +2,11 @@
 import contextlib
 import errno
 import os
+import re
 import sys
+
+# how much of a text that somebody else wrote is shown; the line of any request is shorter
+MOST_BYTES = 800
 
 
 class Failed(Exception):
@@ -35,6 +39,13 @@ def give(text, encoding="utf-8"):
             rest = rest[os.write(1, rest):]
     except OSError as why:
         raise Failed(20, "the text could not be written whole: %s" % why.strerror) from None
+
+
+def shown(text):
+    """The front of a text that somebody else wrote, a letter for each byte, as a sentence may have it: what isn't printable ASCII stands as
+    \\xNN, since a terminal would obey it."""
+    front = re.sub("[^ -~]", lambda it: "\\x%02X" % ord(it[0]), text[:MOST_BYTES])
+    return front + (" .. (%s bytes)" % format(len(text), ",") if len(text) > MOST_BYTES else "")
 
 
 def say(name, sentence):
