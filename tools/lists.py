@@ -54,7 +54,12 @@ def resolve(deck, system, task, line):
     return whole if is_whole else own, False
 
 
-# Who waits for whom
+# Who owns, and who waits for whom
+
+def owners(queue):
+    """How many elements in front own."""
+    return max(len(list(itertools.takewhile(lambda it: it[1] == "S", queue))), bool(queue))
+
 
 def keeping_away(queue, place):
     """The tasks in front of an element that keep it away, since one of both at least is exclusive: those on whom its task depends."""
@@ -89,8 +94,7 @@ class Lists:
 
     def owners(self, resource):
         """How many elements in front own it."""
-        queue = self.list(resource)
-        return max(len(list(itertools.takewhile(lambda it: it[1] == "S", queue))), bool(queue))
+        return owners(self.list(resource))
 
     def owning(self, resource):
         return [task for task, _ in self.list(resource)[:self.owners(resource)]]

@@ -5,10 +5,12 @@
 
 The report is read from the file, else from standard input. With the deck beside it nothing in the picture is a guess. A TEXT is what
 ./grs analyze or ./grs notices wrote of the same run: the cycle is shown that the one tells, in place of a deadlock that is found here, and
-the notices of the other stand as marks under the list of each resource. Or it is what ./grs audit wrote of the report behind the deck: where
+the notices of the other stand as marks under the list of each resource; both are made anew from the report, and a text that isn't one of
+them, line by line, is refused. Or it is what ./grs audit wrote of the report behind the deck: where
 that can't stand, the page says so, and marks the request of its first line that can't. Such a report is drawn by itself alone, and so is
 one that can stand and that a run of the deck with its events doesn't write. Where a model of legal histories (tools/histories.py) comes to
-another verdict, that is refused; past 20,000 entries only where no report with these lines has it.
+another verdict, that is refused; past 20,000 entries, or 2,000,000 lists and elements that these go through, only where no report with
+these lines has it.
 
 The page stands alone: what it shows is in it, and it asks no network. Its first view has a lane for each task, with the events
 from left to right; its second the list of each resource, with the places in the history from left to right. A panel says who owns
@@ -55,7 +57,7 @@ sys.path.insert(0, str(HERE))
 import decks
 import runs
 import streams
-from lists import cycle, keeping_away
+from lists import cycle, keeping_away, owners
 
 # how many requests a TURN takes along at most
 TURN_TAKES = 32
@@ -66,7 +68,6 @@ HISTORY = re.compile(r"H (?P<n>\d+) (?P<by>\S+) (?:ENQ (?P<enq>.*) (?P<control>[
 QUEUE = re.compile(r"Q (?P<name>.*?\)) (?P<elements>[^ ()']+:[ES]\*?(?: [^ ()']+:[ES]\*?)*)")
 AUDIT = re.compile(r"AUDIT (?:YES|NO LINE (\d{1,10}))\n?")
 HEAD = re.compile(r"HISTORY (?:0|[1-9][0-9]*)")
-NOTICE = re.compile(r"N (\d+) (BEGIN|CHANGE|END) (.*\)) (\d+) (\d+)")
 TOLD = re.compile(r"T (?P<k>\d+|END) (?P<what>.*?) ?@(?P<event>\d+)")
 
 
@@ -560,18 +561,52 @@ def bars(task, last):
     return found
 
 
+def named(name):
+    """The order in which resources of the whole complex stand in a report: by their names' bytes."""
+    _, _, qname, _, rname, _ = decks.tokens(name)
+    return decks.name_of(qname).ljust(8), decks.name_of(rname)
+
+
+def carried_out(entry, queue):
+    """The list of a resource behind an entry that bears on it: tasks and their control, in order."""
+    task = entry["by"]
+    if entry["enq"] and is_queued(entry):
+        return [*queue, (task, entry["control"])]
+    if entry["ret"] == "CHNG" and entry["answer"] == "00":
+        return [(it, "E" if it == task else control) for it, control in queue]
+    if entry["release"] or entry["answered"] == "00":
+        return [it for it in queue if it[0] != task]
+    if entry["remove"]:
+        return [it for it in queue if it[0].split(".")[0] != entry["remove"]]
+    return queue
+
+
+def changes(run):
+    """By each entry of the history, of each resource on which it bears, the list before it and behind it."""
+    queues = {}
+    for entry in run["history"]:
+        names = [resource(entry)] if resource(entry) else []
+        if entry["remove"]:
+            names = sorted((it for it in queues if it.startswith("SYSTEMS(")), key=named)
+        for name in names:
+            before = queues.get(name, [])
+            queues[name] = carried_out(entry, before)
+            yield entry, name, before, queues[name]
+
+
 def lists(run):
     """By resource, how long each element stood at a place of its list: [first place in the history, first past it, place in
     the list, element, owner or not]."""
-    queues, open_, spells = collections.defaultdict(list), collections.defaultdict(list), collections.defaultdict(list)
-    asked = {}
-
-    def change(name, number):
-        queue = queues[name]
-        shared = len(list(itertools.takewhile(lambda element: element[1] == "S", queue)))
-        now = [(task + ":" + control, place < max(shared, 1)) for place, (task, control) in enumerate(queue)]
-        for task, _ in queue[:max(shared, 1)]:
-            asked[name, task].setdefault("grants", run["history"][number - 1]["at"])
+    open_, spells, asked = collections.defaultdict(list), collections.defaultdict(list), {}
+    for entry, name, before, queue in changes(run):
+        number = int(entry["n"])
+        if entry["enq"] and is_queued(entry):
+            entry["front"] = [it + ":" + control for it, control in before if "E" in (control, entry["control"])]
+            asked[name, entry["by"]] = entry
+        own = owners(queue)
+        now = [(task + ":" + control, place < own) for place, (task, control) in enumerate(queue)]
+        for task, _ in queue[:own]:
+            asked[name, task].setdefault("grants", entry["at"])
         kept = open_[name]
         for place in range(max(len(now), len(kept))):
             was, want = (it[place] if place < len(it) else None for it in (kept, now))
@@ -580,32 +615,43 @@ def lists(run):
             if want and (not was or was[1:] != want):
                 kept[place:place + 1] = [(number, *want)]
         del kept[len(now):]
-
-    for entry in run["history"]:
-        number, name, task = int(entry["n"]), resource(entry), entry["by"]
-        if entry["enq"] and is_queued(entry):
-            entry["front"] = [it + ":" + control for it, control in queues[name] if "E" in (control, entry["control"])]
-            asked[name, task] = entry
-            queues[name].append((task, entry["control"]))
-        elif entry["ret"] == "CHNG" and entry["answer"] == "00":
-            queues[name] = [(it, "E" if it == task else control) for it, control in queues[name]]
-        elif entry["release"] or entry["answered"] == "00":
-            queues[name] = [element for element in queues[name] if element[0] != task]
-        for name in [name] if name else [it for it in queues if entry["remove"] and it.startswith("SYSTEMS(")]:
-            if entry["remove"]:
-                queues[name] = [element for element in queues[name] if element[0].split(".")[0] != entry["remove"]]
-            change(name, number)
-    for name in queues:
-        spells[name] += [[was[0], len(run["history"]) + 1, place, *was[1:]] for place, was in enumerate(open_[name])]
+    for name, kept in open_.items():
+        spells[name] += [[was[0], len(run["history"]) + 1, place, *was[1:]] for place, was in enumerate(kept)]
     return [{"name": name, "spells": spells[name]} for name in sorted(spells) if spells[name]]
+
+
+def notices(run):
+    """What ./grs notices tells of the history: of each entry its number, what came of it, the resource, how many own that, and how many wait."""
+    for entry, name, before, queue in changes(run):
+        waited, waits = (len(it) - owners(it) for it in (before, queue))
+        if queue != before and (waited or waits):
+            yield int(entry["n"]), "END" if not waits else "CHANGE" if waited else "BEGIN", name, owners(queue), waits
+
+
+def left(line):
+    """The resource of a line Q, and its list."""
+    found = QUEUE.fullmatch(line)
+    return found["name"], [tuple(it.rstrip("*").rsplit(":", 1)) for it in found["elements"].split(" ")]
+
+
+def analysis(run):
+    """The lines that ./grs analyze writes of the lists in the end."""
+    numbers = {it["name"]: number for number, it in enumerate(run["tasks"])}
+    names, rows, behind = list(numbers), [], collections.defaultdict(set)
+    for line in run["queues"]:
+        _, queue = left(line)
+        rows += ["A" + line[1:]] * (len(queue) > owners(queue))
+        for place, (task, _) in list(enumerate(queue))[owners(queue):]:
+            away = keeping_away(queue, place)
+            rows.append("W %s BLOCKED BY %s" % (task, away[0]))
+            behind[numbers[task]].update(numbers[it] for it in away)
+    circle = [names[it] for it in cycle(behind)]
+    return ["ANALYZE %d" % sum(it.startswith("W") for it in rows), *rows, "CYCLE " + (" ".join(circle) or "NONE")]
 
 
 def deadlock(run, tasks):
     """Tasks each of which is held for a resource from which the next one keeps it away, and the last the first; or none."""
-    queues, behind, names = {}, {}, [it["name"] for it in run["tasks"]]
-    for line in run["queues"]:
-        found = QUEUE.fullmatch(line)
-        queues[found["name"]] = [it.rstrip("*").rsplit(":", 1) for it in found["elements"].split(" ")]
+    queues, behind, names = dict(map(left, run["queues"])), {}, [it["name"] for it in run["tasks"]]
     for number, task in enumerate(tasks):
         queue = queues.get(held_for(task, queues), [])
         place = next((place for place, it in enumerate(queue) if it[0] == task.name), None)
@@ -627,20 +673,16 @@ def held_for(task, queues):
 
 
 def beside(run, texts):
-    """What ./grs analyze and ./grs notices wrote of the same run: the tasks of a cycle, or nothing without an analysis, and each notice."""
-    found, notices, tasks = None, [], [it["name"] for it in run["tasks"]]
-    for text in texts:
-        head, *lines = text.splitlines() or [""]
-        rows, told = [line[2:] for line in lines if line.startswith("A ")], [NOTICE.fullmatch(line) for line in lines]
-        contended = [line[2:] for line in run["queues"] if not all(it.endswith("*") for it in QUEUE.fullmatch(line)["elements"].split(" "))]
-        word, *circle = lines[-1].split(" ") if lines else [""]
-        if re.fullmatch(r"ANALYZE \d+", head) and rows == contended and word == "CYCLE" and (circle == ["NONE"] or set(circle) <= set(tasks)):
-            found = [it for it in circle if it != "NONE"]
-        elif head == "NOTICES %d" % len(lines) and all(told) and all(is_of(run, it) for it in told):
-            notices += [(int(it[1]), it[2], it[3], int(it[4]), int(it[5])) for it in told]
-        else:
-            raise NoReport("a text beside the report isn't what ./grs analyze or ./grs notices write of the same run")
-    return found, notices
+    """By what ./grs analyze and ./grs notices write of the same run, of which the texts are: the tasks of a cycle, or nothing without an analysis,
+    and each notice."""
+    if not texts:
+        return None, []
+    told, analyzed, given = list(notices(run)), analysis(run), [text.removesuffix("\n").split("\n") for text in texts]
+    noticed = ["NOTICES %d" % len(told), *("N %d %s %s %d %d" % it for it in told)]
+    if any(it not in (analyzed, noticed) for it in given):
+        raise NoReport("a text beside the report isn't what ./grs analyze or ./grs notices write of the same run")
+    circle = [it for it in analyzed[-1].split(" ")[1:] if it != "NONE"]
+    return circle if analyzed in given else None, told if noticed in given else []
 
 
 OTHER_VERDICT = "a verdict beside the report isn't what ./grs audit writes of this deck and this report"
@@ -677,13 +719,6 @@ def entry_of(verdict, report):
     if verdict["line"] and verdict["text"].startswith(("H ", "R ")):
         return sum(it.startswith("H ") for it in lines[events_end(lines):verdict["ofReport"]])
     return None
-
-
-def is_of(run, notice):
-    """Whether a notice is by an entry of the history that may change the list of its resource."""
-    number = int(notice[1])
-    entry = run["history"][number - 1] if 0 < number <= len(run["history"]) else None
-    return bool(entry) and (resource(entry) == notice[3] or bool(entry["remove"]) and notice[3].startswith("SYSTEMS("))
 
 
 def is_star(run):
@@ -726,20 +761,20 @@ def picture(report, deck=None, texts=()):
     except Exception:
         raise NoReport("this report can't be drawn, though its history can stand: what it tells behind TOLD doesn't go with that" if not verdict["line"] else
                        "this report can't be drawn; line %d of the deck and it, its line %d, is the first that can't stand: %s" % (
-                           verdict["line"], verdict["ofReport"], verdict["text"] or "it ends there")) from None
+                           verdict["line"], verdict["ofReport"], streams.shown(verdict["text"]) or "it ends there")) from None
 
 
 def drawn(report, deck, texts):
     """The same without a verdict."""
     run = read(report)
     tasks, stays, managers, *known = follow(run) if deck is None else by_deck(run, deck, report)
-    queues, last, (told, notices) = lists(run), len(run["events"]), beside(run, texts)
+    queues, last, (told, noticed) = lists(run), len(run["events"]), beside(run, texts)
     if told is None:
         circle, circled = known[0] if known else deadlock(run, tasks), "in a deadlock"
     else:
         circle, circled = told, "in the cycle of the analysis"
     for it in queues:
-        it["notices"] = [notice for notice in notices if notice[2] == it["name"]]
+        it["notices"] = [notice for notice in noticed if notice[2] == it["name"]]
     return {
         "events": run["events"], "mode": run["mode"], "end": run["end"], "words": run["words"], "units": run["units"],
         "history": len(run["history"]), "fixed": [entry["at"] for entry in run["history"]],
