@@ -109,8 +109,8 @@ STATEMENTS = {
 }
 # the calls of a text of latch calls
 CALLS = {"CRT": Form("set latches"), "OBT": Form("set latch requestor E|S SYNC|COND"), "REL": Form("set latch requestor"), "PRG": Form("set requestor")}
-EVENT = Form("name", "ONE", {"TASK": "task", "TURN": "", "SEND": "task", "TAKE": "", "SETTLE": "", "TELL": "entry", "LEAVE": "entry",
-                             "SWITCH": "", "PURGE": "name", "REST": ""})
+EVENT = Form("name", "ONE", {"TASK": "task", "TURN": "", "SEND": "task", "TAKE": "", "SETTLE": "", "TELL": "entry", "PART": "entry",
+                             "LEAVE": "entry", "SWITCH": "", "PURGE": "name", "REST": ""})
 NAME = r"[A-Z$#@][A-Z0-9$#@]*"
 # items that aren't words: what they are called, which words they may be, and which numbers
 ITEMS = {

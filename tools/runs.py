@@ -439,6 +439,9 @@ class Node:
         self.medium.mail(self.number, task[0], ("control", task, resource))
         return None
 
+    def part(self, entry):
+        return self.run.says.no_part(self, entry) if self.is_star else self.run.says.only_star(self)
+
     def holds(self, entry):
         """Why a system can't leave an entry, or None."""
         for place, state in enumerate(self.tasks):
@@ -716,6 +719,9 @@ class Says:
 
     def of_entry(self, node, entry):
         return "%s %s entry %d" % (node.name, "manages no" if entry not in node.managed else "manages", entry)
+
+    def no_part(self, node, entry):
+        return "%s owes no part of entry %d to a new manager" % (node.name, entry)
 
     def no_tell(self, node, entry):
         if not node.is_star:

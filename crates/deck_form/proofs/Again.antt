@@ -182,6 +182,7 @@ act_again entries ts (acts.Send j t) h = rw (h.0, pair_again j t h.1 h.2) refl
 act_again entries ts acts.Take h = rw h refl
 act_again entries ts acts.Settle h = rw h refl
 act_again entries ts (acts.Tell e) h = rw (h.1, entry_again entries h.0 e h.2 h.3) refl
+act_again entries ts (acts.Part e) h = rw (h.1, entry_again entries h.0 e h.2 h.3) refl
 act_again entries ts (acts.Leave e) h = rw (h.1, entry_again entries h.0 e h.2 h.3) refl
 act_again entries ts acts.Switch h = rw h refl
 act_again entries ts (acts.Purge n) h = rw (h.0, named_again n h.1) refl

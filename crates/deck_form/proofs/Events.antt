@@ -42,6 +42,7 @@ unfolding act_at pair_at dotted_at entry_at named_at short_at
 act_of_other entries words.Task t ts h = rw h refl
 act_of_other entries words.Send t ts h = rw h refl
 act_of_other entries words.Tell t ts h = rw h refl
+act_of_other entries words.Part t ts h = rw h refl
 act_of_other entries words.Leave t ts h = rw h refl
 act_of_other entries words.Purge t ts h = rw h refl
 act_of_other entries _ t ts h = refl
@@ -65,6 +66,7 @@ unfolding act_at
 act_of_more entries words.Task w t ts = rw (pair_of_more w t ts) refl
 act_of_more entries words.Send w t ts = rw (pair_of_more w t ts) refl
 act_of_more entries words.Tell w t ts = rw (entry_of_more entries w t ts) refl
+act_of_more entries words.Part w t ts = rw (entry_of_more entries w t ts) refl
 act_of_more entries words.Leave w t ts = rw (entry_of_more entries w t ts) refl
 act_of_more entries words.Purge w t ts = rw (name_of_more w t ts) refl
 act_of_more entries _ w t ts = refl

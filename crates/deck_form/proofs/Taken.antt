@@ -341,6 +341,7 @@ SaysWord w words.Send = w ≡ codes "SEND"
 SaysWord w words.Take = w ≡ codes "TAKE"
 SaysWord w words.Settle = w ≡ codes "SETTLE"
 SaysWord w words.Tell = w ≡ codes "TELL"
+SaysWord w words.Part = w ≡ codes "PART"
 SaysWord w words.Leave = w ≡ codes "LEAVE"
 SaysWord w words.Switch = w ≡ codes "SWITCH"
 SaysWord w words.Purge = w ≡ codes "PURGE"
@@ -360,10 +361,11 @@ says_word w =
     (word_by (SaysWord w) (bytes_eq w (codes "TAKE")) _ _ (same_bytes w _)
     (word_by (SaysWord w) (bytes_eq w (codes "SETTLE")) _ _ (same_bytes w _)
     (word_by (SaysWord w) (bytes_eq w (codes "TELL")) _ _ (same_bytes w _)
+    (word_by (SaysWord w) (bytes_eq w (codes "PART")) _ _ (same_bytes w _)
     (word_by (SaysWord w) (bytes_eq w (codes "LEAVE")) _ _ (same_bytes w _)
     (word_by (SaysWord w) (bytes_eq w (codes "SWITCH")) _ _ (same_bytes w _)
     (word_by (SaysWord w) (bytes_eq w (codes "PURGE")) _ _ (same_bytes w _)
-    (word_by (SaysWord w) (bytes_eq w (codes "REST")) _ _ (same_bytes w _) tt)))))))))
+    (word_by (SaysWord w) (bytes_eq w (codes "REST")) _ _ (same_bytes w _) tt))))))))))
 
 alone_taken : (entries : ℕ) (w word : List ℕ) (ts : List Token) (a act : EventAct) → w ≡ word → alone_at a ts ≡ Some act
     → (Word w ∷ ts ≡ Word word ∷ []) × (a ≡ act)
@@ -396,6 +398,10 @@ act_taken entries words.Tell w ts act is e =
     let p = bind_some (entry_at entries ts) (λ n. Some (acts.Tell n)) act e in
     let d = entry_taken entries ts p.0 p.1 in
     subst (IsAct entries (Word w ∷ ts)) (some_is (acts.Tell p.0) act p.2) (d.0, front w _ ts _ is d.1, d.2, d.3)
+act_taken entries words.Part w ts act is e =
+    let p = bind_some (entry_at entries ts) (λ n. Some (acts.Part n)) act e in
+    let d = entry_taken entries ts p.0 p.1 in
+    subst (IsAct entries (Word w ∷ ts)) (some_is (acts.Part p.0) act p.2) (d.0, front w _ ts _ is d.1, d.2, d.3)
 act_taken entries words.Leave w ts act is e =
     let p = bind_some (entry_at entries ts) (λ n. Some (acts.Leave n)) act e in
     let d = entry_taken entries ts p.0 p.1 in

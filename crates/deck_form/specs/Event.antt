@@ -20,6 +20,7 @@ event_word w =
     else if bytes_eq w (codes "TAKE") then words.Take
     else if bytes_eq w (codes "SETTLE") then words.Settle
     else if bytes_eq w (codes "TELL") then words.Tell
+    else if bytes_eq w (codes "PART") then words.Part
     else if bytes_eq w (codes "LEAVE") then words.Leave
     else if bytes_eq w (codes "SWITCH") then words.Switch
     else if bytes_eq w (codes "PURGE") then words.Purge
@@ -55,6 +56,7 @@ act_at entries words.Send ts = pair_at ts >>= λ p. Some (acts.Send p.0 p.1)
 act_at entries words.Take ts = alone_at acts.Take ts
 act_at entries words.Settle ts = alone_at acts.Settle ts
 act_at entries words.Tell ts = entry_at entries ts >>= λ e. Some (acts.Tell e)
+act_at entries words.Part ts = entry_at entries ts >>= λ e. Some (acts.Part e)
 act_at entries words.Leave ts = entry_at entries ts >>= λ e. Some (acts.Leave e)
 act_at entries words.Switch ts = alone_at acts.Switch ts
 act_at entries words.Purge ts = named_at ts >>= λ n. Some (acts.Purge n)

@@ -106,6 +106,7 @@ IsAct entries ts (acts.Send j t) = IsPair (codes "SEND") ts j t
 IsAct entries ts acts.Take = ts ≡ Word (codes "TAKE") ∷ []
 IsAct entries ts acts.Settle = ts ≡ Word (codes "SETTLE") ∷ []
 IsAct entries ts (acts.Tell e) = IsEntry (codes "TELL") entries ts e
+IsAct entries ts (acts.Part e) = IsEntry (codes "PART") entries ts e
 IsAct entries ts (acts.Leave e) = IsEntry (codes "LEAVE") entries ts e
 IsAct entries ts acts.Switch = ts ≡ Word (codes "SWITCH") ∷ []
 IsAct entries ts (acts.Purge n) = (ts ≡ Word (codes "PURGE") ∷ Word n ∷ []) × IsName n

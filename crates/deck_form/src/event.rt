@@ -30,6 +30,8 @@ pub enum EventAct<'t> {
     Settle,
     /// An owner of another system in this lock entry, which is below the deck's number of them, is told control.
     Tell(u32),
+    /// It sends what it has on record of this lock entry, which is below the deck's number of them, to the entry's new manager.
+    Part(u32),
     /// It gives up its interest in this lock entry, which is below the deck's number of them.
     Leave(u32),
     /// It changes the complex to star mode.
@@ -49,6 +51,7 @@ pub enum EventWord {
     Take,
     Settle,
     Tell,
+    Part,
     Leave,
     Switch,
     Purge,
@@ -72,6 +75,8 @@ fn event_word_of(w: &[u8]) -> EventWord
         EventWord::Settle
     } else if w == b"TELL".as_slice() {
         EventWord::Tell
+    } else if w == b"PART".as_slice() {
+        EventWord::Part
     } else if w == b"LEAVE".as_slice() {
         EventWord::Leave
     } else if w == b"SWITCH".as_slice() {
@@ -132,6 +137,7 @@ fn act_alone<'t>(event_word: EventWord) -> Result<EventAct<'t>, Miss>
         EventWord::Task => Err(Miss),
         EventWord::Send => Err(Miss),
         EventWord::Tell => Err(Miss),
+        EventWord::Part => Err(Miss),
         EventWord::Leave => Err(Miss),
         EventWord::Purge => Err(Miss),
         EventWord::Unknown => Err(Miss),
@@ -153,6 +159,7 @@ fn act_on<'t>(entries: u32, event_word: EventWord, word: &'t [u8]) -> Result<Eve
             Ok(EventAct::Send { job, task })
         }
         EventWord::Tell => Ok(EventAct::Tell(entry_of(entries, word)?)),
+        EventWord::Part => Ok(EventAct::Part(entry_of(entries, word)?)),
         EventWord::Leave => Ok(EventAct::Leave(entry_of(entries, word)?)),
         EventWord::Purge => Ok(EventAct::Purge(name_of(word)?)),
         EventWord::Turn => Err(Miss),

@@ -243,6 +243,9 @@ module _ (deck : Deck) (is : IsDeck deck) where
       go (choices.Tell n) it =
           pass-words name (choice_words names (choices.Tell n)) no_end (refl, (number-no-end n (few_entries n it), tt))
           (other-word name 84 _ no_blank refl)
+      go (choices.Part n) it =
+          pass-words name (choice_words names (choices.Part n)) no_end (refl, (number-no-end n (few_entries n it), tt))
+          (other-word name 80 _ no_blank refl)
       go (choices.Leave n) it =
           pass-words name (choice_words names (choices.Leave n)) no_end (refl, (number-no-end n (few_entries n it), tt))
           (other-word name 76 _ no_blank refl)

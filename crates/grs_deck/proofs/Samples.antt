@@ -492,7 +492,7 @@ abbrev star : List ℕ
 star =
     text (codes "COMPLEX MODE(STAR) ENTRIES(2)" ∷ codes "SYSTEM SYA" ∷ codes "JOB J1" ∷ codes "TASK T1"
     ∷ codes "SYSTEM SYB" ∷ codes "SCHEDULE" ∷ codes "SYA SEND J1.T1" ∷ codes "SYB TAKE" ∷ codes "SYA SETTLE"
-    ∷ codes "SYA TELL 1" ∷ codes "SYB LEAVE 0" ∷ [])
+    ∷ codes "SYA TELL 1" ∷ codes "SYB PART 1" ∷ codes "SYB LEAVE 0" ∷ [])
 
 star_deck : reading star ≡ Ok (record no_deck {
   star = true;
@@ -509,6 +509,7 @@ star_deck : reading star ≡ Ok (record no_deck {
       ∷ record { system = record { 0 = 1 }; choice = choices.Take }
       ∷ record { system = record { 0 = 0 }; choice = choices.Settle }
       ∷ record { system = record { 0 = 0 }; choice = choices.Tell 1 }
+      ∷ record { system = record { 0 = 1 }; choice = choices.Part 1 }
       ∷ record { system = record { 0 = 1 }; choice = choices.Leave 0 }
       ∷ [];
 })

@@ -159,6 +159,8 @@ choice_is systems entries rest s id acts.Settle c act e =
     subst (IsChoiceOf systems entries s id) (some_is choices.Settle c e) tt
 choice_is systems entries rest s id (acts.Tell n) c act e =
     subst (IsChoiceOf systems entries s id) (some_is (choices.Tell n) c e) act.3
+choice_is systems entries rest s id (acts.Part n) c act e =
+    subst (IsChoiceOf systems entries s id) (some_is (choices.Part n) c e) act.3
 choice_is systems entries rest s id (acts.Leave n) c act e =
     subst (IsChoiceOf systems entries s id) (some_is (choices.Leave n) c e) act.3
 choice_is systems entries rest s id acts.Switch c act e =

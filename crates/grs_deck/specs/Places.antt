@@ -86,6 +86,7 @@ choice_of systems id s (acts.Send j t) = task_in id s j t >>= λ k. Some (choice
 choice_of systems id s acts.Take = Some choices.Take
 choice_of systems id s acts.Settle = Some choices.Settle
 choice_of systems id s (acts.Tell e) = Some (choices.Tell e)
+choice_of systems id s (acts.Part e) = Some (choices.Part e)
 choice_of systems id s (acts.Leave e) = Some (choices.Leave e)
 choice_of systems id s acts.Switch = Some choices.Switch
 choice_of systems id s (acts.Purge n) = system_at systems n >>= λ x. unless_own id x.0

@@ -147,6 +147,7 @@ fn choice_of(
         EventAct::Take => Some(Choice::Take),
         EventAct::Settle => Some(Choice::Settle),
         EventAct::Tell(entry) => Some(Choice::Tell(*entry)),
+        EventAct::Part(entry) => Some(Choice::Part(*entry)),
         EventAct::Leave(entry) => Some(Choice::Leave(*entry)),
         EventAct::Switch => Some(Choice::Switch),
         EventAct::Purge(name) => {

@@ -74,17 +74,19 @@ learns_control k r = record { behind = k.behind; owns = λ q. k.owns q || same_r
 -- ---- what comes
 
 -- What comes to a system: the answer to a request of its task, control that its task got, or a request that it is to
--- settle as a manager, which tells it nothing of its own tasks.
+-- settle as a manager, which tells it nothing of its own tasks; and what else tells it nothing of them.
 pub data News : Type 0 where
   Answers : TaskId → Answer → News
   Grants : TaskId → Res → News
   Wants : Req → News
+  Silent : News
 
 -- whether it answers this task
 abbrev pub is_answer_to : TaskId → News → Bool
 is_answer_to t (Answers u a) = same_task t u
 is_answer_to t (Grants u r) = false
 is_answer_to t (Wants q) = false
+is_answer_to t Silent = false
 
 -- What comes of a task is right, in the order in which it comes. An answer is that of the outstanding item, with the
 -- reply which stands there; control is still there by what is known where it comes; and what comes behind each is
@@ -100,6 +102,7 @@ Coming t k T (Grants u r ∷ ns) =
     (same_task t u ≡ true → Still r t T (outstanding t k T) × Coming t (learns_control k r) T ns)
     × (same_task t u ≡ false → Coming t k T ns)
 Coming t k T (Wants q ∷ ns) = Coming t k T ns
+Coming t k T (Silent ∷ ns) = Coming t k T ns
 
 -- what is known once all of this was read
 abbrev pub after_news : TaskId → Known → List RunItem → List News → Known
@@ -108,3 +111,4 @@ after_news t k T (Answers u a ∷ ns) =
     cond (same_task t u) (after_news t (learns_any k (outstanding t k T)) T ns) (after_news t k T ns)
 after_news t k T (Grants u r ∷ ns) = cond (same_task t u) (after_news t (learns_control k r) T ns) (after_news t k T ns)
 after_news t k T (Wants q ∷ ns) = after_news t k T ns
+after_news t k T (Silent ∷ ns) = after_news t k T ns

@@ -16,7 +16,8 @@ use Rattle.grs_wire.specs.declared.request.Want.{Want}
 use Rattle.grs_known.specs.Items.{RunItem, is_of, removes_system_of, gives_back, mine, tells, reply_in, lists, Made}
 use Rattle.grs_known.specs.Items.{AllMade, history, items, AllCount}
 use Rattle.grs_known.specs.Known.{Known, learned, outstanding, Still, IsRight, falls_behind, learns_item}
-use Rattle.grs_known.specs.Known.{learns_control, News, Answers, Grants, Wants, is_answer_to, Coming, after_news}
+use Rattle.grs_known.specs.Known.{learns_control, News, Answers, Grants, Wants, Silent, is_answer_to, Coming}
+use Rattle.grs_known.specs.Known.{after_news}
 
 -- ---- items
 
@@ -69,6 +70,7 @@ abbrev pub is_given_back : TaskId → Fixed → News → Bool
 is_given_back t f (Answers u a) = false
 is_given_back t f (Grants u r) = same_task t u && gives_back r f
 is_given_back t f (Wants q) = false
+is_given_back t f Silent = false
 
 -- An item of the task that its own system decides at once, with nothing outstanding: it is learned, and what is known
 -- is right, and what comes, unless that is control of what the item gives up.

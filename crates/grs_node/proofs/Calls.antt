@@ -135,6 +135,7 @@ need-called deck n choices.Turn reply p h = refl
 need-called deck n choices.Take reply p h = refl
 need-called deck n choices.Settle reply p h = refl
 need-called deck n (choices.Tell e) reply p h = refl
+need-called deck n (choices.Part e) reply p h = refl
 need-called deck n choices.Switch reply p h = refl
 need-called deck n (choices.Purge s) reply p h = refl
 need-called deck n choices.Rest reply p h = refl
@@ -160,6 +161,7 @@ came-called deck n (choices.Send t) reply h = star-called deck n (choices.Send t
 came-called deck n choices.Take reply h = star-called deck n choices.Take reply n.star h
 came-called deck n choices.Settle reply h = star-called deck n choices.Settle reply n.star h
 came-called deck n (choices.Tell e) reply h = star-called deck n (choices.Tell e) reply n.star h
+came-called deck n (choices.Part e) reply h = star-called deck n (choices.Part e) reply n.star h
 came-called deck n (choices.Leave e) reply h = star-called deck n (choices.Leave e) reply n.star h
 came-called deck n choices.Switch reply h = other-called n choices.Switch n.star (λ p. refl)
 came-called deck n (choices.Purge s) reply h = other-called n (choices.Purge s) n.star (λ p. refl)
@@ -218,6 +220,7 @@ need-other deck n p (choices.Leave e) = go (may_leave p n.tasks e)
     go : (b : Bool) → needs_command (cond b (Asks (acts.Leave e)) Idle) ≡ false
     go true = refl
     go false = refl
+need-other deck n p (choices.Part e) = refl
 need-other deck n p (choices.Task t) = refl
 need-other deck n p choices.Turn = refl
 need-other deck n p choices.Switch = refl
@@ -310,6 +313,7 @@ module _ (deck : Deck) (n : NodeState) (reply : Reply) (only : OfDesk reply) whe
   ordered choices.Take k = absurd (star-none choices.Take n.star k)
   ordered choices.Settle k = absurd (star-none choices.Settle n.star k)
   ordered (choices.Tell e) k = absurd (star-none (choices.Tell e) n.star k)
+  ordered (choices.Part e) k = absurd (star-none (choices.Part e) n.star k)
   ordered (choices.Leave e) k = absurd (star-none (choices.Leave e) n.star k)
 
 -- so a system that tells of its desk has a command there that isn't done

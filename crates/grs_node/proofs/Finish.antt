@@ -36,6 +36,7 @@ by-choice deck v p reply send take settle tell leave choices.Take = take
 by-choice deck v p reply send take settle tell leave choices.Settle = settle
 by-choice deck v p reply send take settle tell leave (choices.Tell e) = tell e
 by-choice deck v p reply send take settle tell leave (choices.Leave e) = leave e
+by-choice deck v p reply send take settle tell leave (choices.Part e) = refl
 by-choice deck v p reply send take settle tell leave (choices.Task t) = refl
 by-choice deck v p reply send take settle tell leave choices.Turn = refl
 by-choice deck v p reply send take settle tell leave choices.Switch = refl
@@ -70,6 +71,12 @@ replies_leave deck n choice replies.Empty h =
 replies_leave deck n choice (replies.Kept mask) h =
     still deck n choice (replies.Kept mask)
     (λ p. by-choice deck n.tasks p (replies.Kept mask) (λ t. refl) refl refl (λ e. refl) (λ e. refl) choice)
+replies_leave deck n choice replies.Yours h =
+    still deck n choice replies.Yours
+    (λ p. by-choice deck n.tasks p replies.Yours (λ t. refl) refl refl (λ e. refl) (λ e. refl) choice)
+replies_leave deck n choice replies.Old h =
+    still deck n choice replies.Old
+    (λ p. by-choice deck n.tasks p replies.Old (λ t. refl) refl refl (λ e. refl) (λ e. refl) choice)
 replies_leave deck n choice replies.Resting h =
     still deck n choice replies.Resting
     (λ p. by-choice deck n.tasks p replies.Resting (λ t. refl) refl refl (λ e. refl) (λ e. refl) choice)

@@ -260,6 +260,7 @@ need-choice deck home n p fits choices.Take = refl
 need-choice deck home n p fits choices.Settle = settle-fits deck home p fits p.held fits.held
 need-choice deck home n p fits (choices.Tell e) = tell-fits deck home p fits e
 need-choice deck home n p fits (choices.Leave e) = leave-fits deck home p fits n.tasks e
+need-choice deck home n p fits (choices.Part e) = refl
 need-choice deck home n p fits (choices.Task t) = refl
 need-choice deck home n p fits choices.Turn = refl
 need-choice deck home n p fits choices.Switch = refl
@@ -327,6 +328,7 @@ prepare-addressed deck n (choices.Send t) fits = star-call-fits deck n.tasks.sys
 prepare-addressed deck n choices.Take fits = star-call-fits deck n.tasks.system n n.star choices.Take fits.part
 prepare-addressed deck n choices.Settle fits = star-call-fits deck n.tasks.system n n.star choices.Settle fits.part
 prepare-addressed deck n (choices.Tell e) fits = star-call-fits deck n.tasks.system n n.star (choices.Tell e) fits.part
+prepare-addressed deck n (choices.Part e) fits = star-call-fits deck n.tasks.system n n.star (choices.Part e) fits.part
 prepare-addressed deck n (choices.Leave e) fits =
     star-call-fits deck n.tasks.system n n.star (choices.Leave e) fits.part
 prepare-addressed deck n choices.Switch fits = switch-fits deck n (next_order deck n) fits.shared
@@ -514,6 +516,7 @@ module _ (Q : Reply → Type 0) (turned : (es : List RingEntry) (k : ℕ) (b : B
     (sole : Q replies.Sole) (sent : Q replies.Sent) (taken : (m : Mail) → Q (replies.Taken m)) (empty : Q replies.Empty)
     (settled_one : Q replies.Settled) (told_one : Q replies.Told) (left_one : Q replies.Left)
     (kept : (mask : ℕ) → Q (replies.Kept mask))
+    (yours : Q replies.Yours) (old : Q replies.Old)
     (purged : Q replies.Purged) (no_such : Q replies.NoSuch) (in_star : Q replies.InStar) (resting : Q replies.Resting)
     (over : Q replies.Over) (stale : (set : ℕ) → Q (replies.Stale set)) (removed : Q replies.Removed) where
   pub by-reply : (reply : Reply) → Q reply
@@ -530,6 +533,8 @@ module _ (Q : Reply → Type 0) (turned : (es : List RingEntry) (k : ℕ) (b : B
   by-reply replies.Told = told_one
   by-reply replies.Left = left_one
   by-reply (replies.Kept mask) = kept mask
+  by-reply replies.Yours = yours
+  by-reply replies.Old = old
   by-reply replies.Purged = purged
   by-reply replies.NoSuch = no_such
   by-reply replies.InStar = in_star
@@ -559,6 +564,8 @@ module _ (deck : Deck) (home : ℕ) (v : TasksView) (p : StarPart) (fits : PartF
       go : (b : Bool) → PartFits deck home (cond b (took_mail v p (mails.Granted t r)) (fixing_none v p)).part
       go true = fits
       go false = fits
+  mail-fits (mails.Notice target moved) = fits
+  mail-fits (mails.Part e from records) = fits
 
   send-step-fits : (t : TaskId) (reply : Reply) → is_within deck t ≡ true
       → PartFits deck home (send_step v p t reply).part
@@ -566,30 +573,30 @@ module _ (deck : Deck) (home : ℕ) (v : TasksView) (p : StarPart) (fits : PartF
       by-reply (λ reply. PartFits deck home (send_step v p t reply).part) (λ es k b. fits) (λ h. fits) (λ n. fits) fits
       fits (begin-fits deck home v p t (state_of v t).outstanding (entry_asked p (state_of v t).outstanding) fits own)
       (sent-fits deck home v p t (entry_asked p (state_of v t).outstanding) fits) (λ m. fits) fits fits fits fits
-      (λ m. fits) fits fits fits fits fits (λ n. fits) fits reply
+      (λ m. fits) fits fits fits fits fits fits fits (λ n. fits) fits reply
 
   take-step-fits : (reply : Reply) → PartFits deck home (take_step deck v p reply).part
   take-step-fits =
       by-reply (λ reply. PartFits deck home (take_step deck v p reply).part) (λ es k b. fits) (λ h. fits) (λ n. fits)
-      fits fits fits fits mail-fits fits fits fits fits (λ m. fits) fits fits fits fits fits (λ n. fits) fits
+      fits fits fits fits mail-fits fits fits fits fits (λ m. fits) fits fits fits fits fits fits fits (λ n. fits) fits
 
   settle-step-fits : (reply : Reply) → PartFits deck home (settle_step v p reply).part
   settle-step-fits =
       by-reply (λ reply. PartFits deck home (settle_step v p reply).part) (λ es k b. fits) (λ h. fits) (λ n. fits) fits
       fits fits fits (λ m. fits) fits (settled-fits deck home v p fits) fits fits (λ m. fits) fits fits fits fits fits
-      (λ n. fits) fits
+      fits fits (λ n. fits) fits
 
   tell-step-fits : (e : ℕ) (reply : Reply) → PartFits deck home (tell_step v p e reply).part
   tell-step-fits e =
       by-reply (λ reply. PartFits deck home (tell_step v p e reply).part) (λ es k b. fits) (λ h. fits) (λ n. fits) fits
       fits fits fits (λ m. fits) fits fits (told-fits deck home p (to_tell p e) fits) fits (λ m. fits) fits fits fits
-      fits fits (λ n. fits) fits
+      fits fits fits fits (λ n. fits) fits
 
   leave-step-fits : (e : ℕ) (reply : Reply) → PartFits deck home (leave_step v p e reply).part
   leave-step-fits e =
       by-reply (λ reply. PartFits deck home (leave_step v p e reply).part) (λ es k b. fits) (λ h. fits) (λ n. fits) fits
       fits fits fits (λ m. fits) fits fits fits (left-fits deck home p e fits) (λ m. fits) fits fits fits fits fits
-      (λ n. fits) fits
+      fits fits (λ n. fits) fits
 
 -- the task of a Send is of a system of the deck
 abbrev Sends : Deck → Choice → Type 0
@@ -603,6 +610,7 @@ star-step-fits deck home v p choices.Take reply h own = take-step-fits deck home
 star-step-fits deck home v p choices.Settle reply h own = settle-step-fits deck home v p h reply
 star-step-fits deck home v p (choices.Tell e) reply h own = tell-step-fits deck home v p h e reply
 star-step-fits deck home v p (choices.Leave e) reply h own = leave-step-fits deck home v p h e reply
+star-step-fits deck home v p (choices.Part e) reply h own = h
 star-step-fits deck home v p (choices.Task t) reply h own = h
 star-step-fits deck home v p choices.Turn reply h own = h
 star-step-fits deck home v p choices.Switch reply h own = h
@@ -682,6 +690,10 @@ call-part deck n choice replies.Left fits own same =
     finish-star-fits deck n.tasks.system n n.star choice replies.Left refl fits.part own
 call-part deck n choice (replies.Kept mask) fits own same =
     finish-star-fits deck n.tasks.system n n.star choice (replies.Kept mask) refl fits.part own
+call-part deck n choice replies.Yours fits own same =
+    finish-star-fits deck n.tasks.system n n.star choice replies.Yours refl fits.part own
+call-part deck n choice replies.Old fits own same =
+    finish-star-fits deck n.tasks.system n n.star choice replies.Old refl fits.part own
 call-part deck n choice replies.Purged fits own same = fits.part
 call-part deck n choice replies.NoSuch fits own same = fits.part
 call-part deck n choice replies.InStar fits own same = fits.part
@@ -708,6 +720,7 @@ quiet-part deck n choices.Turn fits own = fits.part
 quiet-part deck n choices.Take fits own = fits.part
 quiet-part deck n choices.Settle fits own = fits.part
 quiet-part deck n (choices.Tell e) fits own = fits.part
+quiet-part deck n (choices.Part e) fits own = fits.part
 quiet-part deck n (choices.Leave e) fits own = fits.part
 quiet-part deck n choices.Switch fits own = fits.part
 quiet-part deck n (choices.Purge s) fits own = fits.part
@@ -722,6 +735,7 @@ sends-quiet deck n choices.Turn fits h = tt
 sends-quiet deck n choices.Take fits h = tt
 sends-quiet deck n choices.Settle fits h = tt
 sends-quiet deck n (choices.Tell e) fits h = tt
+sends-quiet deck n (choices.Part e) fits h = tt
 sends-quiet deck n (choices.Leave e) fits h = tt
 sends-quiet deck n choices.Switch fits h = tt
 sends-quiet deck n (choices.Purge s) fits h = tt
@@ -735,6 +749,7 @@ sends-call deck n choices.Turn reply fits h = tt
 sends-call deck n choices.Take reply fits h = tt
 sends-call deck n choices.Settle reply fits h = tt
 sends-call deck n (choices.Tell e) reply fits h = tt
+sends-call deck n (choices.Part e) reply fits h = tt
 sends-call deck n (choices.Leave e) reply fits h = tt
 sends-call deck n choices.Switch reply fits h = tt
 sends-call deck n (choices.Purge s) reply fits h = tt
@@ -789,8 +804,9 @@ call-table deck n choice reply fits =
     by-reply (λ r. TableFits deck (finish_call deck n choice r).node.shared) (λ es k b. turned-table deck n es k b fits)
     (λ h. same (replies.NotYours h)) (λ f. same (replies.Behind f)) (switched-table deck n fits) (own-table deck n fits)
     (same replies.Sole) (same replies.Sent) (λ m. same (replies.Taken m)) (same replies.Empty) (same replies.Settled)
-    (same replies.Told) (same replies.Left) (λ m. same (replies.Kept m)) (own-table deck n fits) (own-table deck n fits)
-    (own-table deck n fits) (same replies.Resting) (same replies.Over) (λ k. own-table deck n fits)
+    (same replies.Told) (same replies.Left) (λ m. same (replies.Kept m)) (same replies.Yours) (same replies.Old)
+    (own-table deck n fits) (own-table deck n fits) (own-table deck n fits) (same replies.Resting) (same replies.Over)
+    (λ k. own-table deck n fits)
     (same replies.Removed) reply
   where
     same : (r : Reply) → TableFits deck (finish_star deck n n.star choice r).node.shared
@@ -810,6 +826,7 @@ quiet-table deck n choices.Turn fits = own-table deck n fits
 quiet-table deck n choices.Take fits = own-table deck n fits
 quiet-table deck n choices.Settle fits = own-table deck n fits
 quiet-table deck n (choices.Tell e) fits = own-table deck n fits
+quiet-table deck n (choices.Part e) fits = own-table deck n fits
 quiet-table deck n (choices.Leave e) fits = own-table deck n fits
 quiet-table deck n choices.Switch fits = own-table deck n fits
 quiet-table deck n (choices.Purge s) fits = own-table deck n fits
@@ -910,6 +927,7 @@ target-fits deck n (choices.Send t) reply fits h = tt
 target-fits deck n choices.Take reply fits h = tt
 target-fits deck n choices.Settle reply fits h = tt
 target-fits deck n (choices.Tell e) reply fits h = tt
+target-fits deck n (choices.Part e) reply fits h = tt
 target-fits deck n (choices.Leave e) reply fits h = tt
 target-fits deck n choices.Switch reply fits h = tt
 target-fits deck n choices.Rest reply fits h = tt

@@ -57,6 +57,11 @@ put = refl
 learned : leaves_all (replies.Stale 2) ≡ false
 learned = refl
 
+-- A Submit or a Leave may be answered that a notice of its lock entry is in the inbox, and that leaves all as it is.
+noticed : (is_listed (acts.Leave 4) replies.Yours ≡ true) × (is_listed (acts.Leave 4) replies.Old ≡ true)
+    × (is_listed acts.Take replies.Yours ≡ false) × (leaves_all replies.Yours ≡ true) × (leaves_all replies.Old ≡ true)
+noticed = (refl, refl, refl, refl, refl)
+
 -- an entry by which system 0 removes system 1
 abbrev removal : RingEntry
 removal = record { number = 1; from = record { 0 = 0 }; body = bodies.Remove (record { 0 = 1 }); mask = 5 }

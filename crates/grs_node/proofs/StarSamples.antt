@@ -24,7 +24,7 @@ use Rattle.grs_wire.specs.declared.deck.Choice.TheVariants as choices
 use Rattle.grs_wire.specs.declared.deck.Deck.{Deck}
 use Rattle.grs_wire.specs.declared.medium.Act.{Act}
 use Rattle.grs_wire.specs.declared.medium.Act.TheVariants as acts
-use Rattle.grs_wire.specs.declared.medium.Mail.TheVariants.{Request, Answered, Granted}
+use Rattle.grs_wire.specs.declared.medium.Mail.TheVariants.{Request, Answered, Granted, Notice, Part}
 use Rattle.grs_wire.specs.declared.medium.Reply.TheVariants as replies
 use Rattle.grs_wire.specs.declared.request.Answer.TheVariants.{Coded, Rows}
 use Rattle.grs_wire.specs.declared.request.Fixed.TheVariants as fixes
@@ -192,6 +192,19 @@ other_job :
     (Request 4 (system 1) (asks (record { system = system 1; job = 1; task = 0 }) enq))
     ≡ fixing_none tasks (managing [])
 other_job = refl
+
+-- a notice and a part have no effect
+taken_notice :
+    take_mail deck tasks (managing [])
+    (Notice (system 1) (record { entry = 4; manager = system 0; mask = 1; epoch = 1 } ∷ []))
+    ≡ fixing_none tasks (managing [])
+taken_notice = refl
+
+taken_part :
+    take_mail deck tasks (managing [])
+    (Part 4 (system 1) (record { res = res; task = task 1 0; ctl = E; rank = 2; told = true } ∷ []))
+    ≡ fixing_none tasks (managing [])
+taken_part = refl
 
 -- a second task of system 0 that the deck lacks, be it that it has sent a request, or waits for control
 abbrev beyond : Phase → List Rec → Option Asked → TasksView
@@ -474,9 +487,15 @@ not_in_a_ring : (prepare deck (node ready_to_send None) (choices.Send (task 0 0)
     × (prepare deck (node ready_to_send None) choices.Take ≡ Nothing)
     × (prepare deck (node ready_to_send None) choices.Settle ≡ Nothing)
     × (prepare deck (node ready_to_send None) (choices.Tell 4) ≡ Nothing)
+    × (prepare deck (node ready_to_send None) (choices.Part 4) ≡ Nothing)
     × (prepare deck (node ready_to_send None) (choices.Leave 4) ≡ Nothing)
 unfolding star_call prepare
-not_in_a_ring = (refl, refl, refl, refl, refl)
+not_in_a_ring = (refl, refl, refl, refl, refl, refl)
+
+-- no system sends a part
+no_part : prepare deck (node ready_to_send (Some (managing []))) (choices.Part 4) ≡ Nothing
+unfolding star_call prepare
+no_part = refl
 
 -- ---- what is pending in star mode: then a system doesn't rest
 abbrev done : TasksView

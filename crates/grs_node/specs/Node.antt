@@ -423,11 +423,14 @@ abbrev pub names_of_deck : Deck → Answer → Bool
 names_of_deck deck (Coded code) = true
 names_of_deck deck (Rows rows) = list_all (has_deck_tasks deck) rows
 
--- whether the tasks and systems that a mail names are of the deck
+-- Whether the tasks and systems that a mail names are of the deck. A notice or a part has no effect: no system sends
+-- one.
 abbrev pub is_for_deck : Deck → Mail → Bool
 is_for_deck deck (mails.Request e from q) = nat_lt from.0 (length deck.systems) && is_of_deck deck q.task
 is_for_deck deck (mails.Answered t answer rank) = is_of_deck deck t && names_of_deck deck answer
 is_for_deck deck (mails.Granted t r) = is_of_deck deck t
+is_for_deck deck (mails.Notice target moved) = false
+is_for_deck deck (mails.Part e from records) = false
 
 -- A mail was taken. One that names what isn't of the deck has no effect.
 abbrev pub take_mail : Deck → TasksView → StarPart → Mail → StarStep

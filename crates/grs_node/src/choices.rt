@@ -129,6 +129,7 @@ impl NodeState {
             Choice::Task(_)
             | Choice::Turn
             | Choice::Send(_)
+            | Choice::Part(_)
             | Choice::Switch
             | Choice::Purge(_)
             | Choice::Rest => Ok(Need::Idle),
@@ -176,8 +177,12 @@ impl NodeState {
                 act: Act::Rest,
             })),
             Choice::Task(_) | Choice::Rest => Ok(Prepared::Nothing),
-            Choice::Send(_) | Choice::Take | Choice::Settle | Choice::Tell(_) | Choice::Leave(_) =>
-                self.prepare_star(alloc, deck, choice),
+            Choice::Send(_)
+            | Choice::Take
+            | Choice::Settle
+            | Choice::Tell(_)
+            | Choice::Part(_)
+            | Choice::Leave(_) => self.prepare_star(alloc, deck, choice),
         }
     }
 }

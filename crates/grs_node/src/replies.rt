@@ -14,6 +14,8 @@ pub fn leaves_all(reply: &Reply) -> bool
         | Reply::Behind { .. }
         | Reply::Empty
         | Reply::Kept { .. }
+        | Reply::Yours
+        | Reply::Old
         | Reply::Resting
         | Reply::Over
         | Reply::Removed => true,

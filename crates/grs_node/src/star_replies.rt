@@ -63,6 +63,7 @@ fn is_for_deck(deck: &Deck, mail: &Mail) -> bool
             is_of_deck(deck, *task) && names_of_deck(deck, answer)
         }
         Mail::Granted { task, .. } => is_of_deck(deck, *task),
+        Mail::Notice { .. } | Mail::Part { .. } => false,
     }
 }
 
@@ -406,6 +407,7 @@ impl StarPart {
             Choice::Task(_)
             | Choice::Turn
             | Choice::Take
+            | Choice::Part(_)
             | Choice::Switch
             | Choice::Purge(_)
             | Choice::Rest => Ok(List::new(alloc)),

@@ -500,6 +500,7 @@ impl NodeState {
             | Choice::Take
             | Choice::Settle
             | Choice::Tell(_)
+            | Choice::Part(_)
             | Choice::Leave(_)
             | Choice::Switch
             | Choice::Purge(_)

@@ -4,8 +4,8 @@ use Rattle.std.specs.Fmt.{decimal}
 use Rattle.std.specs.List.{flat_map}
 use Rattle.grs_wire.specs.declared.seen.Names.{Names}
 use Rattle.grs_wire.specs.declared.deck.Choice.{Choice}
-use Rattle.grs_wire.specs.declared.deck.Choice.TheVariants.{Task, Turn, Send, Take, Settle, Tell, Leave, Switch, Purge}
-use Rattle.grs_wire.specs.declared.deck.Choice.TheVariants.{Rest}
+use Rattle.grs_wire.specs.declared.deck.Choice.TheVariants.{Task, Turn, Send, Take, Settle, Tell, Part, Leave}
+use Rattle.grs_wire.specs.declared.deck.Choice.TheVariants.{Switch, Purge, Rest}
 use Rattle.grs_wire.specs.declared.deck.Event.{Event}
 use Rattle.grs_display.specs.Lines.{line}
 use Rattle.grs_display.specs.Names.{name_at, task_in_job}
@@ -18,6 +18,7 @@ choice_words names (Send t) = codes "SEND" ∷ task_in_job names t ∷ []
 choice_words names Take = codes "TAKE" ∷ []
 choice_words names Settle = codes "SETTLE" ∷ []
 choice_words names (Tell e) = codes "TELL" ∷ decimal e ∷ []
+choice_words names (Part e) = codes "PART" ∷ decimal e ∷ []
 choice_words names (Leave e) = codes "LEAVE" ∷ decimal e ∷ []
 choice_words names Switch = codes "SWITCH" ∷ []
 choice_words names (Purge s) = codes "PURGE" ∷ name_at names.systems s.0 ∷ []

@@ -65,6 +65,7 @@ fn put_event(names: &Names, event: Event, out: &mut List<u8>) -> Result<(), NoMe
         Choice::Task(task) => put_task_event(names, system, b"TASK", task, out),
         Choice::Send(task) => put_task_event(names, system, b"SEND", task, out),
         Choice::Tell(entry) => put_entry_event(system, b"TELL", entry, out),
+        Choice::Part(entry) => put_entry_event(system, b"PART", entry, out),
         Choice::Leave(entry) => put_entry_event(system, b"LEAVE", entry, out),
         Choice::Purge(target) => {
             let target = name_at(&names.systems, usize::from(target.0));

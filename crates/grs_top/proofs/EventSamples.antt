@@ -55,6 +55,7 @@ deck = record no_deck {
       ∷ does choices.Take
       ∷ does choices.Settle
       ∷ does (choices.Tell 63)
+      ∷ does (choices.Part 17)
       ∷ does (choices.Leave 5)
       ∷ does choices.Switch
       ∷ does (choices.Purge (system 0))
@@ -64,7 +65,8 @@ deck = record no_deck {
 abbrev schedule : List ℕ
 schedule =
     text (codes "SYB TASK J2.T2" ∷ codes "SYB TURN" ∷ codes "SYB SEND J1.T1" ∷ codes "SYB TAKE" ∷ codes "SYB SETTLE"
-    ∷ codes "SYB TELL 63" ∷ codes "SYB LEAVE 5" ∷ codes "SYB SWITCH" ∷ codes "SYB PURGE SYA" ∷ codes "SYB REST" ∷ [])
+    ∷ codes "SYB TELL 63" ∷ codes "SYB PART 17" ∷ codes "SYB LEAVE 5" ∷ codes "SYB SWITCH" ∷ codes "SYB PURGE SYA"
+    ∷ codes "SYB REST" ∷ [])
 
 -- each event is printed so
 printed : flat_map (event_line (names_of deck)) deck.events ≡ schedule

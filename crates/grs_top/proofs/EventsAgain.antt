@@ -81,8 +81,9 @@ fixed_words : (is_line_word (codes "TASK") ≡ true) × (is_line_word (codes "TU
     × (is_line_word (codes "SETTLE") ≡ true) × (is_line_word (codes "TELL") ≡ true)
     × (is_line_word (codes "LEAVE") ≡ true) × (is_line_word (codes "SWITCH") ≡ true)
     × (is_line_word (codes "PURGE") ≡ true) × (is_line_word (codes "REST") ≡ true)
+    × (is_line_word (codes "PART") ≡ true)
 unfolding is_word
-fixed_words = (refl, refl, refl, refl, refl, refl, refl, refl, refl, refl)
+fixed_words = (refl, refl, refl, refl, refl, refl, refl, refl, refl, refl, refl)
 
 -- ---- numbers of entries
 
@@ -149,6 +150,7 @@ act_of names (choices.Send t) = acts.Send (name_in names.jobs t.system.0 t.job) 
 act_of names choices.Take = acts.Take
 act_of names choices.Settle = acts.Settle
 act_of names (choices.Tell e) = acts.Tell e
+act_of names (choices.Part e) = acts.Part e
 act_of names (choices.Leave e) = acts.Leave e
 act_of names choices.Switch = acts.Switch
 act_of names (choices.Purge s) = acts.Purge (name_at names.systems s.0)
@@ -192,13 +194,19 @@ task_act deck s id t f =
     )
 
 entry_act : (deck : Deck) (s : SystemDef) (id : SysId) (e : ℕ) → IsDeck deck → e < deck.entries
-    → IsActOf deck s id (choices.Tell e) × IsActOf deck s id (choices.Leave e)
+    → IsActOf deck s id (choices.Tell e) × IsActOf deck s id (choices.Part e) × IsActOf deck s id (choices.Leave e)
 unfolding choice_words
 entry_act deck s id e h lt =
     let few = few_entries deck.entries h.entries in
     let n = number_again e (omega (arith, few, lt)) in (
       record {
         words = rw (fixed_words.5, n.word) refl;
+        spelled = (decimal e, refl, n.read, lt);
+        short = tt;
+        is = refl;
+      },
+      record {
+        words = rw (fixed_words.10, n.word) refl;
         spelled = (decimal e, refl, n.read, lt);
         short = tt;
         is = refl;
@@ -232,7 +240,8 @@ of_choice deck s id (choices.Send t) h at of = (task_act deck s id t (task_found
 of_choice deck s id choices.Take h at of = (plain_act deck s id).1
 of_choice deck s id choices.Settle h at of = (plain_act deck s id).2
 of_choice deck s id (choices.Tell e) h at of = (entry_act deck s id e h of).0
-of_choice deck s id (choices.Leave e) h at of = (entry_act deck s id e h of).1
+of_choice deck s id (choices.Part e) h at of = (entry_act deck s id e h of).1
+of_choice deck s id (choices.Leave e) h at of = (entry_act deck s id e h of).2
 of_choice deck s id choices.Switch h at of = (plain_act deck s id).3
 of_choice deck s id (choices.Purge other) h at of = purge_act deck s id other h of.0 of.1
 of_choice deck s id choices.Rest h at of = (plain_act deck s id).4

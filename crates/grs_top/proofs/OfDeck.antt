@@ -233,6 +233,12 @@ module _ (deck : Deck) (whole : IsDeck deck) (n : NodeState) (id : SysId) (s : S
           omega (arith, within, (sized p is).1)
       go false m k = absurd (k refl)
 
+  -- a part is never sent
+  part_there : (e : ℕ) (o : Option StarPart) → star_call deck n o (choices.Part e) ≢ Nothing → e < deck.entries
+  unfolding star_call
+  part_there e None h = absurd (h refl)
+  part_there e (Some p) h = absurd (h refl)
+
   -- a removal is what the desk commands
   purge_there : (target : SysId) (o : Option Order) → next_order deck n ≡ o → purge_call n target o ≢ Nothing
       → (target.0 < length deck.systems) × (target.0 ≢ id.0)
@@ -261,6 +267,7 @@ module _ (deck : Deck) (whole : IsDeck deck) (n : NodeState) (id : SysId) (s : S
   does_its choices.Take h = tt
   does_its choices.Settle h = tt
   does_its (choices.Tell e) h = tell_there e n.star refl h
+  does_its (choices.Part e) h = part_there e n.star h
   does_its (choices.Leave e) h = leave_there e n.star refl h
   does_its choices.Switch h = tt
   does_its (choices.Purge target) h = purge_there target (next_order deck n) refl h

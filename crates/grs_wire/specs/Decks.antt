@@ -90,6 +90,7 @@ abbrev pub IsChoiceOf : List SystemDef → ℕ → SystemDef → SysId → Choic
 IsChoiceOf systems entries s id (choices.Task t) = IsTaskOf s id t
 IsChoiceOf systems entries s id (choices.Send t) = IsTaskOf s id t
 IsChoiceOf systems entries s id (choices.Tell e) = e < entries
+IsChoiceOf systems entries s id (choices.Part e) = e < entries
 IsChoiceOf systems entries s id (choices.Leave e) = e < entries
 IsChoiceOf systems entries s id (choices.Purge other) = (other.0 < length systems) × (other.0 ≢ id.0)
 IsChoiceOf systems entries s id _ = Unit {0}

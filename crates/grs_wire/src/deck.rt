@@ -60,6 +60,8 @@ pub enum Choice {
     Settle,
     /// A task of another system is told that it got control of a resource of this lock entry.
     Tell(u32),
+    /// What the system has on record of this lock entry is sent to the entry's new manager.
+    Part(u32),
     /// Interest in this lock entry is given up.
     Leave(u32),
     /// The complex changes to star mode.

@@ -3,6 +3,7 @@
 //! project's own. A set of systems is a number here; `masks` has the words for it.
 ghost use Rattle.std.specs.Prelude.{◌≡◌, IfOk};
 
+use super::gather::{Moved, PartRec};
 use super::request::{Answer, Req};
 use grs_base::{Copied, List, NoMemory, Res, SysId, TaskId, copy_all};
 use std::alloc::Global;
@@ -46,6 +47,17 @@ pub enum Mail {
         task: TaskId,
         res: Res,
     },
+    /// The system `target` was removed, which managed these lock entries: who manages each from now on.
+    Notice {
+        target: SysId,
+        moved: List<Moved>,
+    },
+    /// What the tasks of `from` have on record of the lock entry, whose lists its new manager gathers.
+    Part {
+        entry: u32,
+        from: SysId,
+        records: List<PartRec>,
+    },
 }
 
 /// What a call asks of the medium.
@@ -61,7 +73,7 @@ pub enum Act {
     Take,
     /// A mail that settles a request.
     Settle { to: SysId, mail: Mail },
-    /// A mail that tells of control.
+    /// A mail that tells of control, or what a manager gathers.
     Tell { to: SysId, mail: Mail },
     /// The caller gives up its interest in this lock entry.
     Leave { entry: u32 },
@@ -112,7 +124,7 @@ pub enum Reply {
     Empty,
     /// The mail that settles a request is in its inbox.
     Settled,
-    /// The mail that tells of control is in its inbox.
+    /// The mail that tells something is in its inbox.
     Told,
     /// The caller has no interest in the lock entry.
     Left,
@@ -120,6 +132,10 @@ pub enum Reply {
     Kept {
         mask: u32,
     },
+    /// The lock entry is the caller's to manage from now on, and the mail that says so lies in its inbox.
+    Yours,
+    /// The lock entry has another manager than the caller knows, and the mail that says so lies in its inbox.
+    Old,
     /// The system was removed.
     Purged,
     /// The system was removed before, or there is no such system.
@@ -205,6 +221,25 @@ impl Mail {
                 let res = res.copy(alloc)?;
                 Ok(Mail::Granted { task: *task, res })
             }
+            Mail::Notice { target, moved } => {
+                let moved = moved.copy(alloc)?;
+                Ok(Mail::Notice {
+                    target: *target,
+                    moved,
+                })
+            }
+            Mail::Part {
+                entry,
+                from,
+                records,
+            } => {
+                let records = copy_all(alloc, records.as_slice())?;
+                Ok(Mail::Part {
+                    entry: *entry,
+                    from: *from,
+                    records,
+                })
+            }
         }
     }
 }
@@ -286,6 +321,8 @@ impl Reply {
             Reply::Told => Ok(Reply::Told),
             Reply::Left => Ok(Reply::Left),
             Reply::Kept { mask } => Ok(Reply::Kept { mask: *mask }),
+            Reply::Yours => Ok(Reply::Yours),
+            Reply::Old => Ok(Reply::Old),
             Reply::Purged => Ok(Reply::Purged),
             Reply::NoSuch => Ok(Reply::NoSuch),
             Reply::InStar => Ok(Reply::InStar),

@@ -8,7 +8,7 @@ use Rattle.grs_base.specs.declared.resource.Res.TheVariants.{System, Systems}
 use Rattle.grs_base.specs.declared.resource.Row.{Row}
 use Rattle.grs_base.specs.declared.resource.Ret.TheVariants.{RetNone, RetUse, RetChng, RetEcb}
 use Rattle.grs_base.specs.declared.resource.TaskId.{TaskId}
-use Rattle.grs_wire.specs.declared.medium.Mail.TheVariants.{Request, Answered, Granted}
+use Rattle.grs_wire.specs.declared.medium.Mail.TheVariants.{Request, Answered, Granted, Notice, Part}
 use Rattle.grs_wire.specs.declared.request.Answer.TheVariants.{Coded, Rows}
 use Rattle.grs_wire.specs.declared.request.Want.{Want}
 use Rattle.grs_wire.specs.declared.request.Want.TheVariants.{Enq, Deq, Release, Look}
@@ -196,6 +196,15 @@ request : after_mail (asking phases.Sent) (Request 4 (record { 0 = 1 }) (record 
     ≡ asking phases.Sent
 unfolding after_mail
 request = refl
+
+-- nor is a notice or a part
+notice : after_mail (asking phases.Sent) (Notice (record { 0 = 1 }) []) ≡ asking phases.Sent
+unfolding after_mail
+notice = refl
+
+part : after_mail (asking phases.Sent) (Part 4 (record { 0 = 1 }) []) ≡ asking phases.Sent
+unfolding after_mail
+part = refl
 
 -- ---- control
 abbrev untold : Rec

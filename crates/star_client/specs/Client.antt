@@ -22,7 +22,7 @@ use Rattle.grs_base.specs.declared.resource.Row.{Row}
 use Rattle.grs_base.specs.declared.resource.TaskId.{TaskId}
 use Rattle.grs_wire.specs.Wants.{res_wanted}
 use Rattle.grs_wire.specs.declared.medium.Mail.{Mail}
-use Rattle.grs_wire.specs.declared.medium.Mail.TheVariants.{Request, Answered, Granted}
+use Rattle.grs_wire.specs.declared.medium.Mail.TheVariants.{Request, Answered, Granted, Notice, Part}
 use Rattle.grs_wire.specs.declared.request.Answer.{Answer}
 use Rattle.grs_wire.specs.declared.request.Answer.TheVariants.{Coded, Rows}
 use Rattle.grs_wire.specs.declared.request.Want.{Want}
@@ -145,9 +145,11 @@ has_sent v t = is_task v t && is_sent (state_of v t).phase
 abbrev pub has_effect : TasksView → TaskId → Answer → ℕ → Bool
 has_effect v t answer rank = has_sent v t && (nat_le rank last_number && is_awaited answer (state_of v t).outstanding)
 
--- The tasks after a mail. A request is for their system as a manager, and nothing to them.
+-- The tasks after a mail. A request is for their system as a manager, and nothing to them; nor is a notice or a part.
 unfoldable pub after_mail : TasksView → Mail → TasksView
 after_mail v (Request entry from q) = v
 after_mail v (Answered t answer rank) =
     cond (has_effect v t answer rank) (tell_answer_any_ranked v t answer rank (state_of v t).outstanding) v
 after_mail v (Granted t r) = tell_control v r t
+after_mail v (Notice target moved) = v
+after_mail v (Part entry from records) = v

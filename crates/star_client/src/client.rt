@@ -87,8 +87,8 @@ fn has_effect(
 }
 
 /// A mail reaches its task: the answer to a request that it has sent, or control that it got. What no task here awaits has
-/// no effect. A request is for the system as a manager, and nothing to its tasks. After NoMemory the system is to be given
-/// up.
+/// no effect. A request is for the system as a manager, and nothing to its tasks; nor is a notice or a part. After NoMemory
+/// the system is to be given up.
 #[tactic(auto, using(task_state::proofs::Keeps::keeps), unfolding(crate::specs::Client::after_mail, task_state::specs::Replies::tell_new, task_state::specs::Replies::tell_all))]
 pub fn on_mail(alloc: Global, tasks: &mut Tasks, mail: Mail) -> Result<(), NoMemory>
     ensures step { OnOk result (tasks.new ≡ client.after_mail tasks.old mail) }
@@ -96,7 +96,7 @@ pub fn on_mail(alloc: Global, tasks: &mut Tasks, mail: Mail) -> Result<(), NoMem
     ensures count { length tasks.new.tasks ≡ length tasks.old.tasks }
 {
     match mail {
-        Mail::Request { .. } => Ok(()),
+        Mail::Request { .. } | Mail::Notice { .. } | Mail::Part { .. } => Ok(()),
         Mail::Answered { task, answer, rank } => {
             if has_effect(alloc, tasks, task, &answer, rank)? {
                 tell_answer_ranked(alloc, tasks, task, &answer, rank)

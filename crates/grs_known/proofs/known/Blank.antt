@@ -10,7 +10,7 @@ use Rattle.grs_base.specs.declared.resource.Res.{Res}
 use Rattle.grs_base.specs.declared.resource.TaskId.{TaskId}
 use Rattle.grs_known.specs.Items.{RunItem, gives_back, mine, lists, reply_in, Made, is_of, removes_system_of}
 use Rattle.grs_known.specs.Known.{Known, last_of, outstanding, Still, IsRight, learns_item, learns_any, learns_control}
-use Rattle.grs_known.specs.Known.{News, Answers, Grants, Wants, is_answer_to, Coming, after_news}
+use Rattle.grs_known.specs.Known.{News, Answers, Grants, Wants, Silent, is_answer_to, Coming, after_news}
 use Rattle.grs_known.specs.Laws.{is_given_back}
 use Rattle.grs_known.proofs.known.Coming.{others_keep, answer_is_sent, decided_at_once, control_is_sent}
 use Rattle.grs_known.proofs.lists.Truths.{no_truth}
@@ -43,6 +43,7 @@ coming-same t k l T (Grants u r ∷ ns) e h = (
   λ apart. coming-same t k l T ns e (h.1 apart),
 )
 coming-same t k l T (Wants q ∷ ns) e h = coming-same t k l T ns e h
+coming-same t k l T (Silent ∷ ns) e h = coming-same t k l T ns e h
 
 -- a task that isn't behind gets no answer
 pub no-answer : (t : TaskId) (k : Known) (T : List RunItem) (ns : List News) → k.behind ≡ false → Coming t k T ns
@@ -65,6 +66,7 @@ no-answer t k T (Grants u r ∷ ns) e h =
     go true f more less = more f
     go false f more less = less f
 no-answer t k T (Wants q ∷ ns) e h = no-answer t k T ns e h
+no-answer t k T (Silent ∷ ns) e h = no-answer t k T ns e h
 
 -- whether a task is behind once all was read
 pub behind-after : (t : TaskId) (k : Known) (T : List RunItem) (ns : List News) → Coming t k T ns
@@ -95,6 +97,7 @@ behind-after t k T (Grants u r ∷ ns) h =
     go true f now then = now f
     go false f now then = then f
 behind-after t k T (Wants q ∷ ns) h = behind-after t k T ns h
+behind-after t k T (Silent ∷ ns) h = behind-after t k T ns h
 
 -- an answer without effect, to a request that gives nothing up: its task stays behind
 pub coming-late : (t : TaskId) (T : List RunItem) (x : RunItem) (ns : List News) → last_of (mine t T) ≡ Some x
@@ -115,6 +118,7 @@ coming-late t T x (Grants u r ∷ ns) last stays none h = (
   λ apart. coming-late t T x ns last stays none (h.1 apart),
 )
 coming-late t T x (Wants q ∷ ns) last stays none h = coming-late t T x ns last stays none h
+coming-late t T x (Silent ∷ ns) last stays none h = coming-late t T x ns last stays none h
 
 -- ---- what an item does to what comes, and control that is sent
 pub right-blank : (t : TaskId) (k : Known) (T : List RunItem) → IsRight t k T → IsRight t (blank k.behind) T

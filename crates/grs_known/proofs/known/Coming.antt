@@ -12,7 +12,8 @@ use Rattle.grs_base.proofs.SameLaws.{same_task-itself}
 use Rattle.grs_wire.specs.declared.request.Answer.{Answer}
 use Rattle.grs_known.specs.Items.{RunItem, is_of, removes_system_of, gives_back, Made, mine, lists, reply_in}
 use Rattle.grs_known.specs.Known.{Known, last_of, outstanding, Still, IsRight, falls_behind, learns_item, learns_any}
-use Rattle.grs_known.specs.Known.{learns_control, News, Answers, Grants, Wants, is_answer_to, Coming, after_news}
+use Rattle.grs_known.specs.Known.{learns_control, News, Answers, Grants, Wants, Silent, is_answer_to, Coming}
+use Rattle.grs_known.specs.Known.{after_news}
 use Rattle.grs_known.specs.Laws.{OthersKeep, is_given_back, DecidedAtOnce, AnswerIsSent, AnswerIsLearned}
 use Rattle.grs_known.specs.Laws.{ControlIsLearned, ControlIsSent, ReadRight, ReadInOrder}
 use Rattle.grs_known.proofs.known.Control.{still-other, still-own}
@@ -43,6 +44,7 @@ coming-other t T x apart live k (Grants u r ∷ ns) h = (
   λ e. coming-other t T x apart live k ns (h.1 e),
 )
 coming-other t T x apart live k (Wants q ∷ ns) h = coming-other t T x apart live k ns h
+coming-other t T x apart live k (Silent ∷ ns) h = coming-other t T x apart live k ns h
 
 pub others_keep : OthersKeep
 others_keep t k T x ns apart live right coming = record {
@@ -65,6 +67,7 @@ coming-own t T x own made k (Grants u r ∷ ns) e none h = (
   λ f. coming-own t T x own made k ns e none (h.1 f),
 )
 coming-own t T x own made k (Wants q ∷ ns) e none h = coming-own t T x own made k ns e none h
+coming-own t T x own made k (Silent ∷ ns) e none h = coming-own t T x own made k ns e none h
 
 pub answer_is_sent : AnswerIsSent
 answer_is_sent t k T x ns own e made none right coming = record {
@@ -109,6 +112,7 @@ coming-open t T x own made k l (Grants u r ∷ ns) e f none h = (
         → list_any (is_given_back t x.fixed) ns ≡ false
     passed a g = grind (arith, g)
 coming-open t T x own made k l (Wants q ∷ ns) e f none h = coming-open t T x own made k l ns e f none h
+coming-open t T x own made k l (Silent ∷ ns) e f none h = coming-open t T x own made k l ns e f none h
 
 pub decided_at_once : DecidedAtOnce
 decided_at_once t k T x ns own e made none right coming =
@@ -186,6 +190,8 @@ read_in_order t k T (Grants u r ∷ ns) rest h c = by_bool (same_task t u)
     (read_in_order t k T ns rest h (c.1 e)))
 read_in_order t k T (Wants q ∷ ns) rest h c =
     read-as t k k T (Wants q ∷ ns) ns rest refl (read_in_order t k T ns rest h c)
+read_in_order t k T (Silent ∷ ns) rest h c =
+    read-as t k k T (Silent ∷ ns) ns rest refl (read_in_order t k T ns rest h c)
 
 -- ---- control that comes last
 still-as : (t : TaskId) (r : Res) (k l : Known) (T : List RunItem) → k ≡ l → Still r t T (outstanding t k T)
@@ -209,3 +215,4 @@ control_is_sent t k T (Grants u q ∷ ns) r c s = (
   λ e. control_is_sent t k T ns r (c.1 e) (still-as t r _ _ T (after-others_control t k T u q ns e) s),
 )
 control_is_sent t k T (Wants q ∷ ns) r c s = control_is_sent t k T ns r c s
+control_is_sent t k T (Silent ∷ ns) r c s = control_is_sent t k T ns r c s

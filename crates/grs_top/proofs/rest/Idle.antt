@@ -106,6 +106,11 @@ no_rest deck n (choices.Tell e) some = by_star n.star
     by_star : (o : Option StarPart) → IsNoRest (star_call deck n o (choices.Tell e))
     by_star None = tt
     by_star (Some p) = by_owner (to_tell p e)
+no_rest deck n (choices.Part e) some = by_star n.star
+  where
+    by_star : (o : Option StarPart) → IsNoRest (star_call deck n o (choices.Part e))
+    by_star None = tt
+    by_star (Some p) = tt
 no_rest deck n (choices.Leave e) some = by_star n.star
   where
     by_star : (o : Option StarPart) → IsNoRest (star_call deck n o (choices.Leave e))
@@ -190,6 +195,7 @@ module _ (deck : Deck) (m : MediumState) (c : SysId) (n : NodeState)
       none
   calm-after choices.Settle call is none h = absurd is
   calm-after (choices.Tell e) call is none h = absurd is
+  calm-after (choices.Part e) call is none h = absurd is
   calm-after (choices.Leave e) call is none h =
       subst (λ (x : MediumCall). is_pending deck (finish deck n (choices.Leave e) (Some (reply_to m c x))).node ≡ false)
       (sym is.2) (by_reply (leave_leaves m c n.known e))

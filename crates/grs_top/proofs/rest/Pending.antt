@@ -206,6 +206,11 @@ calm deck n (choices.Tell e) none = by_star n.star refl
     by_star (Some p) star =
         subst (λ (o : Option (TaskId × Res)). Calm n (choices.Tell e) (prepared_by n.known (tell_by o)))
         (sym (no_tell deck n p e star none)) tt
+calm deck n (choices.Part e) none = by_star n.star
+  where
+    by_star : (o : Option StarPart) → Calm n (choices.Part e) (star_call deck n o (choices.Part e))
+    by_star None = tt
+    by_star (Some p) = tt
 calm deck n (choices.Leave e) none = by_star n.star refl
   where
     by_star : (o : Option StarPart) → n.star ≡ o → Calm n (choices.Leave e) (star_call deck n o (choices.Leave e))

@@ -20,6 +20,7 @@ use Rattle.grs_wire.specs.declared.deck.Choice.{Choice}
 use Rattle.grs_wire.specs.declared.deck.Event.{Event}
 use Rattle.grs_wire.specs.declared.medium.Mail.{Mail}
 use Rattle.grs_wire.specs.declared.medium.Mail.TheVariants.{Request as RequestMail, Answered as AnsweredMail, Granted}
+use Rattle.grs_wire.specs.declared.medium.Mail.TheVariants.{Notice, Part}
 use Rattle.grs_wire.specs.declared.told.Said.{Said}
 use Rattle.grs_wire.specs.declared.told.Said.TheVariants as saids
 use Rattle.grs_world.proofs.rest.RingRun.{first_of}
@@ -248,6 +249,8 @@ size-mail v (AnsweredMail t answer rank) =
     go None = refl
     go (Some a) = size-ranked v t a answer rank
 size-mail v (Granted t r) = size-control v r t
+size-mail v (Notice target moved) = refl
+size-mail v (Part e from records) = refl
 
 size-sent : (qs : List Req) (v : TasksView) → size (all_sent v qs) ≡ size v
 unfolding all_sent
@@ -430,6 +433,8 @@ size-took deck v p m = go (is_for_deck deck m) m
     go true (RequestMail e from q) = refl
     go true (AnsweredMail t answer rank) = size-mail v (AnsweredMail t answer rank)
     go true (Granted t r) = size-mail v (Granted t r)
+    go true (Notice target moved) = refl
+    go true (Part e from records) = refl
 
 pub size-acts :
     (deck : Deck) (m : MediumState) (s : SysId) (n : NodeState) (p : StarPart) (choice : Choice) (b : Result)

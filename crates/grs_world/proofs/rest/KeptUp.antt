@@ -27,6 +27,7 @@ use Rattle.grs_wire.specs.declared.deck.Deck.{Deck}
 use Rattle.grs_wire.specs.declared.deck.Event.{Event}
 use Rattle.grs_wire.specs.declared.medium.Mail.{Mail}
 use Rattle.grs_wire.specs.declared.medium.Mail.TheVariants.{Request as RequestMail, Answered as AnsweredMail, Granted}
+use Rattle.grs_wire.specs.declared.medium.Mail.TheVariants.{Notice, Part}
 use Rattle.grs_wire.specs.declared.medium.RingEntry.{RingEntry}
 use Rattle.grs_wire.specs.declared.request.Req.{Req}
 use Rattle.grs_wire.specs.declared.request.Want.{Want}
@@ -227,6 +228,8 @@ date-mail deck v p (RequestMail e from q) h for_deck = h
 date-mail deck v p (AnsweredMail t answer rank) h for_deck =
     (keeps-mail deck v t answer rank (and_parts (is_of_deck deck t) (names_of_deck deck answer) for_deck).0 h).date
 date-mail deck v p (Granted t r) h for_deck = date-granted deck v t r h
+date-mail deck v p (Notice target moved) h for_deck = h
+date-mail deck v p (Part e from records) h for_deck = h
 
 date-taken : (deck : Deck) (v : TasksView) (p : StarPart) (m : Mail) → AllDate false deck v
     → AllDate false deck (take_mail deck v p m).tasks

@@ -463,6 +463,7 @@ module _ (deck : Deck) (m : MediumState) (s : SysId) (n : NodeState) (alive : ha
   came choices.Take = by-part choices.Take (λ p is. called choices.Take acts.Take (by-mail p is))
   came choices.Settle = by-part choices.Settle (λ p is. by-held p is (first_held p) refl)
   came (choices.Tell e) = by-part (choices.Tell e) (λ p is. by-owner p is e (to_tell p e) refl)
+  came (choices.Part e) = by-part (choices.Part e) (λ p is. idle (choices.Part e))
   came (choices.Leave x) =
       by-part (choices.Leave x) (λ p is.
       by_test (Needs p is (choices.Leave x)) (may_leave p n.tasks x) (Asks (acts.Leave x)) Idle

@@ -157,6 +157,8 @@ by_mail deck v p (mails.Answered t answer rank) =
 by_mail deck v p (mails.Granted t r) =
     by_test (λ (s : StarStep). s.fixed ≡ []) (is_for_deck deck (mails.Granted t r)) _ (fixing_none v p) (λ h. refl)
     (λ h. refl)
+by_mail deck v p (mails.Notice target moved) = refl
+by_mail deck v p (mails.Part e from records) = refl
 
 -- what an event fixes by what it was
 abbrev by_result : Deck → NodeState → Choice → Result → List Fixed

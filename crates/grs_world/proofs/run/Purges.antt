@@ -111,6 +111,8 @@ by_mail deck v p (mails.Answered t answer rank) =
     either_star (is_for_deck deck (mails.Answered t answer rank)) _ (fixing_none v p) nothing nothing
 by_mail deck v p (mails.Granted t r) =
     either_star (is_for_deck deck (mails.Granted t r)) _ (fixing_none v p) nothing nothing
+by_mail deck v p (mails.Notice target moved) = nothing
+by_mail deck v p (mails.Part e from records) = nothing
 
 by_acts :
     (deck : Deck) (m : MediumState) (s : SysId) (n : NodeState) (p : StarPart) (choice : Choice) (b : Result)

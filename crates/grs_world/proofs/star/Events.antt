@@ -254,6 +254,10 @@ module _ (deck : Deck) (some : 0 < deck.entries) (w : World) (c : SysId) (few : 
       by_mail (mails.Answered t answer rank) =
           still boxes (awake w.medium c) _ p (length-set w.medium.inboxes c.0 _) me.fits
       by_mail (mails.Granted t r) = still boxes (awake w.medium c) _ p (length-set w.medium.inboxes c.0 _) me.fits
+      by_mail (mails.Notice target moved) =
+          still boxes (awake w.medium c) _ p (length-set w.medium.inboxes c.0 _) me.fits
+      by_mail (mails.Part e from records) =
+          still boxes (awake w.medium c) _ p (length-set w.medium.inboxes c.0 _) me.fits
 
   -- ---- Send
   -- the words after a request of an entry that this system doesn't manage

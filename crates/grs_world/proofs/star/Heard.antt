@@ -22,7 +22,7 @@ use Rattle.grs_node.specs.Node.{NodeState}
 use Rattle.grs_node.specs.Star.{StarPart}
 use Rattle.grs_wire.specs.declared.deck.Deck.{Deck}
 use Rattle.grs_wire.specs.declared.medium.Mail.{Mail}
-use Rattle.grs_wire.specs.declared.medium.Mail.TheVariants.{Request, Answered, Granted}
+use Rattle.grs_wire.specs.declared.medium.Mail.TheVariants.{Request, Answered, Granted, Notice, Part}
 use Rattle.grs_wire.specs.declared.request.Answer.{Answer}
 use Rattle.grs_wire.specs.declared.request.Answer.TheVariants.{Coded, Rows}
 use Rattle.grs_wire.specs.declared.request.Fixed.{Fixed}
@@ -51,6 +51,8 @@ abbrev pub is_timely : TaskId → Mail → Bool
 is_timely t (Request e from q) = false
 is_timely t (Answered u answer rank) = same_task t u && nat_le rank last_number
 is_timely t (Granted u r) = false
+is_timely t (Notice target moved) = false
+is_timely t (Part e from records) = false
 
 abbrev pub grants : Answer → Bool
 grants (Coded code) = is_granted code
@@ -65,12 +67,16 @@ hears t r recorded (Answered u answer rank ∷ ms) =
     cond (is_timely t (Answered u answer rank)) ((not recorded && grants answer) || hears t r true ms)
     (hears t r recorded ms)
 hears t r recorded (Granted u q ∷ ms) = (recorded && (same_task t u && same_res r q)) || hears t r recorded ms
+hears t r recorded (Notice target moved ∷ ms) = hears t r recorded ms
+hears t r recorded (Part e from records ∷ ms) = hears t r recorded ms
 
 -- A request comes under the lock entry that it is for, from a system of the deck.
 abbrev pub IsAddressed : Deck → Mail → Type 0
 IsAddressed deck (Request e from q) = (entry_wanted deck.entries q.want ≡ Some e) × (from.0 < length deck.systems)
 IsAddressed deck (Answered t answer rank) = Unit {0}
 IsAddressed deck (Granted t r) = Unit {0}
+IsAddressed deck (Notice target moved) = Unit {0}
+IsAddressed deck (Part e from records) = Unit {0}
 
 abbrev pub AreAddressed : Deck → List Mail → Type 0
 AreAddressed deck [] = Unit {0}

@@ -21,7 +21,7 @@ use Rattle.grs_wire.specs.History.{entries_for}
 use Rattle.grs_wire.specs.Wants.{res_wanted}
 use Rattle.grs_wire.specs.declared.deck.Deck.{Deck}
 use Rattle.grs_wire.specs.declared.medium.Mail.{Mail}
-use Rattle.grs_wire.specs.declared.medium.Mail.TheVariants.{Request, Answered, Granted}
+use Rattle.grs_wire.specs.declared.medium.Mail.TheVariants.{Request, Answered, Granted, Notice, Part}
 use Rattle.grs_wire.specs.declared.request.Fixed.TheVariants as fixing
 use Rattle.grs_wire.specs.declared.request.Req.{Req}
 use Rattle.lock_structure.specs.Laws.{is_interested}
@@ -325,6 +325,8 @@ module _ (deck : Deck) (words words' : List ℕ) (T : List RunItem) (right : IsH
         },
         fit-kept (done ++ Granted t r ∷ []) todo (e ∙ sym (append_assoc done (Granted t r ∷ []) todo)) z.1,
       )
+  fit-kept done (Notice target moved ∷ todo) e z = absurd z.0
+  fit-kept done (Part x from records ∷ todo) e z = absurd z.0
 
   near-kept : (done todo : List Req) → out ≡ done ++ todo → list_all (is_near deck words s) todo ≡ true
       → list_all (is_near deck words' s) todo ≡ true

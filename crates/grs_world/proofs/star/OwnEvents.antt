@@ -20,7 +20,7 @@ use Rattle.grs_node.specs.Star.{StarPart, request_of}
 use Rattle.grs_wire.specs.Wants.{answer_to, res_wanted}
 use Rattle.grs_wire.specs.declared.deck.Deck.{Deck}
 use Rattle.grs_wire.specs.declared.medium.Mail.{Mail}
-use Rattle.grs_wire.specs.declared.medium.Mail.TheVariants.{Request, Answered, Granted}
+use Rattle.grs_wire.specs.declared.medium.Mail.TheVariants.{Request, Answered, Granted, Notice, Part}
 use Rattle.grs_wire.specs.declared.request.Fixed.{Fixed}
 use Rattle.grs_wire.specs.declared.request.Fixed.TheVariants as fixing
 use Rattle.grs_wire.specs.declared.request.Req.{Req}
@@ -85,6 +85,8 @@ fits-calm deck words s t f (Granted u r ∷ ms) homely h =
     go b true e more = no_truth (has_manager words h.0.entry s) (homely r h.0.entry e h.0.at) h.0.away.0
     go true false e more = more
     go false false e more = more
+fits-calm deck words s t f (Notice target moved ∷ ms) homely h = absurd h.0
+fits-calm deck words s t f (Part e from records ∷ ms) homely h = absurd h.0
 
 -- and control of such a resource isn't what an item gives up that is to come
 pub late-calm : (deck : Deck) (words : List ℕ) (s : ℕ) (r : Res) (e : ℕ) (xs : List RunItem)

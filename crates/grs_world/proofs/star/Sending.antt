@@ -25,7 +25,7 @@ use Rattle.grs_wire.specs.Masks.{has}
 use Rattle.grs_wire.specs.Wants.{answer_to, res_wanted}
 use Rattle.grs_wire.specs.declared.deck.Deck.{Deck}
 use Rattle.grs_wire.specs.declared.medium.Mail.{Mail}
-use Rattle.grs_wire.specs.declared.medium.Mail.TheVariants.{Request, Answered, Granted}
+use Rattle.grs_wire.specs.declared.medium.Mail.TheVariants.{Request, Answered, Granted, Notice, Part}
 use Rattle.grs_wire.specs.declared.request.Fixed.TheVariants as fixing
 use Rattle.grs_wire.specs.declared.request.Req.{Req}
 use Rattle.grs_wire.proofs.MaskLaws.{has-zero}
@@ -232,6 +232,8 @@ requests-push [] e from q = refl
 requests-push (Request f s z ∷ ms) e from q = ap (λ zs. z ∷ zs) (requests-push ms e from q)
 requests-push (Answered t a rank ∷ ms) e from q = requests-push ms e from q
 requests-push (Granted t r ∷ ms) e from q = requests-push ms e from q
+requests-push (Notice target moved ∷ ms) e from q = requests-push ms e from q
+requests-push (Part x s records ∷ ms) e from q = requests-push ms e from q
 
 -- ---- A system c and a request of its task t, where the words become these.
 module _ (deck : Deck) (w : World) (g : IsWhole deck w) (c : SysId) (n : NodeState) (at : Site w c.0 n) (words : List ℕ)

@@ -9,7 +9,7 @@ use Rattle.grs_medium.specs.Inboxes.{with_mail}
 use Rattle.grs_medium.specs.Medium.{MediumState, inbox}
 use Rattle.std.specs.Prelude.{◌==◌, get_or, slice_get}
 use Rattle.grs_wire.specs.declared.request.Fixed.TheVariants as fixing
-use Rattle.grs_wire.specs.declared.medium.Mail.TheVariants.{Answered, Request, Granted}
+use Rattle.grs_wire.specs.declared.medium.Mail.TheVariants.{Answered, Request, Granted, Notice, Part}
 use Rattle.grs_wire.specs.Wants.{answer_to, res_wanted}
 use Rattle.grs_known.proofs.lists.Truths.{false_by, task_swap}
 use Rattle.std.proofs.lemmas.Bool.{and_parts, eqb-true, eqb-false, not-true, or_parts}
@@ -221,6 +221,8 @@ requests-answered [] t a rank = refl
 requests-answered (Request e from q ∷ ms) t a rank = ap (λ zs. q ∷ zs) (requests-answered ms t a rank)
 requests-answered (Answered u b n ∷ ms) t a rank = requests-answered ms t a rank
 requests-answered (Granted u r ∷ ms) t a rank = requests-answered ms t a rank
+requests-answered (Notice target moved ∷ ms) t a rank = requests-answered ms t a rank
+requests-answered (Part e from records ∷ ms) t a rank = requests-answered ms t a rank
 
 -- ---- The world after a Settle.
 module _ (deck : Deck) (w : World) (g : IsWhole deck w) (c : SysId) (n : NodeState) (at : Site w c.0 n) (p : StarPart)

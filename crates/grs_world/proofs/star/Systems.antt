@@ -21,7 +21,7 @@ use Rattle.grs_wire.specs.History.{entries_for}
 use Rattle.grs_wire.specs.Wants.{answer_to}
 use Rattle.grs_wire.specs.declared.deck.Deck.{Deck}
 use Rattle.grs_wire.specs.declared.medium.Mail.{Mail}
-use Rattle.grs_wire.specs.declared.medium.Mail.TheVariants.{Request, Answered, Granted}
+use Rattle.grs_wire.specs.declared.medium.Mail.TheVariants.{Request, Answered, Granted, Notice, Part}
 use Rattle.grs_wire.specs.declared.request.Fixed.{Fixed}
 use Rattle.grs_wire.specs.declared.request.Fixed.TheVariants as fixing
 use Rattle.grs_wire.specs.declared.request.Req.{Req}
@@ -32,7 +32,7 @@ use Rattle.task_state.specs.Replies.{gives_up}
 use Rattle.task_state.specs.View.{state_of}
 use Rattle.grs_known.specs.Items.{RunItem, is_of, gives_back, mine, lists, reply_in}
 use Rattle.grs_known.specs.Known.{Known, last_of, outstanding, IsRight, learns_item, learns_control, News, Answers}
-use Rattle.grs_known.specs.Known.{Grants, Wants, is_answer_to, Coming}
+use Rattle.grs_known.specs.Known.{Grants, Wants, Silent, is_answer_to, Coming}
 use Rattle.grs_known.proofs.known.Knowing.{one}
 use Rattle.grs_known.proofs.known.ItemLaws.{replies_are_answers}
 use Rattle.grs_known.proofs.known.Histories.{IsHistory, made_item}
@@ -54,6 +54,8 @@ abbrev pub news1 : Mail → News
 news1 (Request e from q) = Wants q
 news1 (Answered t answer rank) = Answers t answer
 news1 (Granted t r) = Grants t r
+news1 (Notice target moved) = Silent
+news1 (Part e from records) = Silent
 
 abbrev pub news_of : List Mail → List News
 news_of ms = map news1 ms
@@ -64,6 +66,8 @@ requests_in [] = []
 requests_in (Request e from q ∷ ms) = q ∷ requests_in ms
 requests_in (Answered t answer rank ∷ ms) = requests_in ms
 requests_in (Granted t r ∷ ms) = requests_in ms
+requests_in (Notice target moved ∷ ms) = requests_in ms
+requests_in (Part e from records ∷ ms) = requests_in ms
 
 -- whether a task's last item is still to come
 abbrev pub is_late : TaskId → List RunItem → Bool
@@ -97,10 +101,13 @@ pub record IsAway (deck : Deck) (words : List ℕ) (s : ℕ) (t : TaskId) (r : R
   pub at : entry_of_res deck.entries r ≡ Some entry
   pub away : Away words s entry
 
+-- no system is sent a notice or a part
 abbrev pub MailFits : Deck → List ℕ → ℕ → Mail → Type 0
 MailFits deck words s (Request e from q) = Unit {0}
 MailFits deck words s (Answered t answer rank) = Unit {0}
 MailFits deck words s (Granted t r) = IsAway deck words s t r
+MailFits deck words s (Notice target moved) = ⊥
+MailFits deck words s (Part e from records) = ⊥
 
 abbrev pub AllFit : Deck → List ℕ → ℕ → List Mail → Type 0
 AllFit deck words s [] = Unit {0}
@@ -131,6 +138,8 @@ abbrev pub is_plain_answer : TaskId → Mail → Bool
 is_plain_answer t (Request e from q) = false
 is_plain_answer t (Answered u answer rank) = same_task t u && (rank == 0)
 is_plain_answer t (Granted u r) = false
+is_plain_answer t (Notice target moved) = false
+is_plain_answer t (Part e from records) = false
 
 -- ---- A system s, with these mails in its inbox.
 pub record IsSystem (deck : Deck) (words : List ℕ) (T : List RunItem) (s : ℕ) (n : NodeState) (ms : List Mail)
@@ -195,6 +204,8 @@ fit-keeps deck words words' s (Granted t r ∷ ms) k h = (
   record { home = h.0.home; entry = h.0.entry; at = h.0.at; away = k.away h.0.entry h.0.away },
   fit-keeps deck words words' s ms k h.1,
 )
+fit-keeps deck words words' s (Notice target moved ∷ ms) k h = absurd h.0
+fit-keeps deck words words' s (Part e from records ∷ ms) k h = absurd h.0
 
 near-keeps : (deck : Deck) (words words' : List ℕ) (s : ℕ) (qs : List Req) → Keeps words words' s
     → list_all (is_near deck words s) qs ≡ true → list_all (is_near deck words' s) qs ≡ true
@@ -308,6 +319,8 @@ pub any-answer : (t : TaskId) (ms : List Mail) → list_any (is_plain_answer t) 
 any-answer t [] h = absurd (cc)
 any-answer t (Request e from q ∷ ms) h = any-answer t ms h
 any-answer t (Granted u r ∷ ms) h = any-answer t ms h
+any-answer t (Notice target moved ∷ ms) h = any-answer t ms h
+any-answer t (Part e from records ∷ ms) h = any-answer t ms h
 any-answer t (Answered u answer rank ∷ ms) h = go (same_task t u) (rank == 0) h (any-answer t ms)
   where
     go : (b c : Bool) → ((b && c) || list_any (is_plain_answer t) ms) ≡ true
@@ -330,6 +343,7 @@ coming-append t T z more k (Grants u r ∷ ns) h = (
   λ apart. coming-append t T z more k ns (h.1 apart),
 )
 coming-append t T z more k (Wants q ∷ ns) h = coming-append t T z more k ns h
+coming-append t T z more k (Silent ∷ ns) h = coming-append t T z more k ns h
 
 fit-append : (deck : Deck) (words : List ℕ) (s : ℕ) (ms : List Mail) (m : Mail) → MailFits deck words s m
     → AllFit deck words s ms → AllFit deck words s (ms ++ m ∷ [])

@@ -14,7 +14,7 @@ use Rattle.grs_known.proofs.lists.Owners.{is_among}
 use Rattle.grs_known.proofs.system.Says.{askers}
 use Rattle.grs_wire.specs.declared.deck.Deck.{Deck}
 use Rattle.grs_wire.specs.declared.medium.Mail.{Mail}
-use Rattle.grs_wire.specs.declared.medium.Mail.TheVariants.{Request, Answered, Granted}
+use Rattle.grs_wire.specs.declared.medium.Mail.TheVariants.{Request, Answered, Granted, Notice, Part}
 use Rattle.grs_wire.specs.declared.request.Answer.{Answer}
 use Rattle.grs_wire.specs.declared.request.Req.{Req}
 use Rattle.grs_world.proofs.star.Heard.{AreAddressed, grants, hears, is_timely}
@@ -53,6 +53,8 @@ hears-grown t r recorded (Granted u q ∷ ms) more h =
         → (b || hears t r recorded (ms ++ more)) ≡ true
     go true k on = refl
     go false k on = on k
+hears-grown t r recorded (Notice target moved ∷ ms) more h = hears-grown t r recorded ms more h
+hears-grown t r recorded (Part e from records ∷ ms) more h = hears-grown t r recorded ms more h
 
 pub addressed-grown : (deck : Deck) (ms more : List Mail) → AreAddressed deck ms → AreAddressed deck more
     → AreAddressed deck (ms ++ more)
@@ -64,6 +66,8 @@ requests-grown [] more = refl
 requests-grown (Request e from q ∷ ms) more = ap (λ qs. q ∷ qs) (requests-grown ms more)
 requests-grown (Answered t a rank ∷ ms) more = requests-grown ms more
 requests-grown (Granted t r ∷ ms) more = requests-grown ms more
+requests-grown (Notice target moved ∷ ms) more = requests-grown ms more
+requests-grown (Part e from records ∷ ms) more = requests-grown ms more
 
 pub among-append : (t : TaskId) (xs ys : List Req)
     → is_among t (askers (xs ++ ys)) ≡ (is_among t (askers xs) || is_among t (askers ys))
@@ -99,6 +103,8 @@ pub untimely : (t : TaskId) (ms : List Mail) → answers t ms ≡ false → list
 untimely t [] h = refl
 untimely t (Request e from q ∷ ms) h = untimely t ms h
 untimely t (Granted u r ∷ ms) h = untimely t ms h
+untimely t (Notice target moved ∷ ms) h = untimely t ms h
+untimely t (Part e from records ∷ ms) h = untimely t ms h
 untimely t (Answered u a rank ∷ ms) h = go (same_task t u) (nat_le rank last_number) h (untimely t ms)
   where
     go : (b c : Bool) → (b || answers t ms) ≡ false → (answers t ms ≡ false → list_any (is_timely t) ms ≡ false)
@@ -128,6 +134,8 @@ hears-recorded t r recorded (Granted u q ∷ ms) h k =
     go b true f more = refl
     go true false f more = more f
     go false false f more = more f
+hears-recorded t r recorded (Notice target moved ∷ ms) h k = hears-recorded t r recorded ms h k
+hears-recorded t r recorded (Part e from records ∷ ms) h k = hears-recorded t r recorded ms h k
 
 -- ---- the last mail
 -- an answer that grants makes a record
@@ -141,6 +149,8 @@ hears-answer t r [] a rank h timely granted = go (is_timely t (Answered t a rank
     go false c e f = absurd (cc)
 hears-answer t r (Request e from q ∷ ms) a rank h timely granted = hears-answer t r ms a rank h timely granted
 hears-answer t r (Granted u q ∷ ms) a rank h timely granted = hears-answer t r ms a rank h timely granted
+hears-answer t r (Notice target moved ∷ ms) a rank h timely granted = hears-answer t r ms a rank h timely granted
+hears-answer t r (Part e from records ∷ ms) a rank h timely granted = hears-answer t r ms a rank h timely granted
 hears-answer t r (Answered u b k ∷ ms) a rank h timely granted =
     go (same_task t u) (nat_le k last_number) h (hears-answer t r ms a rank)
   where
@@ -169,6 +179,8 @@ hears-control t r (Answered u a rank ∷ ms) =
     go false d h = h
 hears-control t r (Granted u q ∷ ms) =
     or_right (same_task t u && same_res r q) (hears t r true (ms ++ Granted t r ∷ [])) (hears-control t r ms)
+hears-control t r (Notice target moved ∷ ms) = hears-control t r ms
+hears-control t r (Part e from records ∷ ms) = hears-control t r ms
 
 -- control finds a record, which is there or is made by an answer before
 pub hears-granted : (t : TaskId) (r : Res) (recorded : Bool) (ms : List Mail)
@@ -190,6 +202,8 @@ hears-granted t r recorded ms (inr h) = behind ms h
     behind (Granted u q ∷ xs) k =
         or_right (recorded && (same_task t u && same_res r q)) (hears t r recorded (xs ++ Granted t r ∷ []))
         (behind xs k)
+    behind (Notice target moved ∷ xs) k = behind xs k
+    behind (Part e from records ∷ xs) k = behind xs k
 
 -- ---- the first mail is taken
 -- it is of another task

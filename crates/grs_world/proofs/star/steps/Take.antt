@@ -16,7 +16,7 @@ use Rattle.grs_node.specs.Star.{StarPart, StarStep, entry_for, manages, fixing_n
 use Rattle.lock_structure.specs.Entries.{is_entry}
 use Rattle.grs_wire.specs.declared.deck.Deck.{Deck}
 use Rattle.grs_wire.specs.declared.medium.Mail.{Mail}
-use Rattle.grs_wire.specs.declared.medium.Mail.TheVariants.{Request, Answered, Granted}
+use Rattle.grs_wire.specs.declared.medium.Mail.TheVariants.{Request, Answered, Granted, Notice, Part}
 use Rattle.grs_wire.specs.declared.request.Answer.{Answer}
 use Rattle.grs_wire.specs.declared.request.Req.{Req}
 use Rattle.grs_wire.proofs.WantLaws.{by_test}
@@ -383,6 +383,8 @@ module _ (deck : Deck) (w : World) (g : IsWhole deck w) (c : SysId) (n : NodeSta
   takes (Granted t r) is =
       by_test Takes (is_of_deck deck t) (took_mail n.tasks p (Granted t r)) (fixing_none n.tasks p)
       (λ h. takes_control t r is h) (λ h. drops_control t r is h)
+  takes (Notice target moved) is = absurd (system_now (Notice target moved) is).fits.0
+  takes (Part e from records) is = absurd (system_now (Part e from records) is).fits.0
 
 -- ---- the event
 module _ (deck : Deck) (w : World) (g : IsWhole deck w) (c : SysId) (n : NodeState) (at : Site w c.0 n) where

@@ -21,7 +21,7 @@ use Rattle.grs_node.specs.Node.{NodeState, with_star}
 use Rattle.grs_node.specs.Star.{StarPart, to_tell, told_by, fixing_none}
 use Rattle.grs_wire.specs.declared.deck.Deck.{Deck}
 use Rattle.grs_wire.specs.declared.medium.Mail.{Mail}
-use Rattle.grs_wire.specs.declared.medium.Mail.TheVariants.{Request, Answered, Granted}
+use Rattle.grs_wire.specs.declared.medium.Mail.TheVariants.{Request, Answered, Granted, Notice, Part}
 use Rattle.lock_structure.specs.Laws.{is_interested}
 use Rattle.grs_known.specs.Items.{RunItem, lists, items}
 use Rattle.grs_known.proofs.known.Histories.{owns-may}
@@ -106,6 +106,8 @@ requests-granted [] t r = refl
 requests-granted (Request e from q ∷ ms) t r = ap (λ zs. q ∷ zs) (requests-granted ms t r)
 requests-granted (Answered u a rank ∷ ms) t r = requests-granted ms t r
 requests-granted (Granted u q ∷ ms) t r = requests-granted ms t r
+requests-granted (Notice target moved ∷ ms) t r = requests-granted ms t r
+requests-granted (Part e from records ∷ ms) t r = requests-granted ms t r
 
 module _ (deck : Deck) (w : World) (g : IsWhole deck w) (c : SysId) (n : NodeState) (at : Site w c.0 n) where
   abbrev T : List RunItem

@@ -29,6 +29,7 @@ leaves n m (choices.Send t) fixed told none other = rw (told, none) refl
 leaves n m choices.Take fixed told none other = rw (told, none) refl
 leaves n m choices.Settle fixed told none other = rw (told, none) refl
 leaves n m (choices.Tell e) fixed told none other = rw (told, none) refl
+leaves n m (choices.Part e) fixed told none other = rw (told, none) refl
 leaves n m (choices.Leave e) fixed told none other = rw (told, none) refl
 leaves n m choices.Switch fixed told none other = rw (told, none) refl
 leaves n m (choices.Purge target) fixed told none other = absurd (other target refl)
