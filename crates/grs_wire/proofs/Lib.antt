@@ -3,3 +3,4 @@ pub mod WantLaws
 pub mod RemoveLaws
 pub mod HistoryLaws
 pub mod DeckLaws
+pub mod Samples

@@ -7,3 +7,4 @@ pub mod ToldTo
 pub mod Wants
 pub mod History
 pub mod Laws
+pub mod Notices

@@ -29,6 +29,11 @@ abbrev pub others : ℕ → ℕ → ℕ
 others zero m = 0
 others (suc n) m = cond (has m n) (others n m) (with_also (others n m) n)
 
+-- the set f without the systems below n that aren't in the set m
+abbrev pub without_others : ℕ → ℕ → ℕ → ℕ
+without_others zero m f = f
+without_others (suc n) m f = cond (has m n) (without_others n m f) (without (without_others n m f) n)
+
 -- whether each system below n that isn't in the set m passes the test
 abbrev pub all_others : ℕ → ℕ → (ℕ → Bool) → Bool
 all_others zero m test = true

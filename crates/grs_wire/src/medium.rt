@@ -1,7 +1,9 @@
 //! What passes between a system and the shared medium: calls, replies, mail, and the entries of the authority
 //! message, which is the RSA-message of z/OS MVS Planning: Global Resource Serialization. Calls and replies are this
 //! project's own. A set of systems is a number here; `masks` has the words for it.
-ghost use Rattle.std.specs.Prelude.{◌≡◌, IfOk};
+ghost use Rattle.std.specs.Prelude.{◌≡◌, ◌==◌, IfOk};
+ghost use Rattle.std.specs.List.{list_any};
+ghost use Rattle.grs_wire.specs.Notices.{names};
 
 use super::gather::{Moved, PartRec};
 use super::request::{Answer, Req};
@@ -195,7 +197,27 @@ impl Copied for RingEntry {
     }
 }
 
+/// Whether one of these lock entries is this one.
+fn is_among(moved: &[Moved], entry: u32) -> bool
+    ensures { result ≡ list_any (λ m. m.entry == entry) moved.now }
+{
+    moved.iter().any(|item| item.entry == entry)
+}
+
 impl Mail {
+    /// Whether it is a notice that names this lock entry.
+    pub fn names(&self, entry: u32) -> bool
+        ensures { result ≡ names entry self.now }
+    {
+        match self {
+            Mail::Notice { moved, .. } => is_among(moved.as_slice(), entry),
+            Mail::Request { .. }
+            | Mail::Answered { .. }
+            | Mail::Granted { .. }
+            | Mail::Part { .. } => false,
+        }
+    }
+
     /// An equal mail.
     pub fn copy(&self, alloc: Global) -> Result<Mail, NoMemory>
         ensures { IfOk result (λ mail. mail ≡ self.now) }
