@@ -165,6 +165,21 @@ dropped m c t live = record {
   next = suc m.next;
 }
 
+-- The message once t is removed in star mode: t has nothing to process and nothing to change any more. No entry tells
+-- of the removal. From t the message goes on to the next system that has yet to change, and nowhere where there is
+-- none.
+unfoldable pub departed : Message → SysId → Message
+departed m t =
+    let still = without m.still t.0 in
+    record {
+      systems = m.systems;
+      holder = cond (stands_at m.holder t) (first_after m.systems t (λ s. has still s.0)) m.holder;
+      closed = m.closed;
+      still = still;
+      entries = cleared t m.entries;
+      next = m.next;
+    }
+
 -- where the message stands once only the systems of this set have to come to it
 abbrev pub moved_on : ℕ → Option SysId → ℕ → Option SysId
 moved_on systems None still = None

@@ -1,7 +1,7 @@
 //! The message as a whole.
 ghost use Rattle.std.specs.Prelude.{◌≡◌, ◌+◌, ◌<◌, ◌≤◌, true, length, if◌then◌else◌, Some, None, IfOk, OnOk};
 ghost use Rattle.grs_base.specs.Limits.{most_systems, last_number};
-ghost use Rattle.rsa_message.specs.Message.{system_number, stands_at, opened, never_opened, first_number, turn_reply, turned, turned_open, turned_closed, turn_changes, wakes, dropped, closed_by, message_at_end, taken, put_in};
+ghost use Rattle.rsa_message.specs.Message.{system_number, stands_at, opened, never_opened, first_number, turn_reply, turned, turned_open, turned_closed, turn_changes, wakes, dropped, departed, closed_by, message_at_end, taken, put_in};
 ghost use Rattle.grs_wire.specs.Unseen.{unseen};
 ghost use Rattle.rsa_message.specs.Places.{HasPlaces};
 ghost use Rattle.rsa_message.specs.Room.{HasRoom, given_to};
@@ -317,6 +317,24 @@ impl Rsa {
         self.room = 0;
         if stands_at(self.holder, target) {
             self.holder = first_in(self.systems, target, live);
+        }
+    }
+
+    /// A system that is removed in star mode leaves the message, and no entry tells of it. A message that stood at it goes on to
+    /// the next system that has yet to change to star mode, if any. It takes no memory.
+    #[tactic(auto, unfolding(crate::specs::Message::departed))]
+    pub fn depart(&mut self, system: SysId)
+        requires { system.0 < self.old.message.systems }
+        ensures message { self.new.message ≡ departed self.old.message system }
+        ensures systems { self.new.message.systems ≡ self.old.message.systems }
+    {
+        self.ready = None;
+        self.given = List::new(self.alloc);
+        clear(&mut self.entries, system);
+        self.room = 0;
+        self.still = without_system(self.still, system);
+        if stands_at(self.holder, system) {
+            self.holder = first_in(self.systems, system, self.still);
         }
     }
 
