@@ -2,6 +2,7 @@ pub mod Ranges
 pub mod LeastLaws
 pub mod MovedLaws
 pub mod Purges
+pub mod Within
 pub mod Samples
 pub mod PurgeSamples
 pub mod WordLaws

@@ -28,7 +28,7 @@ same-members m n h k e =
     same_from_bits_below 8 m n h k
     (λ i low. same-bit (bit_at m i) (bit_at n i) (bit_at-lt m i) (bit_at-lt n i) (e i low))
 
-member-lt : (m s : ℕ) → m < 256 → has m s ≡ true → s < 8
+pub member-lt : (m s : ℕ) → m < 256 → has m s ≡ true → s < 8
 unfolding has
 member-lt m s h is = go (dec_lt s 8)
   where
@@ -39,7 +39,7 @@ member-lt m s h is = go (dec_lt s 8)
         absurd (true≢false (sym is ∙ ap (λ (b : ℕ). eqb b 1) none))
 
 -- ---- each system that isn't in a set passes a test, or one doesn't
-passes : (n m : ℕ) (test : ℕ → Bool) → all_others n m test ≡ true → (s : ℕ) → s < n → (has m s || test s) ≡ true
+pub passes : (n m : ℕ) (test : ℕ → Bool) → all_others n m test ≡ true → (s : ℕ) → s < n → (has m s || test s) ≡ true
 passes zero m test all s h = absurd (omega arith)
 passes (suc n) m test all s h =
     go (ℕ_discrete s n)

@@ -5,7 +5,7 @@ use Rattle.std.specs.List.{All, list_all}
 use Rattle.grs_base.specs.declared.resource.SysId.{SysId}
 use Rattle.grs_wire.specs.LockWords.{interest, manager, epoch, is_manager}
 use Rattle.grs_wire.specs.Masks.{has}
-use Rattle.lock_structure.specs.Words.{word_at}
+use Rattle.lock_structure.specs.Words.{word_at, ManagerIsBelow, MaskIsBelow}
 use Rattle.lock_structure.specs.RankedRows.{rises}
 use Rattle.lock_structure.specs.Laws.{IsManaged, is_interested}
 use Rattle.lock_structure.specs.Purge.{last_epoch, purged_word, purged_words, moved_at, moved, moved_for}
@@ -52,6 +52,12 @@ PurgeKeepsWord =
 
 abbrev pub PurgeKeepsAllManaged : Type 0
 PurgeKeepsAllManaged = (words : List ℕ) (t : SysId) → All IsManaged words → All IsManaged (purged_words words t)
+
+-- Words that name some of so many systems alone, as interested and as managers, do so behind a removal.
+abbrev pub PurgeKeepsNames : Type 0
+PurgeKeepsNames =
+    (systems : ℕ) (words : List ℕ) (t : SysId) → All (MaskIsBelow systems) words → All (ManagerIsBelow systems) words
+    → All (MaskIsBelow systems) (purged_words words t) × All (ManagerIsBelow systems) (purged_words words t)
 
 -- What is made known of an entry, once: its manager, who has interest in it, and its epoch, as its word has them behind
 -- the removal, where the removed system managed it and somebody has interest in it.

@@ -1,5 +1,6 @@
 -- The lock words of all entries: where a request goes, and the words after a call.
-use Rattle.std.specs.Prelude.{◌≤◌, ℕ, Bool, false, not, cond, ◌==◌, ◌&&◌, ◌||◌, nat_lt, List, slice_index, slice_set}
+use Rattle.std.specs.Prelude.{◌≡◌, ◌≤◌, ◌<◌, ℕ, Bool, true, false, not, cond, ◌==◌, ◌&&◌, ◌||◌, nat_lt, List}
+use Rattle.std.specs.Prelude.{slice_index, slice_set}
 use Rattle.std.specs.Prelude.{Option, Some, None}
 use Rattle.grs_base.specs.Limits.{most_systems}
 use Rattle.grs_base.specs.declared.resource.SysId.{SysId}
@@ -31,6 +32,10 @@ left_words words entry c = slice_set words entry (left_word (word_at words entry
 -- whether the manager of a word, if it has one, is one of so many systems
 abbrev pub ManagerIsBelow : ℕ → ℕ → Type 0
 ManagerIsBelow systems w = manager_number (manager w) ≤ systems
+
+-- whether all that have interest by a word are of so many systems
+abbrev pub MaskIsBelow : ℕ → ℕ → Type 0
+MaskIsBelow systems w = (s : ℕ) → has (interest w) s ≡ true → s < systems
 
 -- whether a lock word names some of so many systems alone, and its manager has interest; a word of 0 has no manager
 abbrev pub manager_fits : ℕ → ℕ → Option SysId → Bool

@@ -1,5 +1,5 @@
 //! Laws of a removal at the lock words: each function's contract is one, and there is nothing to run.
-ghost use Rattle.lock_structure.specs.PurgeLaws.{PurgeTakesTarget, PurgeKeepsOthers, PurgeNamesLeast, PurgeCounts, EpochsNeverFall, PurgeKeepsManaged, PurgeKeepsWord, PurgeKeepsAllManaged, MovedOnce, MovedAreEntries, MovedInOrder, MovedForInterested};
+ghost use Rattle.lock_structure.specs.PurgeLaws.{PurgeTakesTarget, PurgeKeepsOthers, PurgeNamesLeast, PurgeCounts, EpochsNeverFall, PurgeKeepsManaged, PurgeKeepsWord, PurgeKeepsAllManaged, PurgeKeepsNames, MovedOnce, MovedAreEntries, MovedInOrder, MovedForInterested};
 
 /// Behind a removal those have interest who had, but not the removed system.
 pub fn purge_takes_target()
@@ -39,6 +39,11 @@ pub fn purge_keeps_word()
 /// A removal leaves of each entry a manager exactly where somebody has interest.
 pub fn purge_keeps_all_managed()
     ensures { PurgeKeepsAllManaged }
+{}
+
+/// Words that name some of so many systems alone do so behind a removal.
+pub fn purge_keeps_names()
+    ensures { PurgeKeepsNames }
 {}
 
 /// An entry is made known once, where the removed system managed it and somebody else has interest in it.
