@@ -2,6 +2,7 @@
 //! nothing knows who keeps the list.
 #![tactic(auto)]
 
+pub mod laws;
 mod owners;
 
 pub use owners::freed;
