@@ -124,11 +124,11 @@ before-filter : (p : Ranked → Bool) (x : Ranked) (xs : List Ranked) → list_a
 before-filter p x [] h = refl
 before-filter p x (y ∷ xs) h = grind (arith, h, before-filter p x xs)
 
-by_rank-filter : (p : Ranked → Bool) (xs : List Ranked) → by_rank xs ≡ true → by_rank (filter p xs) ≡ true
+pub by_rank-filter : (p : Ranked → Bool) (xs : List Ranked) → by_rank xs ≡ true → by_rank (filter p xs) ≡ true
 by_rank-filter p [] h = refl
 by_rank-filter p (x ∷ xs) h = grind (arith, h, before-filter p x xs, by_rank-filter p xs)
 
-below-filter : (p : Ranked → Bool) (n : ℕ) (xs : List Ranked) → below n xs ≡ true → below n (filter p xs) ≡ true
+pub below-filter : (p : Ranked → Bool) (n : ℕ) (xs : List Ranked) → below n xs ≡ true → below n (filter p xs) ≡ true
 below-filter p n [] h = refl
 below-filter p n (x ∷ xs) h = grind (arith, h, below-filter p n xs)
 
@@ -152,7 +152,8 @@ ranked-mark n b r t xs =
     ranked-map (λ x. cond (is_of r t x) (marked b x) x) (λ x. cond-res (marked b) (is_of r t x) x refl)
     (λ x. cond-rank (marked b) (is_of r t x) x refl) n xs
 
-ranked-control : (s n : ℕ) (r : Res) (ts : List TaskId) (xs : List Ranked) → IsRanked (record { next = n; items = xs })
+pub ranked-control : (s n : ℕ) (r : Res) (ts : List TaskId) (xs : List Ranked)
+    → IsRanked (record { next = n; items = xs })
     → IsRanked (record { next = n; items = with_control s r ts xs })
 ranked-control s n r [] xs h = h
 ranked-control s n r (t ∷ ts) xs h =

@@ -11,6 +11,8 @@ pub mod OwnLemmas
 pub mod ManagerLaws
 pub mod InstallLemmas
 pub mod LoseLemmas
+pub mod NameOrder
+pub mod GainLemmas
 pub mod LoseLawProofs
 pub mod LoseSamples
 pub mod InstallSamples

@@ -1,29 +1,24 @@
 -- A system's elements leave the lists of an entry, and who gets control by that is marked.
-use Rattle.std.proofs.Common.{◌≡◌, ◌≤◌, ◌<◌, ◌+◌, ℕ, zero, suc, Bool, true, false, cond, not, ◌&&◌, ◌||◌, List, [], ◌∷◌}
-use Rattle.std.proofs.Common.{◌++◌, length, map, take, drop, get_or, set, Option, Some, None, is_some, refl, ap, sym}
-use Rattle.std.proofs.Common.{◌∙◌}
-use Rattle.std.proofs.Common.{subst, arith, append_assoc, append-nil}
+use Rattle.std.proofs.Common.{◌≡◌, ◌≤◌, ◌<◌, ◌+◌, ℕ, zero, suc, Bool, true, false, cond, not, ◌&&◌, List, [], ◌∷◌, ◌++◌}
+use Rattle.std.proofs.Common.{length, map, take, drop, get_or, set, Option, Some, None, refl, ap, sym, ◌∙◌, subst}
+use Rattle.std.proofs.Common.{arith}
 use Rattle.std.specs.Prelude.{◌==◌, filter, slice_get}
-use Rattle.std.specs.List.{insert, flat_map, list_all}
+use Rattle.std.specs.List.{list_all}
 use Rattle.std.specs.Map.{lookup}
-use Rattle.std.specs.Ordering.{is_lt}
 use Rattle.std.proofs.lemmas.Bool.{eqb-true}
 use Rattle.std.proofs.lemmas.Bool.Decides.{nat_tests}
 use Rattle.std.specs.Option.{option_map}
-use Rattle.std.proofs.lemmas.List.{take_more}
 use Rattle.std.proofs.lemmas.List.Edits.{map_over_more}
-use Rattle.grs_base.specs.ResOrder.{res_order}
 use Rattle.grs_base.specs.Rows.{rows_of}
-use Rattle.grs_base.specs.Same.{same_res, same_task}
+use Rattle.grs_base.specs.Same.{same_res}
 use Rattle.grs_base.specs.State.{State, is_systems, remove_state}
 use Rattle.grs_base.specs.declared.resource.Res.{Res}
 use Rattle.grs_base.specs.declared.resource.Row.{Row}
 use Rattle.grs_base.specs.declared.resource.TaskId.{TaskId}
-use Rattle.grs_base.proofs.SameLaws.{same_res-exact, same_res-itself, same_task-exact, same_task-itself}
+use Rattle.grs_base.proofs.SameLaws.{same_res-exact, same_task-exact}
 use Rattle.freed_owners.specs.Freed.{freed}
 use Rattle.contention_mgr.specs.Elements.{holds}
-use Rattle.contention_mgr.specs.Loses.{Freed, put_by_name, by_name_with, own_freed, freed_lists, stays, with_freed}
-use Rattle.contention_mgr.specs.Loses.{lost}
+use Rattle.contention_mgr.specs.Loses.{Freed, freed_lists, stays, with_freed, lost}
 use Rattle.contention_mgr.specs.Manager.{Ranked, Managed, plain, with_control}
 use Rattle.contention_mgr.specs.Marks.{same_spot, mark_at, mark_under, numbered_from, untold_in, is_told, ranked_all}
 use Rattle.contention_mgr.specs.Marks.{AreMarked}
@@ -32,71 +27,6 @@ use Rattle.contention_mgr.specs.declared.marks.Mark.{Mark}
 use Rattle.contention_mgr.specs.declared.marks.Spot.{Spot}
 use Rattle.contention_mgr.proofs.ItemLemmas.{Marking, plain-ranked}
 use Rattle.contention_mgr.proofs.MarkLemmas.{number-above, told-each}
-
--- ---- the place of a resource
-drop-next : {X : Type 0} (xs : List X) (i : ℕ) (x : X) → i < length xs → x ≡ get_or xs i x
-    → drop i xs ≡ x ∷ drop (i + 1) xs
-drop-next [] i x inside is = absurd (omega (arith, inside))
-drop-next (y ∷ xs) zero x inside is = grind (arith, is)
-drop-next (y ∷ xs) (suc i) x inside is = grind (arith, drop-next xs i x (omega (arith, inside)) is)
-
-pub place-more : (r : Res) (ts : List TaskId) (all : List Freed) (i : ℕ) (g : Freed) → i < length all
-    → g ≡ get_or all i g → false ≡ is_lt (res_order r g.0)
-    → put_by_name (r, ts) all ≡ take i all ++ put_by_name (r, ts) (drop i all)
-    → put_by_name (r, ts) all ≡ take (i + 1) all ++ put_by_name (r, ts) (drop (i + 1) all)
-place-more r ts all i g inside is later so =
-    so
-    ∙ ap (λ (xs : List Freed). take i all ++ put_by_name (r, ts) xs) (drop-next all i g inside is)
-    ∙ ap (λ (b : Bool).
-    take i all ++ cond b ((r, ts) ∷ g ∷ drop (i + 1) all) (g ∷ put_by_name (r, ts) (drop (i + 1) all)))
-    (sym later)
-    ∙ sym (append_assoc (take i all) (g ∷ []) (put_by_name (r, ts) (drop (i + 1) all)))
-    ∙ ap (λ (xs : List Freed). xs ++ put_by_name (r, ts) (drop (i + 1) all))
-    (ap (λ (h : Freed). take i all ++ h ∷ []) is ∙ sym (take_more all i g inside))
-
-pub place-here : (r : Res) (ts : List TaskId) (all : List Freed) (i : ℕ) (g : Freed) → i < length all
-    → g ≡ get_or all i g → true ≡ is_lt (res_order r g.0)
-    → put_by_name (r, ts) all ≡ take i all ++ put_by_name (r, ts) (drop i all)
-    → put_by_name (r, ts) all ≡ insert all i (r, ts)
-place-here r ts all i g inside is sooner so =
-    so
-    ∙ ap (λ (xs : List Freed). take i all ++ put_by_name (r, ts) xs) (drop-next all i g inside is)
-    ∙ ap (λ (b : Bool).
-    take i all ++ cond b ((r, ts) ∷ g ∷ drop (i + 1) all) (g ∷ put_by_name (r, ts) (drop (i + 1) all)))
-    (sym sooner)
-    ∙ ap (λ (xs : List Freed). take i all ++ (r, ts) ∷ xs) (sym (drop-next all i g inside is))
-
-drop-all : {X : Type 0} (xs : List X) (i : ℕ) → length xs ≤ i → drop i xs ≡ []
-drop-all [] zero h = refl
-drop-all [] (suc i) h = refl
-drop-all (x ∷ xs) zero h = absurd (omega (arith, h))
-drop-all (x ∷ xs) (suc i) h = drop-all xs i (omega (arith, h))
-
-pub place-end : (r : Res) (ts : List TaskId) (all : List Freed) (i : ℕ) → length all ≤ i
-    → put_by_name (r, ts) all ≡ take i all ++ put_by_name (r, ts) (drop i all)
-    → put_by_name (r, ts) all ≡ insert all i (r, ts)
-place-end r ts all i past so =
-    so
-    ∙ ap (λ (xs : List Freed). take i all ++ put_by_name (r, ts) xs) (drop-all all i past)
-    ∙ ap (λ (xs : List Freed). take i all ++ (r, ts) ∷ xs) (sym (drop-all all i past))
-
--- ---- one list after the other
-by_name-append : (gs xs ys : List Freed) → by_name_with gs (xs ++ ys) ≡ by_name_with (by_name_with gs xs) ys
-by_name-append gs [] ys = refl
-by_name-append gs (x ∷ xs) ys = by_name-append (put_by_name x gs) xs ys
-
-pub own-next : (s : ℕ) (all : List (List Freed)) (i : ℕ) (fs : List Freed) (own after : List Freed) (z : List Freed)
-    (lent : List Freed) → i < length all → fs ≡ get_or all i fs → lent ≡ fs
-    → after ≡ by_name_with own (map (own_freed s) lent)
-    → by_name_with own (flat_map (λ gs. map (own_freed s) gs) (drop i all)) ≡ z
-    → by_name_with after (flat_map (λ gs. map (own_freed s) gs) (drop (i + 1) all)) ≡ z
-own-next s all i fs own after z lent inside is same step so =
-    ap (λ (gs : List Freed). by_name_with gs (flat_map (λ hs. map (own_freed s) hs) (drop (i + 1) all)))
-    (step ∙ ap (λ (gs : List Freed). by_name_with own (map (own_freed s) gs)) same)
-    ∙ sym (by_name-append own (map (own_freed s) fs) (flat_map (λ hs. map (own_freed s) hs) (drop (i + 1) all)))
-    ∙ ap (λ (l : List (List Freed)). by_name_with own (flat_map (λ hs. map (own_freed s) hs) l))
-    (sym (drop-next all i fs inside is))
-    ∙ so
 
 -- ---- one resource more of those of which control was got
 pub freed-more : (sys : ℕ) (f g : Marking) (all rest : List Freed) (one : Freed) (ts : List TaskId) (s : State)
@@ -211,7 +141,7 @@ pub ranked-remove : (f g : Marking) (n : ℕ)
 ranked-remove f g n change [] = refl
 ranked-remove f g n change (h ∷ hs) = grind (arith, change h.0 h.1.task, ranked-remove f g n change hs)
 
-holds-remove : (s : State) (n : ℕ) (r : Res) (t : TaskId)
+pub holds-remove : (s : State) (n : ℕ) (r : Res) (t : TaskId)
     → holds (remove_state s n) r t ≡ (not (is_systems r && (n == t.system.0)) && holds s r t)
 holds-remove [] n r t = go (is_systems r && (n == t.system.0))
   where

@@ -58,3 +58,31 @@ two_entries :
     })
     × (gained two (record { 0 = 2 }) ≡ [])
 two_entries = (refl, refl, refl)
+
+-- One entry, two resources, and on each five tasks: the first system's owns, and two of other systems and two of the
+-- manager's own wait to share. All four own both behind its removal: the two others are still to be told, and the own
+-- ones are told resource by resource.
+abbrev many : Managed
+many = record {
+  next = 11;
+  items =
+      kept b 0 0 E 1 false ∷ kept b 2 0 S 2 false ∷ kept b 3 0 S 3 false ∷ kept b 1 0 S 4 false ∷ kept b 1 1 S 5 false
+      ∷ kept a 0 0 E 6 false ∷ kept a 2 0 S 7 false ∷ kept a 3 0 S 8 false ∷ kept a 1 0 S 9 false
+      ∷ kept a 1 1 S 10 false ∷ [];
+}
+
+abbrev all_own : Managed
+all_own = record {
+  next = 11;
+  items =
+      kept b 2 0 S 2 true ∷ kept b 3 0 S 3 true ∷ kept b 1 0 S 4 false ∷ kept b 1 1 S 5 false ∷ kept a 2 0 S 7 true
+      ∷ kept a 3 0 S 8 true ∷ kept a 1 0 S 9 false ∷ kept a 1 1 S 10 false ∷ [];
+}
+
+abbrev one : ManagerView
+one = record { system = record { 0 = 1 }; entries = Some many ∷ [] }
+
+many_on_two :
+    (lost 1 0 many ≡ all_own)
+    × (gained one (record { 0 = 0 }) ≡ (task 1 0, a) ∷ (task 1 1, a) ∷ (task 1 0, b) ∷ (task 1 1, b) ∷ [])
+many_on_two = (refl, refl)

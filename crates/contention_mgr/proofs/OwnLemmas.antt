@@ -45,11 +45,11 @@ owns_shared-any [] t = refl
 owns_shared-any (e ∷ es) t = grind (arith, owns_shared-any es t)
 
 -- an owner is one of the first elements
-owns-any : (es : List Elem) (t : TaskId) → owns es t ≡ list_any (λ e. same_task t e.task) (take (owners es) es)
+pub owns-any : (es : List Elem) (t : TaskId) → owns es t ≡ list_any (λ e. same_task t e.task) (take (owners es) es)
 owns-any [] t = refl
 owns-any (e ∷ es) t = grind (arith, owns_shared-any es t)
 
-any-pick : (p : TaskId → Bool) (es : List Elem) (t : TaskId)
+pub any-pick : (p : TaskId → Bool) (es : List Elem) (t : TaskId)
     → list_any (same_task t) (pick (λ e. p e.task) (λ e. e.task) es) ≡ (p t && list_any (λ e. same_task t e.task) es)
 any-pick p [] t = grind arith
 any-pick p (e ∷ es) t = grind (arith, any-pick p es t, same_task-exact t e.task)
@@ -123,7 +123,7 @@ module _ (test : Res → TaskId → Bool) where
   pass-untold r t (x ∷ xs) own h =
       grind (arith, own, h, same_res-exact r x.res, same_task-exact t x.elem.task, pass-untold r t xs)
 
-  pass-control : (system : ℕ) (r : Res) (ts : List TaskId) (xs : List Ranked)
+  pub pass-control : (system : ℕ) (r : Res) (ts : List TaskId) (xs : List Ranked)
       → ((u : TaskId) → list_any (same_task u) ts ≡ true → not (system == u.system.0) ≡ true → test r u ≡ true)
       → untold_pass test xs ≡ true → untold_pass test (with_control system r ts xs) ≡ true
   pass-control system r [] xs own h = h
@@ -376,7 +376,7 @@ control-none : (among away same : Bool) → (same ≡ true → away ≡ false) �
 control-none among away false f = refl
 control-none among away true f = grind (arith, f)
 
-at-control : (system : ℕ) (r : Res) (q : Res) (u : TaskId) (ts : List TaskId) (xs : List Ranked)
+pub at-control : (system : ℕ) (r : Res) (q : Res) (u : TaskId) (ts : List TaskId) (xs : List Ranked)
     → untold_at (with_control system r ts xs) q u
     ≡ (untold_at xs q u
     || ((same_res r q && (list_any (same_task u) ts && not (system == u.system.0))) && holds (plain xs) q u))
@@ -410,7 +410,7 @@ at-control system r q u (t ∷ ts) xs =
         (λ same. subst (λ (v : TaskId). not (system == v.system.0) ≡ false) (sym (same_task-exact u t same)) is))
 
 -- who is to be told has an element, and so has an owner
-untold-holds : (q : Res) (u : TaskId) (xs : List Ranked) → untold_at xs q u ≡ true → holds (plain xs) q u ≡ true
+pub untold-holds : (q : Res) (u : TaskId) (xs : List Ranked) → untold_at xs q u ≡ true → holds (plain xs) q u ≡ true
 untold-holds q u [] h = cc
 untold-holds q u (x ∷ xs) h = grind (arith, h, untold-holds q u xs)
 
@@ -478,7 +478,7 @@ at-enqueued m r t c MakeExclusive q
     u = (at-exclusive r t q u m.items, λ h. holds-exclusive (plain m.items) r t q u ∙ untold-holds q u m.items h)
 
 -- an element is taken out, and these tasks gain
-given-untold : (gone was here new : Bool) → (was ≡ true → here ≡ true)
+pub given-untold : (gone was here new : Bool) → (was ≡ true → here ≡ true)
     → ((not gone && was) || (new && (not gone && here))) ≡ ((not gone && here) && (was || new))
 given-untold gone was here new left = grind (arith, left)
 

@@ -1,12 +1,13 @@
 -- What a manager keeps once a system is removed: the elements of its tasks leave the lists, and those who get control
 -- by that and are of other systems are still to be told.
-use Rattle.std.specs.Prelude.{ℕ, Bool, not, ◌&&◌, ◌==◌, cond, List, [], ◌∷◌, map, filter, Option}
+use Rattle.std.specs.Prelude.{ℕ, Bool, not, ◌&&◌, ◌==◌, List, [], ◌∷◌, map, filter, Option}
+use Rattle.std.specs.FinMap.{put}
 use Rattle.std.specs.List.{flat_map}
 use Rattle.std.specs.Option.{option_map}
-use Rattle.std.specs.Ordering.{is_lt}
 use Rattle.grs_base.specs.ResOrder.{res_order}
 use Rattle.grs_base.specs.Rows.{rows_of}
-use Rattle.grs_base.specs.State.{State, is_systems}
+use Rattle.grs_base.specs.Same.{same_res}
+use Rattle.grs_base.specs.State.{State, is_systems, pick}
 use Rattle.grs_base.specs.declared.resource.Res.{Res}
 use Rattle.grs_base.specs.declared.resource.SysId.{SysId}
 use Rattle.grs_base.specs.declared.resource.TaskId.{TaskId}
@@ -23,25 +24,23 @@ Freed = Res × List TaskId
 abbrev pub freed_lists : ℕ → State → List Freed
 freed_lists n s = map (λ x. (x.res, freed n x.res x.elems)) (rows_of s)
 
--- with one more among others, behind those whose resources aren't shown later
-abbrev pub put_by_name : Freed → List Freed → List Freed
-put_by_name f [] = f ∷ []
-put_by_name f (g ∷ gs) = cond (is_lt (res_order f.0 g.0)) (f ∷ g ∷ gs) (g ∷ put_by_name f gs)
+-- those of them who are of system s, each with the resource
+abbrev pub own_freed : ℕ → Freed → List (TaskId × Res)
+own_freed s f = pick (λ u. s == u.system.0) (λ u. (u, f.0)) f.1
 
-abbrev pub by_name_with : List Freed → List Freed → List Freed
-by_name_with gs [] = gs
-by_name_with gs (f ∷ fs) = by_name_with (put_by_name f gs) fs
+-- of some tasks with resources: each resource with those that have it, as they stand, and the resources in the order in
+-- which they are shown
+abbrev pub on_each : List (TaskId × Res) → List (TaskId × Res) → List (Res × List (TaskId × Res))
+on_each all [] = []
+on_each all (p ∷ ps) = put res_order p.1 (filter (λ q. same_res p.1 q.1) all) (on_each all ps)
 
--- those of them who are of system s, and each task with the resource
-abbrev pub own_freed : ℕ → Freed → Freed
-own_freed s f = (f.0, filter (λ u. s == u.system.0) f.1)
-
-abbrev pub with_res : Freed → List (TaskId × Res)
-with_res f = map (λ u. (u, f.0)) f.1
+-- tasks with resources in the order in which their resources are shown
+abbrev pub by_name : List (TaskId × Res) → List (TaskId × Res)
+by_name ps = flat_map (λ e. e.1) (on_each ps ps)
 
 -- of the lists of several entries, those of system s, in the order in which resources are shown
 abbrev pub own_in_order : ℕ → List (List Freed) → List (TaskId × Res)
-own_in_order s all = flat_map with_res (by_name_with [] (flat_map (λ fs. map (own_freed s) fs) all))
+own_in_order s all = by_name (flat_map (λ fs. flat_map (own_freed s) fs) all)
 
 -- what is freed in each entry
 abbrev pub freed_at : ℕ → Option Managed → List Freed

@@ -23,7 +23,7 @@ fn to_tell(home: SysId, task: TaskId, mark: Option<Mark>) -> bool
 }
 
 /// Whether a resource is shown before another.
-pub(crate) fn is_before(a: &Res, b: &Res) -> bool
+fn is_before(a: &Res, b: &Res) -> bool
     ensures { result ≡ is_lt (res_order a.now b.now) }
 {
     match a.order(b) {
