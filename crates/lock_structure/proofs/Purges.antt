@@ -9,7 +9,7 @@ use Rattle.std.proofs.lemmas.List.{get_or-map, map-append}
 use Rattle.std.proofs.lemmas.List.Elements.{filter-append}
 use Rattle.std.proofs.lemmas.List.Folds.{list_all-append}
 use Rattle.grs_base.specs.declared.resource.SysId.{SysId}
-use Rattle.grs_wire.proofs.MaskLaws.{has-zero, has-without_other, without-absent, without-lt}
+use Rattle.grs_wire.proofs.MaskLaws.{has-zero, has-without_same, has-without_other, without-absent, without-lt}
 use Rattle.grs_wire.specs.LockWords.{interest, manager, epoch, manager_number, lock_word, is_manager}
 use Rattle.grs_wire.specs.Masks.{has, without}
 use Rattle.grs_wire.specs.declared.gather.Moved.{Moved}
@@ -19,7 +19,7 @@ use Rattle.lock_structure.specs.Purge.{last_epoch, next_epoch, purged_word, purg
 use Rattle.lock_structure.specs.Purge.{moved_for}
 use Rattle.lock_structure.specs.PurgeLaws.{PurgeTakesTarget, PurgeKeepsOthers, PurgeNamesLeast, PurgeCounts}
 use Rattle.lock_structure.specs.PurgeLaws.{EpochsNeverFall, PurgeKeepsManaged, PurgeKeepsWord, PurgeKeepsAllManaged}
-use Rattle.lock_structure.specs.PurgeLaws.{MovedOnce, MovedAreEntries, MovedInOrder, MovedForInterested}
+use Rattle.lock_structure.specs.PurgeLaws.{MovedOnce, MovedAreEntries, MovedInOrder, MovedForInterested, MovedForOthers}
 use Rattle.lock_structure.specs.RankedRows.{rises}
 use Rattle.lock_structure.specs.Words.{word_at}
 use Rattle.lock_structure.proofs.LawProofs.{managed-word, without-managed, has-without}
@@ -371,3 +371,22 @@ moved_for_interested words t s e inside =
     ∙ at-for e (word_at words e) t s.0
     ∙ ap (λ (w : ℕ). cond (has (interest w) s.0) (moved_at e (word_at words e) t) [])
     (sym (word-purged words t e inside))
+
+-- where no entry tells anything, all of them tell nothing
+none-of : (p : Moved → Bool) (f : ℕ → List Moved) → ((e : ℕ) → filter p (f e) ≡ []) → (es : List ℕ)
+    → filter p (flat_map f es) ≡ []
+none-of p f none [] = refl
+none-of p f none (e ∷ es) =
+    filter-append p (f e) (flat_map f es)
+    ∙ (ap (λ (xs : List Moved). xs ++ filter p (flat_map f es)) (none e) ∙ none-of p f none es)
+
+pub moved_for_others : MovedForOthers
+moved_for_others words t =
+    none-of (λ m. has m.mask t.0) (λ e. moved_at e (word_at words e) t)
+    (λ e.
+    at-for e (word_at words e) t t.0
+    ∙ ap (λ (b : Bool). cond b (moved_at e (word_at words e) t) []) (gone (word_at words e)))
+    (range_with_len 0 (length words))
+  where
+    gone : (w : ℕ) → has (interest (purged_word w t)) t.0 ≡ false
+    gone w = ap (λ (m : ℕ). has m t.0) (interest-purged w t) ∙ has-without_same (interest w) t.0

@@ -80,3 +80,7 @@ MovedForInterested =
     (words : List ℕ) (t s : SysId) (e : ℕ) → e < length words
     → filter (λ m. m.entry == e) (moved_for words t s)
     ≡ cond (is_interested (purged_words words t) e s.0) (moved_at e (word_at words e) t) []
+
+-- The removed system itself gets to know of none.
+abbrev pub MovedForOthers : Type 0
+MovedForOthers = (words : List ℕ) (t : SysId) → moved_for words t t ≡ []

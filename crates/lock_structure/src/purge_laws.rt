@@ -1,5 +1,5 @@
 //! Laws of a removal at the lock words: each function's contract is one, and there is nothing to run.
-ghost use Rattle.lock_structure.specs.PurgeLaws.{PurgeTakesTarget, PurgeKeepsOthers, PurgeNamesLeast, PurgeCounts, EpochsNeverFall, PurgeKeepsManaged, PurgeKeepsWord, PurgeKeepsAllManaged, PurgeKeepsNames, MovedOnce, MovedAreEntries, MovedInOrder, MovedForInterested};
+ghost use Rattle.lock_structure.specs.PurgeLaws.{PurgeTakesTarget, PurgeKeepsOthers, PurgeNamesLeast, PurgeCounts, EpochsNeverFall, PurgeKeepsManaged, PurgeKeepsWord, PurgeKeepsAllManaged, PurgeKeepsNames, MovedOnce, MovedAreEntries, MovedInOrder, MovedForInterested, MovedForOthers};
 
 /// Behind a removal those have interest who had, but not the removed system.
 pub fn purge_takes_target()
@@ -64,4 +64,9 @@ pub fn moved_in_order()
 /// A system gets to know of the entries in which it has interest, and of no others.
 pub fn moved_for_interested()
     ensures { MovedForInterested }
+{}
+
+/// The removed system itself gets to know of none.
+pub fn moved_for_others()
+    ensures { MovedForOthers }
 {}
