@@ -74,15 +74,20 @@ fn tell_ranked(
     alloc: Global,
     tasks: &mut Tasks,
     req: &Req,
-    outcome: &Outcome,
+    outcome: Outcome,
 ) -> Result<(), NoMemory>
     requires { is_task tasks.old req.now.task ≡ true }
-    ensures step { OnOk result (tasks.new ≡ replies.tell_new (client.tell_answer_any_ranked tasks.old req.now.task outcome.now.answer outcome.now.rank (state_of tasks.old req.now.task).outstanding) (res_wanted req.now.want) outcome.now.owners) }
+    ensures step { OnOk result (tasks.new ≡ replies.tell_new (client.tell_answer_any_ranked tasks.old req.now.task outcome.answer outcome.rank (state_of tasks.old req.now.task).outstanding) (res_wanted req.now.want) outcome.owners) }
     ensures system { tasks.new.system ≡ tasks.old.system }
     ensures count { length tasks.new.tasks ≡ length tasks.old.tasks }
 {
-    tell_answer_ranked(alloc, tasks, req.task, &outcome.answer, outcome.rank)?;
-    tell_new(tasks, res_of(&req.want), outcome.owners.as_slice())
+    let Outcome {
+        answer,
+        rank,
+        owners,
+    } = outcome;
+    tell_answer_ranked(alloc, tasks, req.task, answer, rank)?;
+    tell_new(tasks, res_of(&req.want), owners.as_slice())
 }
 
 /// The system manages an entry no longer.
@@ -139,7 +144,7 @@ impl StarPart {
         ensures count { length tasks.new.tasks ≡ length tasks.old.tasks }
     {
         let outcome = self.manager.own_request(req)?;
-        tell_ranked(alloc, tasks, req, &outcome)
+        tell_ranked(alloc, tasks, req, outcome)
     }
 
     /// The system decides the request of a task of its own, if it has one, as the manager of its entry: the asker's answer

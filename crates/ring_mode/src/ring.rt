@@ -9,7 +9,7 @@ ghost use Rattle.ring_mode.specs.Ring.{side_of};
 use super::same::is_asked;
 use grs_base::{NoMemory, Queues, Res};
 use grs_wire::{Answer, Req, Want};
-use queue_table::Table;
+use queue_table::{Outcome, Table};
 use std::alloc::Global;
 use task_state::{Tasks, tell_answer, tell_new};
 
@@ -41,8 +41,8 @@ fn is_awaited(tasks: &Tasks, req: &Req) -> bool
 
 /// Answers an own task that sent this request.
 #[tactic(auto, unfolding(crate::specs::Ring::answer_own))]
-fn answer_own(alloc: Global, tasks: &mut Tasks, req: &Req, answer: &Answer) -> Result<(), NoMemory>
-    ensures step { OnOk result (tasks.new ≡ ring.answer_own tasks.old req.now answer.now) }
+fn answer_own(alloc: Global, tasks: &mut Tasks, req: &Req, answer: Answer) -> Result<(), NoMemory>
+    ensures step { OnOk result (tasks.new ≡ ring.answer_own tasks.old req.now answer) }
     ensures system { tasks.new.system ≡ tasks.old.system }
     ensures count { length tasks.new.tasks ≡ length tasks.old.tasks }
 {
@@ -70,9 +70,9 @@ fn process<Q: Queues>(
             return Ok(());
         }
     }
-    let outcome = table.carry_out(alloc, req)?;
-    answer_own(alloc, tasks, req, &outcome.answer)?;
-    tell_new(tasks, res_of(&req.want), outcome.owners.as_slice())
+    let Outcome { answer, owners, .. } = table.carry_out(alloc, req)?;
+    answer_own(alloc, tasks, req, answer)?;
+    tell_new(tasks, res_of(&req.want), owners.as_slice())
 }
 
 /// Processes a request that the message brought, on the table of the Systems resources, and tells the tasks of the

@@ -39,11 +39,11 @@ pub fn tell_answer_ranked(
     alloc: Global,
     tasks: &mut Tasks,
     task: TaskId,
-    answer: &Answer,
+    answer: Answer,
     rank: u64,
 ) -> Result<(), NoMemory>
     requires { is_task tasks.old task ≡ true }
-    ensures step { OnOk result (tasks.new ≡ client.tell_answer_any_ranked tasks.old task answer.now rank (state_of tasks.old task).outstanding) }
+    ensures step { OnOk result (tasks.new ≡ client.tell_answer_any_ranked tasks.old task answer rank (state_of tasks.old task).outstanding) }
     ensures system { tasks.new.system ≡ tasks.old.system }
     ensures count { length tasks.new.tasks ≡ length tasks.old.tasks }
 {
@@ -99,7 +99,7 @@ pub fn on_mail(alloc: Global, tasks: &mut Tasks, mail: Mail) -> Result<(), NoMem
         Mail::Request { .. } | Mail::Notice { .. } | Mail::Part { .. } => Ok(()),
         Mail::Answered { task, answer, rank } => {
             if has_effect(alloc, tasks, task, &answer, rank)? {
-                tell_answer_ranked(alloc, tasks, task, &answer, rank)
+                tell_answer_ranked(alloc, tasks, task, answer, rank)
             } else {
                 Ok(())
             }

@@ -13,7 +13,7 @@ use super::codes::{
 use super::state::{Asked, Phase, Rec, Showing};
 use super::tasks::Tasks;
 use gqscan::code_of;
-use grs_base::{Code, Ctl, List, NoMemory, Res, Ret, Row, TaskId, copy_all};
+use grs_base::{Code, Ctl, List, NoMemory, Res, Ret, Row, TaskId};
 use grs_wire::{Answer, Req, ToldLine, Verb, Want};
 use std::alloc::Global;
 
@@ -374,15 +374,9 @@ fn go_on_looking(
 
 /// A task whose looks show these rows.
 #[tactic(auto, using(crate::proofs::Keeps::keeps, crate::proofs::Fronts::lines))]
-fn looked(
-    alloc: Global,
-    tasks: &mut Tasks,
-    task: TaskId,
-    asked: Asked,
-    rows: &List<Row>,
-) -> Result<(), NoMemory>
+fn looked(tasks: &mut Tasks, task: TaskId, asked: Asked, rows: List<Row>) -> Result<(), NoMemory>
     requires { is_task tasks.old task ≡ true }
-    ensures step { OnOk result (tasks.new ≡ steps.looked tasks.old task asked rows.now asked.showing) }
+    ensures step { OnOk result (tasks.new ≡ steps.looked tasks.old task asked rows asked.showing) }
     ensures err { OnErr result (tasks.new.told ≡ tasks.old.told) }
     ensures system { tasks.new.system ≡ tasks.old.system }
     ensures count { length tasks.new.tasks ≡ length tasks.old.tasks }
@@ -390,7 +384,7 @@ fn looked(
     let Some(showing) = asked.showing else {
         return Ok(());
     };
-    tasks.add_rows(task, copy_all(alloc, rows.as_slice())?)?;
+    tasks.add_rows(task, rows)?;
     go_on_looking(tasks, task, asked, showing)
 }
 
@@ -401,10 +395,10 @@ fn answer_asked(
     tasks: &mut Tasks,
     task: TaskId,
     asked: Asked,
-    answer: &Answer,
+    answer: Answer,
 ) -> Result<(), NoMemory>
     requires { is_task tasks.old task ≡ true }
-    ensures step { OnOk result (tasks.new ≡ steps.answered tasks.old task asked answer.now) }
+    ensures step { OnOk result (tasks.new ≡ steps.answered tasks.old task asked answer) }
     ensures err { OnErr result (tasks.new.told ≡ tasks.old.told) }
     ensures system { tasks.new.system ≡ tasks.old.system }
     ensures count { length tasks.new.tasks ≡ length tasks.old.tasks }
@@ -412,9 +406,9 @@ fn answer_asked(
     match answer {
         Answer::Coded(_) => {
             let Asked { req, unit, .. } = asked;
-            replied(alloc, tasks, task, &req.want, unit, answer)
+            replied(alloc, tasks, task, &req.want, unit, &answer)
         }
-        Answer::Rows(rows) => looked(alloc, tasks, task, asked, rows),
+        Answer::Rows(rows) => looked(tasks, task, asked, rows),
     }
 }
 
@@ -425,10 +419,10 @@ pub fn tell_answer(
     alloc: Global,
     tasks: &mut Tasks,
     task: TaskId,
-    answer: &Answer,
+    answer: Answer,
 ) -> Result<(), NoMemory>
     requires { is_task tasks.old task ≡ true }
-    ensures step { OnOk result (tasks.new ≡ steps.tell_answer_any tasks.old task answer.now (state_of tasks.old task).outstanding) }
+    ensures step { OnOk result (tasks.new ≡ steps.tell_answer_any tasks.old task answer (state_of tasks.old task).outstanding) }
     ensures err { OnErr result (tasks.new.told ≡ tasks.old.told) }
     ensures system { tasks.new.system ≡ tasks.old.system }
     ensures count { length tasks.new.tasks ≡ length tasks.old.tasks }
