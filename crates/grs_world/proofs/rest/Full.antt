@@ -425,7 +425,7 @@ size-own_step v p t (Some a) =
     ∙ size-ranked v t a (answer_for p (request_of t a)) (rank_of p (request_of t a))
 
 size-took : (deck : Deck) (v : TasksView) (p : StarPart) (m : Mail) → size (take_mail deck v p m).tasks ≡ size v
-unfolding took_mail
+unfolding took_mail after_mail
 size-took deck v p m = go (is_for_deck deck m) m
   where
     go : (b : Bool) (m : Mail) → size (cond b (took_mail v p m) (fixing_none v p)).tasks ≡ size v

@@ -223,7 +223,7 @@ date-granted deck v t r h = date-control false deck v r t h
 
 date-mail : (deck : Deck) (v : TasksView) (p : StarPart) (m : Mail) → AllDate false deck v
     → is_for_deck deck m ≡ true → AllDate false deck (took_mail v p m).tasks
-unfolding took_mail
+unfolding took_mail after_mail
 date-mail deck v p (RequestMail e from q) h for_deck = h
 date-mail deck v p (AnsweredMail t answer rank) h for_deck =
     (keeps-mail deck v t answer rank (and_parts (is_of_deck deck t) (names_of_deck deck answer) for_deck).0 h).date

@@ -85,6 +85,8 @@ granted-still t k T (Granted u p ∷ front) r rest h =
         → Still r t T (outstanding t k T) ⊎ Still r t T None
     go true f now then = now f
     go false f now then = then f
+granted-still t k T (Notice target moved ∷ front) r rest h = granted-still t k T front r rest h
+granted-still t k T (Part e from records ∷ front) r rest h = granted-still t k T front r rest h
 
 records-in : (deck : Deck) (x : ℕ) (r : Res) (ys : List Rec) → entry_of_res deck.entries r ≡ Some x
     → has_res r ys ≡ true → list_any (λ y. is_entry x (entry_of_res deck.entries y.res)) ys ≡ true
