@@ -89,6 +89,7 @@ impl Rsa {
     pub fn reserve_places(&mut self, count: u32) -> Result<(), NoMemory>
         ensures message { self.new.message ≡ self.old.message }
         ensures places { OnOk result (HasPlaces self.new.room count) }
+        ensures just { OnOk result (self.new.room.entries ≡ count) }
     {
         if !self.has_numbers(count) {
             return Err(NoMemory);
@@ -114,12 +115,14 @@ impl Rsa {
         }
     }
 
-    /// Makes room for one Turn of the system with `out` requests. The copies that the reply gives are made here. No entry
-    /// may have a number above `LAST_NUMBER`: a Turn that would put in one that does answers NoMemory.
+    /// Makes room for one Turn of the system with `out` requests: for the entries that it would put in, and no others.
+    /// The copies that the reply gives are made here. No entry may have a number above `LAST_NUMBER`: a Turn that would
+    /// put in one that does answers NoMemory, and one that puts in none never wants a number.
     pub fn reserve(&mut self, caller: SysId, out: u32) -> Result<(), NoMemory>
         requires { caller.0 < self.old.message.systems }
         ensures message { self.new.message ≡ self.old.message }
         ensures room { OnOk result (HasRoom self.new.room caller (put_in self.old.message caller out)) }
+        ensures just { OnOk result (self.new.room.entries ≡ put_in self.old.message caller out) }
     {
         self.reserve_places(self.put_in(caller, out))?;
         self.given = self.copies_for(caller)?;
@@ -259,8 +262,8 @@ impl Rsa {
             && (self.closed || has_unseen(self.entries.as_slice(), caller) || out != 0)
     }
 
-    /// The reply that `turn` with so many requests would give, and whether it would change the message. NoMemory comes
-    /// where there is none for the copies, or a request would have a number above `LAST_NUMBER`.
+    /// The reply that `turn` with so many requests would give once there is room for it, and whether it would change the
+    /// message. NoMemory comes where there is none for the copies.
     #[tactic(auto, unfolding(crate::specs::Message::turn_reply, crate::specs::Message::turn_changes))]
     pub fn preview_turn(
         &self,
@@ -275,9 +278,6 @@ impl Rsa {
     {
         if !stands_at(self.holder, caller) {
             return Ok((Reply::NotYours { at: self.holder }, false));
-        }
-        if !self.has_numbers(self.put_in(caller, out)) {
-            return Err(NoMemory);
         }
         let entries = copy_unseen(self.alloc, self.entries.as_slice(), caller)?;
         let moves = has_unseen(self.entries.as_slice(), caller) || out != 0;
