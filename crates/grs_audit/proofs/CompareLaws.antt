@@ -1,10 +1,12 @@
 -- Lines that are wanted, compared with those that there are.
-use Rattle.std.proofs.Common.{◌≡◌, ◌<◌, ◌+◌, ℕ, List, [], ◌∷◌, ◌++◌, length, Bor, refl, ap, sym, ◌∙◌, arith}
-use Rattle.std.proofs.Common.{append_assoc, append-nil, length-append}
+use Rattle.std.proofs.Common.{◌≡◌, ◌≢◌, ◌<◌, ◌+◌, ℕ, List, [], ◌∷◌, ◌++◌, length, Bor, Option, Some, None}
+use Rattle.std.proofs.Common.{refl, ap, sym, ◌∙◌, arith, append_assoc, append-nil, length-append}
+use Rattle.std.specs.Prelude.{IfSome, MatchOption}
 use Rattle.grs_audit.specs.Compared.{Parts, AreCompared}
 use Rattle.grs_audit.specs.Lines.{lines_in, front, behind}
 use Rattle.grs_audit.specs.declared.compare.Compared.TheVariants as compared
-use Rattle.grs_audit.proofs.HeadLaws.{lines-some}
+use Rattle.grs_audit.proofs.HeadLaws.{lines-some, lines-none}
+use Rattle.grs_audit.proofs.LineLaws.{lines-append}
 
 -- Two texts have so many lines in common before these parts of them.
 pub record AreAlike (wanted text left rest : List ℕ) (n : ℕ) : Type 0 where
@@ -16,9 +18,19 @@ pub record AreAlike (wanted text left rest : List ℕ) (n : ℕ) : Type 0 where
 pub alike-none : (wanted text : List ℕ) → AreAlike wanted text wanted text 0
 alike-none wanted text = record { same = []; wants = refl; has = refl; count = refl }
 
-pub lines-none : (xs : List ℕ) → length xs ≡ 0 → lines_in xs ≡ []
-lines-none [] e = refl
-lines-none (x ∷ xs) e = absurd (omega (arith, e))
+-- a text that begins with lines and their line ends has these lines, and those behind
+lines-begun : (wanted text q rest : List ℕ) → wanted ≡ q ++ 10 ∷ [] → text ≡ wanted ++ rest
+    → lines_in text ≡ lines_in wanted ++ lines_in rest
+lines-begun wanted text q rest ended begins =
+    ap lines_in (begins ∙ ap (λ xs. xs ++ rest) ended)
+    ∙ lines-append q rest
+    ∙ ap (λ xs. lines_in xs ++ lines_in rest) (sym ended)
+
+pub lines-stripped : (wanted text q : List ℕ) → wanted ≡ q ++ 10 ∷ [] → (r : Option (Bor (List ℕ)))
+    → MatchOption r ((rest : List ℕ) → text ≢ wanted ++ rest) (λ x. text ≡ wanted ++ x.now)
+    → IfSome r (λ rest. lines_in text ≡ lines_in wanted ++ lines_in rest.now)
+lines-stripped wanted text q ended None m = tt
+lines-stripped wanted text q ended (Some rest) m = lines-begun wanted text q rest.now ended m
 
 first-same : (x y : List ℕ) (xs ys : List (List ℕ)) → x ∷ xs ≡ y ∷ ys → x ≡ y
 first-same x y xs ys e = cc
@@ -70,10 +82,8 @@ module _ (wanted text left rest : List ℕ) (n : ℕ) (a : AreAlike wanted text 
   }
 
   pub alike-all : (r : Bor (List ℕ)) → r.now ≡ rest → length left ≡ 0
-      → AreCompared (lines_in wanted) (lines_in text) (compared.All r n)
+      → AreCompared (lines_in wanted) (lines_in text) (compared.All r)
   alike-all r is none =
       let whole : lines_in wanted ≡ a.same =
-      a.wants ∙ ap (λ ls. a.same ++ ls) (lines-none left none) ∙ append-nil a.same in (
-        a.has ∙ ap (λ xs. a.same ++ lines_in xs) (sym is) ∙ ap (λ ls. ls ++ lines_in r.now) (sym whole),
-        a.count ∙ ap length (sym whole),
-      )
+      a.wants ∙ ap (λ ls. a.same ++ ls) (lines-none left none) ∙ append-nil a.same in
+      a.has ∙ ap (λ xs. a.same ++ lines_in xs) (sym is) ∙ ap (λ ls. ls ++ lines_in r.now) (sym whole)

@@ -52,6 +52,22 @@ pub lines-some : (xs : List ℕ) → 0 < length xs → lines_in xs ≡ front 10 
 lines-some [] some = absurd (omega (arith, some))
 lines-some (x ∷ xs) some = lines-cut x xs
 
+pub lines-none : (xs : List ℕ) → length xs ≡ 0 → lines_in xs ≡ []
+lines-none [] e = refl
+lines-none (x ∷ xs) e = absurd (omega (arith, e))
+
+-- lines are counted one by one
+pub counted-more : (rest : List ℕ) (n k : ℕ) → 0 < length rest → n + length (lines_in rest) ≡ k
+    → (n + 1) + length (lines_in (behind 10 rest)) ≡ k
+counted-more rest n k some e =
+    let one = ap length (lines-some rest some) in omega (arith, one, e)
+
+pub counted-some : (rest : List ℕ) (n k : ℕ) → 0 < length rest → n + length (lines_in rest) ≡ k → n < k
+counted-some rest n k some e = let one = ap length (lines-some rest some) in omega (arith, one, e)
+
+pub counted-all : (rest : List ℕ) (n k : ℕ) → length rest ≡ 0 → n + length (lines_in rest) ≡ k → n ≡ k
+counted-all rest n k none e = let zero = ap length (lines-none rest none) in omega (arith, zero, e)
+
 -- a number counts on as the largest one, where it is larger
 capped-more : (m n d : ℕ) → capped m ≡ capped n → capped (m * 10 + d) ≡ capped (n * 10 + d)
 capped-more m n d e = omega (arith, e)

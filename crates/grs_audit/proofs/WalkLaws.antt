@@ -61,22 +61,34 @@ next-may v l h e = by_system (system_at v.deck.systems (front 46 (asker_word l))
         (system_at v.deck.systems (behind 32 (behind_asker l))) f
 
 -- ---- one step of the walk
+-- how many of these lines stand before the rest of them
+abbrev pub before : List (List ℕ) → List (List ℕ) → ℕ
+before all rest = length all - length rest
+
+-- a walk has come as far as there are lines before the rest
+at-before : (deck : Deck) (n : ℕ) (all rest : List (List ℕ)) (done far : ℕ) (v : TracksView)
+    → IsAt deck n all rest done far v → IsAt deck n all rest done (before all rest) v
+at-before deck n all rest done far v at =
+    let lines = at.lines in
+    let split = ap length at.split ∙ length-append (printed deck 1 at.hist) rest in
+    let is : far ≡ before all rest = omega (arith, lines, split) in
+    subst (λ x. IsAt deck n all rest done x v) is at
+
 module _ (deck : Deck) (is : IsDeck deck) (n : ℕ) (all rest : List (List ℕ)) (done far : ℕ) (v : TracksView)
     (small : done + 2 < 2 ^ 64) (at : IsAt deck n all rest done far v) (less : done < n) where
-  pub step-on : (m k : ℕ) (r : Bor (List ℕ)) (v' : TracksView) → m ≡ 1 + done
-      → Steps (names_of deck) m v rest (compared.All r k) v'
-      → IsAt deck n all (lines_in r.now) (done + 1) (far + k) v'
-  step-on m k r v' number s = go (next_by_line v (first_in rest)) refl s
+  pub step-on : (m : ℕ) (r : Bor (List ℕ)) (v' : TracksView) → m ≡ 1 + done
+      → Steps (names_of deck) m v rest (compared.All r) v'
+      → IsAt deck n all (lines_in r.now) (done + 1) (before all (lines_in r.now)) v'
+  step-on m r v' number s = go (next_by_line v (first_in rest)) refl s
     where
       go : (o : Option HistEntry) → next_by_line v (first_in rest) ≡ o
-          → StepsBy (names_of deck) m v o rest (compared.All r k) v'
-          → IsAt deck n all (lines_in r.now) (done + 1) (far + k) v'
+          → StepsBy (names_of deck) m v o rest (compared.All r) v'
+          → IsAt deck n all (lines_in r.now) (done + 1) (before all (lines_in r.now)) v'
       go None e s = absurd s
       go (Some h) e s =
-          subst (λ x. IsAt deck n all (lines_in r.now) (done + 1) (far + x) v')
-          (sym (s.1 ∙ ap (λ x. length (entry_lines (names_of deck) x h)) number))
+          at-before deck n all (lines_in r.now) (done + 1) (far + length (entry_lines (names_of deck) (1 + done) h)) v'
           (at-next deck is n all rest done far v small at h v' (lines_in r.now) less (next-may v (first_in rest) h e)
-          s.2 (s.0 ∙ ap (λ x. entry_lines (names_of deck) x h ++ lines_in r.now) number))
+          s.1 (s.0 ∙ ap (λ x. entry_lines (names_of deck) x h ++ lines_in r.now) number))
 
   pub step-off : (m k : ℕ) (v' : TracksView) → m ≡ 1 + done
       → Steps (names_of deck) m v rest (compared.Some k) v' → IsOff deck n all (far + k)
@@ -114,11 +126,10 @@ first-front (x ∷ xs) = ap first_in (sym (lines-cut x xs))
 
 -- ---- what one step says
 pub goes-all : (names : Names) (m : ℕ) (v : TracksView) (h : HistEntry) (ls : List (List ℕ)) (v' : TracksView)
-    (wanted : List ℕ) (r : Bor (List ℕ)) (n : ℕ) → wanted ≡ history_line names m h
-    → AreCompared (lines_in wanted) ls (compared.All r n) → GoesOn v h v' → GoesBy names m v h ls (compared.All r n) v'
-goes-all names m v h ls v' wanted r n e same goes =
-    subst (λ (w : List ℕ). (ls ≡ lines_in w ++ lines_in r.now) × (n ≡ length (lines_in w)) × GoesOn v h v') e
-    (same.0, same.1, goes)
+    (wanted : List ℕ) (r : Bor (List ℕ)) → wanted ≡ history_line names m h
+    → AreCompared (lines_in wanted) ls (compared.All r) → GoesOn v h v' → GoesBy names m v h ls (compared.All r) v'
+goes-all names m v h ls v' wanted r e same goes =
+    subst (λ (w : List ℕ). (ls ≡ lines_in w ++ lines_in r.now) × GoesOn v h v') e (same, goes)
 
 pub goes-some : (names : Names) (m : ℕ) (v : TracksView) (h : HistEntry) (ls : List (List ℕ)) (v' : TracksView)
     (wanted : List ℕ) (n : ℕ) → wanted ≡ history_line names m h → AreCompared (lines_in wanted) ls (compared.Some n)
@@ -161,12 +172,12 @@ pub record IsWalked (deck : Deck) (count : ℕ) (all rest : List (List ℕ)) (do
   pub at : (n : ℕ) → count ≡ capped n → IsAt deck n all rest done far v
 
 pub walked-none : (deck : Deck) (count : ℕ) (all : List (List ℕ)) (v : TracksView) → v.deck ≡ deck → IsBehind [] v
-    → IsWalked deck count all all 0 0 v
+    → IsWalked deck count all all 0 (before all all) v
 walked-none deck count all v of behind = record {
   within = omega arith;
   few = omega arith;
   each = omega arith;
-  at = λ n e. at-first deck n all v of behind;
+  at = λ n e. at-before deck n all all 0 0 v (at-first deck n all v of behind);
 }
 
 capped-small : (n : ℕ) → capped n ≤ n
@@ -186,26 +197,20 @@ module _ (deck : Deck) (is : IsDeck deck) (count : ℕ) (all rest : List (List �
   less-of : (n : ℕ) → count ≡ capped n → done < count → done < n
   less-of n e less = let c = capped-small n in omega (arith, e, less, c)
 
-  pub walked-on : (m k : ℕ) (r : Bor (List ℕ)) (v' : TracksView) → count < 2 ^ 64 → done < count → m ≡ 1 + done
-      → Steps (names_of deck) m v rest (compared.All r k) v'
-      → IsWalked deck count all (lines_in r.now) (done + 1) (far + k) v'
-  walked-on m k r v' wide less number s = record {
+  pub walked-on : (m : ℕ) (r : Bor (List ℕ)) (v' : TracksView) → count < 2 ^ 64 → done < count → m ≡ 1 + done
+      → Steps (names_of deck) m v rest (compared.All r) v'
+      → IsWalked deck count all (lines_in r.now) (done + 1) (before all (lines_in r.now)) v'
+  walked-on m r v' wide less number s = record {
     within = omega (arith, less);
     few = let c = next.lines in let l = ap length next.split ∙ length-append (printed deck 1 next.hist) (lines_in r.now) in
         omega (arith, c, l);
-    each = (at-few deck count all (lines_in r.now) (done + 1) (far + k) v' next).0;
-    at = λ n e. step-on deck is n all rest done far v small (w.at n e) (less-of n e less) m k r v' number s;
+    each = (at-few deck count all (lines_in r.now) (done + 1) (before all (lines_in r.now)) v' next).0;
+    at = λ n e. step-on deck is n all rest done far v small (w.at n e) (less-of n e less) m r v' number s;
   }
     where
-      next : IsAt deck count all (lines_in r.now) (done + 1) (far + k) v'
+      next : IsAt deck count all (lines_in r.now) (done + 1) (before all (lines_in r.now)) v'
       next =
-          step-on deck is count all rest done far v small (w.at count (count-capped count wide)) less m k r v' number s
-
-  -- the lines that go on are among those that are left
-  pub step-few : (m k : ℕ) (r : Bor (List ℕ)) (v' : TracksView) → count < 2 ^ 64 → done < count → m ≡ 1 + done
-      → Steps (names_of deck) m v rest (compared.All r k) v' → far + k ≤ length all
-  step-few m k r v' wide less number s =
-      let few = (walked-on m k r v' wide less number s).few in omega (arith, few)
+          step-on deck is count all rest done far v small (w.at count (count-capped count wide)) less m r v' number s
 
   pub off-few : (m k : ℕ) (v' : TracksView) → count < 2 ^ 64 → done < count → m ≡ 1 + done
       → Steps (names_of deck) m v rest (compared.Some k) v' → far + k ≤ length all

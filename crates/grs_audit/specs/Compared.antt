@@ -16,5 +16,5 @@ pub record Parts (wanted ls : List (List ℕ)) (n : ℕ) : Type 0 where
   pub other : (rest : List (List ℕ)) → behind ≡ next ∷ rest → ⊥
 
 abbrev pub AreCompared : List (List ℕ) → List (List ℕ) → Compared → Type 0
-AreCompared wanted ls (compared.All rest n) = (ls ≡ wanted ++ lines_in rest.now) × (n ≡ length wanted)
+AreCompared wanted ls (compared.All rest) = ls ≡ wanted ++ lines_in rest.now
 AreCompared wanted ls (compared.Some n) = Parts wanted ls n

@@ -14,16 +14,14 @@ use Rattle.grs_audit.specs.declared.compare.Compared.TheVariants as compared
 
 -- Lines go on with those of an entry of a number, which is then carried out; or they don't.
 abbrev pub GoesBy : Names → ℕ → TracksView → HistEntry → List (List ℕ) → Compared → TracksView → Type 0
-GoesBy names number v h ls (compared.All rest n) v' =
-    (ls ≡ lines_in (history_line names number h) ++ lines_in rest.now)
-    × (n ≡ length (lines_in (history_line names number h)))
-    × GoesOn v h v'
+GoesBy names number v h ls (compared.All rest) v' =
+    (ls ≡ lines_in (history_line names number h) ++ lines_in rest.now) × GoesOn v h v'
 GoesBy names number v h ls (compared.Some n) v' = Parts (lines_in (history_line names number h)) ls n
 
 -- The same of the entry that the first line says, if it says one.
 abbrev pub StepsBy : Names → ℕ → TracksView → Option HistEntry → List (List ℕ) → Compared → TracksView → Type 0
 StepsBy names number v (Some h) ls step v' = GoesBy names number v h ls step v'
-StepsBy names number v None ls (compared.All rest n) v' = ⊥
+StepsBy names number v None ls (compared.All rest) v' = ⊥
 StepsBy names number v None ls (compared.Some n) v' = n ≡ 0
 
 abbrev pub first_in : List (List ℕ) → List ℕ

@@ -1,6 +1,6 @@
 //! A text cut at a byte: into its first line and those behind it, or a line into its words.
-ghost use Rattle.std.specs.Prelude.{◌≡◌, ◌<◌, ◌==◌, length, position, IfSome};
-ghost use Rattle.grs_audit.specs.Lines.{front, behind, holds};
+ghost use Rattle.std.specs.Prelude.{◌≡◌, ◌<◌, ◌≤◌, ◌==◌, length, position, IfSome};
+ghost use Rattle.grs_audit.specs.Lines.{lines_in, most_lines, front, behind, holds};
 
 use bstr::ByteSlice;
 
@@ -22,6 +22,21 @@ pub(crate) fn cut<'t>(text: &'t [u8], byte: u8) -> (&'t [u8], &'t [u8])
         Some(at) => (&text[..at], &text[at + 1..]),
         None => (text, &[]),
     }
+}
+
+/// How many lines a text has.
+pub(crate) fn line_count(text: &[u8]) -> usize
+    requires { length (lines_in text.now) ≤ most_lines }
+    ensures { result ≡ length (lines_in text.now) }
+{
+    let mut rest = text;
+    let mut lines: usize = 0;
+    'lines: while !rest.is_empty() {
+        let (_, behind) = cut(rest, b'\n');
+        rest = behind;
+        lines += 1;
+    }
+    lines
 }
 
 /// Whether a byte is among these.

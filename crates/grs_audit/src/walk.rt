@@ -1,5 +1,5 @@
 //! Goes through the lines of a history, entry by entry: what may stand next is printed, and compared with what stands there.
-ghost use Rattle.std.specs.Prelude.{◌≡◌, ◌≤◌, ℕ, [], length, IfOk};
+ghost use Rattle.std.specs.Prelude.{◌≡◌, ◌≤◌, ◌-◌, ℕ, [], length, IfOk};
 ghost use Rattle.std.specs.Str.{bytes_eq};
 ghost use Rattle.grs_wire.specs.Decks.{IsDeck};
 ghost use Rattle.grs_report.specs.History.{history_line};
@@ -12,7 +12,7 @@ ghost use Rattle.grs_audit.specs.Way.{told_word};
 
 use super::asker::next_by_line;
 use super::compare::{Compared, compare};
-use super::parts::cut;
+use super::parts::{cut, line_count};
 use grs_base::{List, NoMemory};
 use grs_display::names_of;
 use grs_report::put_entry;
@@ -23,6 +23,17 @@ use std::alloc::Global;
 /// The line behind a history.
 const TOLD: &[u8] = b"TOLD";
 
+/// How many bytes there is room for with each line of an entry, which is as many as most lines have at most.
+const LINE_ROOM: usize = 64;
+
+/// How many lines an entry has.
+fn lines_of(entry: &HistEntry) -> usize {
+    match entry {
+        HistEntry::Look { rows, .. } => rows.len().saturating_add(1),
+        _ => 1,
+    }
+}
+
 /// The lines of an entry of a number.
 fn printed(
     alloc: Global,
@@ -32,7 +43,7 @@ fn printed(
 ) -> Result<List<u8>, NoMemory>
     ensures { IfOk result (λ text. text ≡ history_line names.now number entry.now) }
 {
-    let mut text = List::new(alloc);
+    let mut text = List::with_room(alloc, lines_of(entry).saturating_mul(LINE_ROOM))?;
     put_entry(alloc, names, number, entry, &mut text)?;
     Ok(text)
 }
@@ -52,9 +63,9 @@ fn go_on<'t>(
 {
     let wanted = printed(alloc, names, number, entry)?;
     match compare(wanted.as_slice(), text) {
-        Compared::All { rest, lines } => {
+        Compared::All { rest } => {
             tracks.carry_out(alloc, entry)?;
-            Ok(Compared::All { rest, lines })
+            Ok(Compared::All { rest })
         }
         Compared::Some { lines } => Ok(Compared::Some { lines }),
     }
@@ -80,6 +91,15 @@ fn step<'t>(
         Some(entry) => go_on(alloc, names, tracks, number, &entry, text),
         None => Ok(Compared::Some { lines: 0 }),
     }
+}
+
+/// How many lines of a text stand before the rest of them.
+fn lines_before(text: &[u8], rest: &[u8]) -> usize
+    requires few { length (lines_in text.now) ≤ most_lines }
+    requires less { length (lines_in rest.now) ≤ length (lines_in text.now) }
+    ensures { result ≡ length (lines_in text.now) - length (lines_in rest.now) }
+{
+    line_count(text) - line_count(rest)
 }
 
 /// Whether a text begins with the line behind a history.
@@ -109,24 +129,19 @@ fn walk_on(
 {
     let mut rest = text;
     let mut done: u64 = 0;
-    let mut lines: usize = 0;
     'entries: while done < count {
         match step(alloc, deck, names, tracks, done + 1, rest)? {
-            Compared::All {
-                rest: behind,
-                lines: more,
-            } => {
+            Compared::All { rest: behind } => {
                 rest = behind;
-                lines += more;
                 done += 1;
             }
-            Compared::Some { lines: more } => return Ok(Some(lines + more)),
+            Compared::Some { lines } => return Ok(Some(lines_before(text, rest) + lines)),
         }
     }
     if is_told(rest) {
         Ok(None)
     } else {
-        Ok(Some(lines))
+        Ok(Some(lines_before(text, rest)))
     }
 }
 

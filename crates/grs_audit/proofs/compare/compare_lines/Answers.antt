@@ -3,7 +3,7 @@ use Rattle.grs_audit.specs.Lines.{front}
 use Rattle.grs_audit.proofs.CompareLaws.{alike-end, alike-other, alike-more}
 use Rattle.grs_audit.proofs.HeadLaws.{behind-shorter}
 use Rattle.grs_audit.proofs.PartLaws.{some-from, none-from, same-from, other-from}
-use Rattle.grs_audit.proofs.compare.compare.Goals as goal
+use Rattle.grs_audit.proofs.compare.compare_lines.Goals as goal
 
 pub returns-then-is_empty : goal.returns-then-is_empty
 returns-then-is_empty c =
