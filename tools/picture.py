@@ -26,18 +26,19 @@ A report tells in which event a task was told something, and in which order requ
   next system that has yet to change, and ends with the last;
 * a system that is removed does nothing from that event on, and its tasks hold nothing; the message goes on from there, and each
   other system's first event that isn't its own tells it of the removal and does nothing else;
+* from the change to star mode on a removal isn't put into the message, and a removed system has no longer to change;
 * a request takes its place in the history in its TASK event, in a ring of a name that all share at the TURN that takes it along,
   in a star at the SEND at which its own system decides it or at the SETTLE of another; up to there it is on its way, and so is control
   from the event that gives it to the one in which it is told;
 * a system is shown to manage lock entries from the first request on that it decides at once, and up to the end, or the last
-  LEAVE, where no lock word names it in the end.
+  LEAVE, where no lock word names it in the end, or its removal.
 
 A command that is never carried out is in no report. So if one keeps a system from resting, the message's place isn't exact. Nor does
 a report say which system manages the names of a request that wasn't answered at once. So in a star with several managers the event in
 which a request has its place is in part a guess, and with it up to where the request is on its way, and from where on it waits.
 The page says so. Nor does it say for which of several ECB requests a task stands at a WAIT line; such a task is shown in no deadlock.
 With --deck all of this is taken from a model of the run (tools/runs.py), where that comes to the same report;
-it tells too which lock entries a system manages, and what was on its way in the end.
+it tells too which lock entries a system manages, whose lists it gathers behind a removal, and what was on its way in the end.
 
 Exit status: 0, the page was written; 8, there is no report, or it isn't one of this deck or of this TEXT; 12, other words; 16, a read failed;
 20, a write failed.
@@ -274,7 +275,8 @@ class Message:
 
     def __init__(self, systems, at, places):
         self.systems, self.at, self.since, self.stays, self.places = systems, at, 0, [], places
-        self.live, self.resting, self.still = set(range(systems)), set(), None
+        # whose removal came in which event
+        self.live, self.removed, self.resting, self.still = set(range(systems)), {}, set(), set() if at is None else None
         self.outboxes, self.entries = [[] for _ in range(systems)], []
         # who is live, as each system knows it
         self.known = [set(self.live) for _ in range(systems)]
@@ -325,16 +327,24 @@ class Message:
             self.go_on(event)
 
     def remove(self, by, system, event):
-        """A system removes another one: the next live one has the message then, where that one had it."""
+        """A system removes another one: the next live one has the message then, where that one had it; from the change to star mode on
+        the next one that has yet to change, if any."""
         self.live.discard(system)
+        self.removed[system] = event
         self.known[by].discard(system)
-        self.resting.discard(by)
         for _, _, mask in self.entries:
             mask.discard(system)
-        self.entries = [*(entry for entry in self.entries if entry[2]), (None, None, set(self.live))]
+        self.entries = [entry for entry in self.entries if entry[2]]
+        if self.still is None:
+            self.entries.append((None, None, set(self.live)))
+            self.resting.discard(by)
+        else:
+            self.still.discard(system)
+            self.resting.clear()
         if self.at == system:
+            after, waited_for = [(system + step) % self.systems for step in range(1, self.systems)], self.live if self.still is None else self.still
             self.stop(event)
-            self.at, self.since = next(it for it in ((system + step) % self.systems for step in range(1, self.systems)) if it in self.live), event
+            self.at, self.since = next((it for it in after if it in waited_for), None), event
 
     def stop(self, event):
         if self.at is not None:
@@ -352,8 +362,8 @@ def slice_of(entry):
 
 
 def follow(run):
-    """Goes through the events a first time, to see who decides what at once, and then by that."""
-    return gone_through(run, gone_through(run, {})[3])[:3]
+    """Goes through the events a first time, to see who decides what at once, and then by that; who gathers lists isn't seen."""
+    return (*gone_through(run, gone_through(run, {})[3])[:3], [])
 
 
 def tasks_of(run):
@@ -373,9 +383,9 @@ def gone_through(run, deciders):
             ends[step.told].append(step)
     of_system = [[task for task in tasks.values() if task.system == number] for number in range(len(run["systems"]))]
     desk = {event: what for _, what, event in run["desk"]}
-    star, alone = is_star(run), len(run["systems"]) == 1
+    alone = len(run["systems"]) == 1
     places = Places(run["history"])
-    message = Message(len(run["systems"]), None if star else 0, places)
+    message = Message(len(run["systems"]), None if is_star(run) else 0, places)
     decides, leaves, seen, taken = {}, {}, {}, {}
     for number, event in enumerate(run["events"], 1):
         name, verb, *rest = event.split()
@@ -398,7 +408,7 @@ def gone_through(run, deciders):
             if not (ordered or message.outboxes[system] or any(task.is_free(number) for task in of_system[system]) or message.is_stale(system)):
                 message.resting.add(system)
         elif verb == "SEND":
-            steps = tasks[name + "." + rest[0]].asked_steps if star or message.is_changed(system) else []
+            steps = tasks[name + "." + rest[0]].asked_steps if message.is_changed(system) else []
             here = next((it for it in steps[-1].entries if it["at"] is None and is_shared_entry(it)), None) if steps else None
             if here and steps[-1].told == number:
                 decides.setdefault(system, number)
@@ -428,9 +438,9 @@ def gone_through(run, deciders):
                 places.told(step, number)
     message.stop(len(run["events"]))
     places.close(len(run["events"]))
-    manage = {word.split()[5] for word in run["words"]}
-    managers = [(first, len(run["events"]) if run["systems"][system] in manage else leaves.get(system, len(run["events"])), system, [])
-                for system, first in decides.items()]
+    manage, last = {word.split()[5] for word in run["words"]}, len(run["events"])
+    managers = [(first, message.removed[system] - 1 if system in message.removed else
+                 last if run["systems"][system] in manage else leaves.get(system, last), system, []) for system, first in decides.items()]
     return list(tasks.values()), message.stays, managers, seen
 
 
@@ -454,11 +464,29 @@ def by_deck(run, text, report):
     return (*found, [model.task_name(it) for it in runs.deadlock(model)])
 
 
+class Spells:
+    """Which lock entries each system has, with the events from which on and up to which."""
+
+    def __init__(self, systems):
+        self.now, self.past = [(1, [])] * systems, []
+
+    def see(self, event, model, has):
+        """Behind an event; a removed system has none from its removal on."""
+        for system, (begun, entries) in enumerate(self.now):
+            found = [] if system in model.medium.removed else sorted(has(model.nodes[system]))
+            if found != entries:
+                self.past.append((begun, event - 1, system, entries))
+                self.now[system] = event, found
+
+    def until(self, last):
+        return [it for it in (*self.past, *((begun, last, system, entries) for system, (begun, entries) in enumerate(self.now))) if it[3]]
+
+
 def modelled(run, deck):
-    """A model of the deck's run, and what `follow` finds, by it."""
-    tasks, model, stays, managers = tasks_of(run), runs.Run(deck), [], []
-    # where the message is, and what each system manages, each with the event from which on
-    at, managed = (0, model.medium.at), [(0, [])] * len(deck.systems)
+    """A model of the deck's run, and what `follow` finds, by it, with who gathers lists."""
+    tasks, model, stays = tasks_of(run), runs.Run(deck), []
+    # where the message is, with the event from which on
+    at, managed, gathered = (0, model.medium.at), Spells(len(deck.systems)), Spells(len(deck.systems))
     for number, event in enumerate(deck.events, 1):
         node, state = model.nodes[event.system], None
         if model.step(event.system, event.verb, event.of) is None and event.verb == "TASK":
@@ -470,16 +498,14 @@ def modelled(run, deck):
         if model.medium.at != at[1]:
             stays.append((at[0], number, at[1]))
             at = number, model.medium.at
-        if sorted(node.managed) != managed[event.system][1]:
-            managers.append((managed[event.system][0], number - 1, event.system, managed[event.system][1]))
-            managed[event.system] = number, sorted(node.managed)
+        managed.see(number, model, lambda it: it.managed)
+        gathered.see(number, model, lambda it: it.gathers)
     stays.append((at[0], len(deck.events), at[1]))
-    managers += [(begun, len(deck.events), system, entries) for system, (begun, entries) in enumerate(managed)]
     for entry, (event, *_) in zip(run["history"], model.history):
         entry["at"] = event
     for task in tasks.values():
         task.removed = model.medium.removed.get(task.system)
-    return model, (list(tasks.values()), [it for it in stays if it[2] is not None], [it for it in managers if it[3]])
+    return model, (list(tasks.values()), [it for it in stays if it[2] is not None], *(it.until(len(deck.events)) for it in (managed, gathered)))
 
 
 # What is drawn
@@ -767,7 +793,7 @@ def picture(report, deck=None, texts=()):
 def drawn(report, deck, texts):
     """The same without a verdict."""
     run = read(report)
-    tasks, stays, managers, *known = follow(run) if deck is None else by_deck(run, deck, report)
+    tasks, stays, managers, gatherers, *known = follow(run) if deck is None else by_deck(run, deck, report)
     queues, last, (told, noticed) = lists(run), len(run["events"]), beside(run, texts)
     if told is None:
         circle, circled = known[0] if known else deadlock(run, tasks), "in a deadlock"
@@ -778,7 +804,8 @@ def drawn(report, deck, texts):
     return {
         "events": run["events"], "mode": run["mode"], "end": run["end"], "words": run["words"], "units": run["units"],
         "history": len(run["history"]), "fixed": [entry["at"] for entry in run["history"]],
-        "systems": run["systems"], "message": stays, "managers": managers, "cycle": circle, "circled": circled, "analyzed": told is not None, "guess": [] if deck is not None else guesses(run),
+        "systems": run["systems"], "message": stays, "managers": managers, "gatherers": gatherers,
+        "cycle": circle, "circled": circled, "analyzed": told is not None, "guess": [] if deck is not None else guesses(run),
         "desk": [{"system": system, "what": commanded(run, what, event), "event": event} for system, what, event in run["desk"]],
         "lanes": [{"task": task.name, "system": task.system, "ended": task.ended, "code": task.code, "end": task.end, "removed": task.removed,
                    "bars": bars(task, last)} for task in tasks],

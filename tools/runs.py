@@ -39,6 +39,8 @@ class Held:
     def __init__(self, asked, told):
         self.resource, self.control, self.unit, self.line, self.ret, self.told = (
             asked.resource, asked.control, asked.unit, asked.line, asked.ret, told)
+        # its place among all elements of its lock entry, in star mode
+        self.rank = 0
 
 
 # phases of a task
@@ -64,7 +66,8 @@ class Medium:
     def __init__(self, systems, entries, is_star):
         self.systems, self.is_star = systems, is_star
         self.at, self.closed, self.still, self.entries = None if is_star else 0, is_star, set(), []
-        self.words, self.inbox = [(0, None)] * entries, [[] for _ in range(systems)]
+        # of each lock entry the mask of who has interest, the manager, and how often a manager was removed
+        self.words, self.inbox = [(0, None, 0)] * entries, [[] for _ in range(systems)]
         self.resting, self.removed = set(), {}
 
     def live(self):
@@ -101,17 +104,44 @@ class Medium:
         self.entries = [it for it in self.entries if it[1]]
 
     def purge(self, by, target, event):
-        if self.is_star:
-            return "INSTAR"
         if target in self.removed:
             return "NOSUCH"
         self.removed[target] = event
         self.leave_masks(target)
+        if self.is_star:
+            self.depart(target)
+            return "DONE"
         self.put(Asked("REMOVE", None, target=target))
         if self.at == target:
             self.at = next(it for it in self.after(target) if it not in self.removed)
         self.resting.discard(by)
         return "DONE"
+
+    def depart(self, target):
+        """A removed system leaves what is shared in star mode. The lock entries that it managed have other managers, and each system
+        with interest gets a notice of them."""
+        self.inbox[target] = []
+        self.still.discard(target)
+        if self.at == target:
+            self.at = next((it for it in self.after(target) if it in self.still), None)
+        notices = {}
+        for entry, (mask, manager, epoch) in enumerate(self.words):
+            mask &= ~(1 << target)
+            if manager == target:
+                manager, epoch = (mask & -mask).bit_length() - 1 if mask else None, epoch + 1
+                for it in self.live():
+                    if mask >> it & 1:
+                        notices.setdefault(it, []).append((entry, manager, mask))
+            self.words[entry] = mask, manager, epoch
+        for it, moved in notices.items():
+            self.inbox[it].append(("notice", moved))
+        self.resting -= set(self.live())
+
+    def moved(self, system, entry):
+        """Whether a notice of an entry lies in a system's inbox: Yours where the system is the manager, Old where another one is."""
+        if any(kind == "notice" and any(it[0] == entry for it in mail[0]) for kind, *mail in self.inbox[system]):
+            return "YOURS" if self.words[entry][1] == system else "OLD"
+        return None
 
     def switch(self, system, words):
         if self.is_star:
@@ -126,23 +156,26 @@ class Medium:
         return "DONE"
 
     def submit(self, system, entry, asked):
-        """Whether the system manages the entry from here on; else the request is mailed."""
-        mask, manager = self.words[entry]
-        self.words[entry] = mask | 1 << system, system if manager is None else manager
+        """Whether the system manages the entry (SOLE), the request is mailed (SENT), or there is a notice of the entry."""
+        moved, (mask, manager, epoch) = self.moved(system, entry), self.words[entry]
+        if moved or manager == system:
+            return moved or "SOLE"
+        self.words[entry] = mask | 1 << system, system if manager is None else manager, epoch
         self.resting.discard(system)
-        if manager is not None:
-            self.inbox[manager].append(("request", entry, system, asked))
-        return manager is None
+        if manager is None:
+            return "SOLE"
+        self.inbox[manager].append(("request", entry, system, asked))
+        return "SENT"
 
     def mail(self, system, to, mail):
         self.inbox[to].append(mail)
         self.resting.discard(system)
 
     def leave(self, system, entry):
-        mask, manager = self.words[entry]
-        if manager == system and mask != 1 << system:
-            return mask & ~(1 << system)
-        self.words[entry] = (0, None) if manager == system else (mask & ~(1 << system), manager)
+        moved, (mask, manager, epoch) = self.moved(system, entry), self.words[entry]
+        if moved or manager == system and mask != 1 << system:
+            return moved or mask & ~(1 << system)
+        self.words[entry] = (0, None, epoch) if manager == system else (mask & ~(1 << system), manager, epoch)
         self.resting.discard(system)
         return 0
 
@@ -154,8 +187,11 @@ class Node:
         self.run, self.number, self.deck, self.medium = run, number, run.deck, run.medium
         self.name, self.desk = run.deck.systems[number].name, run.deck.systems[number].desk
         self.is_star, self.table, self.own, self.outbox = run.deck.is_star, Lists(), Lists(), []
-        # of each entry that it manages: its lists, and who of another system is still to be told of which resource
-        self.managed, self.held, self.interest, self.done, self.knows = {}, [], set(), 0, set()
+        # of each entry that it manages: its lists, and who of another system is still to be told of which resource; and beside them
+        # the rank that its next element gets
+        self.managed, self.next_rank, self.held, self.interest, self.done, self.knows = {}, {}, [], set(), 0, set()
+        # of each entry that it gathers: whose parts it awaits, and the parts that came; and to whom it owes its part of an entry
+        self.gathers, self.owes = {}, {}
         self.tasks = [TaskState() for _ in run.deck.systems[number].tasks]
 
     def entry(self, resource):
@@ -169,8 +205,8 @@ class Node:
     def tell(self, *line):
         self.run.told.append((self.run.event, self.number, line))
 
-    def answer(self, asked, answer):
-        """What an answer does to its task."""
+    def answer(self, asked, answer, rank=0):
+        """What an answer does to its task; a record that it makes has the rank."""
         place, state = asked.task[1], self.tasks[asked.task[1]]
         state.asked = None
         if asked.verb == "LOOK":
@@ -187,6 +223,7 @@ class Node:
             state.record(asked.resource).control = "E"
         elif asked.verb == "ENQ" and asked.ret != "TEST" and (answer in ("00", "WAIT") or (asked.ret, answer) == ("ECB", "04")):
             state.records.append(Held(asked, answer == "00"))
+            state.records[-1].rank = rank
         elif asked.verb == "DEQ" and answer == "00":
             state.records.remove(state.record(asked.resource))
         if answer == "WAIT":
@@ -206,6 +243,8 @@ class Node:
         """One of its tasks has control by another's request."""
         state, place = self.tasks[task[1]], task[1]
         record = state.record(resource)
+        if record.told:
+            return
         record.told = True
         if state.asked and state.asked.verb in ("DEQ", "RELEASE") and state.asked.resource == resource:
             return
@@ -226,8 +265,9 @@ class Node:
 
     def stale(self):
         """In place of what it was to do a system is only told who was removed."""
-        learns = self.learns()
+        learns, new = self.learns(), sorted(set(self.medium.removed) - self.knows)
         self.knows = set(self.medium.removed)
+        self.lose(new)
         return learns and "by it %s; its next event goes on" % learns
 
     def task(self, place):
@@ -333,32 +373,107 @@ class Node:
         for resource, queue in self.table.of.items():
             for task, _ in queue:
                 masks[self.entry(resource)] |= 1 << task[0]
-        return [(mask, (mask & -mask).bit_length() - 1 if mask else None) for mask in masks]
+        return [(mask, (mask & -mask).bit_length() - 1 if mask else None, 0) for mask in masks]
 
     def change(self):
         """It changes to star mode, by its table."""
         words, self.is_star = self.lock_words(), True
-        for entry, (mask, manager) in enumerate(words):
+        for entry, (mask, manager, _) in enumerate(words):
             if manager == self.number:
-                self.managed[entry] = Lists(), set()
+                self.begin(entry)
             if mask >> self.number & 1:
                 self.interest.add(entry)
-        for resource, queue in self.table.of.items():
-            if self.entry(resource) in self.managed:
-                self.managed[self.entry(resource)][0].of[resource] = queue
+        ranks = [1] * self.deck.entries
+        for resource, queue in sorted(self.table.of.items(), key=lambda it: by_name(it[0])):
+            entry = self.entry(resource)
+            for place, (task, _) in enumerate(queue, ranks[entry]):
+                if task[0] == self.number:
+                    self.tasks[task[1]].record(resource).rank = place
+            ranks[entry] += len(queue)
+            if entry in self.managed:
+                self.managed[entry][0].of[resource] = queue
+                self.next_rank[entry] = ranks[entry]
         for asked in self.outbox:
             if asked.verb == "LOOK":
                 self.tasks[asked.task[1]].asked = asked.next_look(1)
         self.outbox, self.table = [], Lists()
+        self.lose(sorted(self.knows))
+
+    def begin(self, entry):
+        """It manages an entry from here on, with empty lists."""
+        self.managed[entry], self.next_rank[entry] = (Lists(), set()), 1
+
+    # the removal of another system in star mode
+
+    def lose(self, systems):
+        """In star mode it loses removed systems, and then takes up what isn't awaited any more."""
+        for target in systems if self.is_star else ():
+            freed = []
+            for entry, (lists, untold) in self.managed.items():
+                untold -= {it for it in untold if it[1][0] == target}
+                for task, resource in lists.remove(target):
+                    if task[0] == self.number:
+                        freed.append((task, resource))
+                    else:
+                        untold.add((resource, task))
+            self.held = [it for it in self.held if it[1] != target]
+            for awaits, parts in self.gathers.values():
+                awaits.discard(target)
+                parts[:] = [it for it in parts if it[0] != target]
+            for task, resource in sorted(freed, key=lambda it: by_name(it[1])):
+                self.control(task, resource)
+        self.take_up()
+
+    def part_of(self, entry):
+        """What its tasks have on record of an entry."""
+        return [(it.rank, it.resource, (self.number, place), it.control, it.told) for place, state in enumerate(self.tasks)
+                for it in state.records if is_shared(it.resource) and self.entry(it.resource) == entry]
+
+    def take_up(self):
+        """It manages each entry that it gathers and of which no part is awaited, by all records in the order of their ranks."""
+        for entry in sorted(entry for entry, (awaits, _) in self.gathers.items() if not awaits):
+            records = sorted(self.part_of(entry) + [it for _, part in self.gathers.pop(entry)[1] for it in part])
+            self.begin(entry)
+            lists, untold = self.managed[entry]
+            for rank, resource, task, control, _ in records:
+                lists.of.setdefault(resource, []).append([task, control])
+                self.next_rank[entry] = rank + 1
+            for _, resource, task, _, was_told in sorted(records, key=lambda it: by_name(it[1])):
+                if was_told or task not in lists.owning(resource):
+                    continue
+                if task[0] == self.number:
+                    self.control(task, resource)
+                else:
+                    untold.add((resource, task))
+
+    def noticed(self, moved):
+        """Entries have other managers than before."""
+        for entry, manager, mask in moved:
+            if entry in self.managed or entry in self.gathers:
+                continue
+            for state in self.tasks:
+                if state.phase == SENT and state.asked.entry(self.deck.entries) == entry:
+                    self.enter(state, TO_SEND)
+            self.owes.pop(entry, None)
+            if manager == self.number:
+                others = {it for it in range(len(self.deck.systems)) if mask >> it & 1}
+                self.gathers[entry] = others - {self.number} - self.knows, []
+            else:
+                self.owes[entry] = manager
 
     def decide(self, entry, asked):
-        """Decides a request of an entry that it manages; the answer."""
+        """Decides a request of an entry that it manages; the answer, who became owner, and the rank of a new element."""
         lists, untold = self.managed[entry]
+        had = asked.resource and any(task == asked.task for task, _ in lists.list(asked.resource))
         answer, owners = lists.decide(asked, asked.full)
+        has, rank = asked.resource and any(task == asked.task for task, _ in lists.list(asked.resource)), 0
+        if has and not had:
+            rank = self.next_rank[entry]
+            self.next_rank[entry] += 1
         self.run.fix(asked)
         if asked.verb in ("DEQ", "RELEASE") and all(task != asked.task for task, _ in lists.list(asked.resource)):
             untold.discard((asked.resource, asked.task))
-        return answer, owners
+        return answer, owners, rank
 
     def grant(self, entry, asked, owners):
         for task in owners:
@@ -372,16 +487,21 @@ class Node:
         if not self.is_star or state.phase != TO_SEND:
             return self.run.says.no_send(self, (self.number, place))
         asked, entry = state.asked, state.asked.entry(self.deck.entries)
+        if entry in self.gathers:
+            return self.run.says.gathers(self, entry)
+        stale = self.stale()
+        if stale:
+            return stale
+        reply = self.medium.submit(self.number, entry, asked)
+        if reply in ("YOURS", "OLD"):
+            return self.run.says.moved(self, entry, reply)
+        self.interest.add(entry)
+        if reply == "SENT":
+            return self.enter(state, SENT)
         if entry not in self.managed:
-            stale = self.stale()
-            if stale:
-                return stale
-            self.interest.add(entry)
-            if not self.medium.submit(self.number, entry, asked):
-                return self.enter(state, SENT)
-            self.managed[entry] = Lists(), set()
-        answer, owners = self.decide(entry, asked)
-        self.answer(asked, answer)
+            self.begin(entry)
+        answer, owners, rank = self.decide(entry, asked)
+        self.answer(asked, answer, rank)
         return self.grant(entry, asked, owners)
 
     def take(self):
@@ -394,25 +514,37 @@ class Node:
             return "%s has no mail" % self.name
         kind, *mail = self.medium.inbox[self.number].pop(0)
         self.medium.resting.discard(self.number)
-        if kind == "request":
+        if kind == "request" and mail[1] not in self.knows:
             self.held.append(mail)
         elif kind == "answer":
             self.answer(*mail)
-        else:
+        elif kind == "control":
             self.control(*mail)
+        elif kind == "notice":
+            self.noticed(*mail)
+        elif kind == "part":
+            self.part_came(*mail)
+        self.take_up()
         return None
+
+    def part_came(self, entry, system, records):
+        awaits, parts = self.gathers.get(entry, (set(), None))
+        if system in awaits:
+            awaits.discard(system)
+            parts.append((system, records))
 
     def settle(self):
         if not self.is_star:
             return self.run.says.only_star(self)
-        if not self.held:
+        if all(it[0] in self.gathers for it in self.held):
             return self.run.says.no_settle(self)
         stale = self.stale()
         if stale:
             return stale
-        entry, system, asked = self.held.pop(0)
-        answer, owners = self.decide(entry, asked)
-        self.medium.mail(self.number, system, ("answer", asked, answer))
+        place = next(place for place, it in enumerate(self.held) if it[0] not in self.gathers)
+        entry, system, asked = self.held.pop(place)
+        answer, owners, rank = self.decide(entry, asked)
+        self.medium.mail(self.number, system, ("answer", asked, answer, rank))
         return self.grant(entry, asked, owners)
 
     def all_untold(self, entry):
@@ -440,7 +572,15 @@ class Node:
         return None
 
     def part(self, entry):
-        return self.run.says.no_part(self, entry) if self.is_star else self.run.says.only_star(self)
+        if not self.is_star:
+            return self.run.says.only_star(self)
+        if self.owes.get(entry) is None or self.owes[entry] in self.knows:
+            return self.run.says.no_part(self, entry)
+        stale = self.stale()
+        if stale:
+            return stale
+        self.medium.mail(self.number, self.owes.pop(entry), ("part", entry, self.number, self.part_of(entry)))
+        return None
 
     def holds(self, entry):
         """Why a system can't leave an entry, or None."""
@@ -450,6 +590,10 @@ class Node:
                 return "%s has a request on record there" % self.run.task_name((self.number, place))
             if asked and asked.entry(self.deck.entries) == entry:
                 return "%s has a request there that isn't answered" % self.run.task_name((self.number, place))
+        if entry in self.gathers:
+            return "%s gathers its lists" % self.name
+        if entry in self.owes:
+            return "%s owes its part of it to %s" % (self.name, self.run.name(self.owes[entry]))
         if entry in self.managed and self.managed[entry][0].of:
             return "%s manages it, and its lists aren't empty" % self.name
         if entry in self.managed and any(it[0] == entry for it in self.held):
@@ -467,6 +611,8 @@ class Node:
         if stale:
             return stale
         others = self.medium.leave(self.number, entry)
+        if others in ("YOURS", "OLD"):
+            return self.run.says.moved(self, entry, others)
         if others:
             names = [self.run.name(it) for it in range(len(self.deck.systems)) if others >> it & 1]
             return "%s manages entry %d, in which %s still has interest" % (self.name, entry, " and ".join(names))
@@ -483,7 +629,7 @@ class Node:
         stale = self.stale()
         if stale:
             return stale
-        reply = self.medium.switch(self.number, [(0, None)] * self.deck.entries if self.is_star else self.lock_words())
+        reply = self.medium.switch(self.number, [(0, None, 0)] * self.deck.entries if self.is_star else self.lock_words())
         if reply == "BEHIND":
             return "the message has entries that %s hasn't seen; it sees them at its TURN" % self.name
         self.carried_out("SETGRS", reply)
@@ -502,6 +648,7 @@ class Node:
         if reply == "DONE":
             self.knows.add(target)
             self.run.fix_removal(self.number, target)
+            self.lose([target])
         return None
 
     def carried_out(self, verb, reply):
@@ -522,6 +669,10 @@ class Node:
             return "%s has a request that waits for a SEND" % self.run.task_name((self.number, waits))
         if self.held:
             return "it holds a request that isn't settled"
+        if self.gathers:
+            return "it gathers the lists of entry %d" % min(self.gathers)
+        if self.owes:
+            return "it owes its part of entry %d" % min(self.owes)
         told = next(filter(self.untold, self.managed), None)
         return None if told is None else "an owner in entry %d is still to be told" % told
 
@@ -577,8 +728,9 @@ class Run:
         return act() if of is None else act(of)
 
     def is_at_rest(self):
-        live = self.medium.live()
-        return not (self.medium.entries or self.medium.still or any(self.medium.inbox[it] or self.nodes[it].pending() for it in live))
+        live, removed = self.medium.live(), set(self.medium.removed)
+        return not (self.medium.entries or self.medium.still
+                    or any(self.medium.inbox[it] or self.nodes[it].pending() or self.nodes[it].knows != removed for it in live))
 
 
 # What it comes to, in the report's form
@@ -669,8 +821,8 @@ def report(run):
         "HISTORY %d" % len(run.history), *history_lines(run), "TOLD", *told_lines(run), "QUEUES",
         *(row_text(run, "Q", (it, lists.list(it), lists.owners(it))) for it in sorted(lists.of, key=by_kind)),
         "UNITS", *unit_lines(run), "WORDS",
-        *("W %d MASK %d MANAGER %s EPOCH 0" % (entry, mask, run.name(manager))
-          for entry, (mask, manager) in enumerate(run.medium.words) if mask),
+        *("W %d MASK %d MANAGER %s EPOCH %d" % (entry, mask, "NONE" if manager is None else run.name(manager), epoch)
+          for entry, (mask, manager, epoch) in enumerate(run.medium.words) if mask or epoch),
         "MODE STAR" if run.medium.is_star else "MODE RING", "END DONE" if ended else "END WAITS"])
 
 
@@ -712,7 +864,21 @@ class Says:
             return "%s has nothing to send; its next step is %s TASK %s" % (name, node.name, name.partition(".")[2])
         return "%s has nothing to send: %s" % (name, self.held(task))
 
+    def gathers(self, node, entry):
+        names = [self.run.name(it) for it in sorted(node.gathers[entry][0])]
+        return "%s gathers the lists of entry %d, and awaits the part of %s" % (node.name, entry, " and ".join(names))
+
+    def moved(self, node, entry, reply):
+        """Why a call of an entry wasn't carried out, of which a notice lies in the system's inbox."""
+        place = next(place for place, (kind, *mail) in enumerate(self.run.medium.inbox[node.number], 1)
+                     if kind == "notice" and any(it[0] == entry for it in mail[0]))
+        who = "it" if reply == "YOURS" else self.run.name(self.run.medium.words[entry][1])
+        return "the manager of entry %d was removed, and %s is the new one; the mail that says so is in the inbox of %s: %s" % (
+            entry, who, node.name, self.recipe((node, "TAKE", place)))
+
     def no_settle(self, node):
+        if node.held:
+            return self.gathers(node, node.held[0][0])
         mail = self.run.medium.inbox[node.number]
         waits = any(it[0] == "request" for it in mail)
         return "%s has taken no request" % node.name + ("; one is in its inbox: %s TAKE" % node.name if waits else "")
@@ -721,6 +887,8 @@ class Says:
         return "%s %s entry %d" % (node.name, "manages no" if entry not in node.managed else "manages", entry)
 
     def no_part(self, node, entry):
+        if entry in node.owes:
+            return "%s owes its part of entry %d to %s, which was removed" % (node.name, entry, self.run.name(node.owes[entry]))
         return "%s owes no part of entry %d to a new manager" % (node.name, entry)
 
     def no_tell(self, node, entry):
@@ -830,7 +998,11 @@ class Says:
                 where = "in the inbox of" if takes else "held by"
                 return "%s is %s %s: %s" % (asked, where, other.name, self.recipe(
                     (other, "TAKE", takes), (other, "SETTLE", at + 1), (node, "TAKE", answers)))
-        place = [it[1] for it in inbox[node.number]].index(state.asked)
+        place = next((place for place, it in enumerate(inbox[node.number]) if it[0] == "answer" and it[1] is state.asked), None)
+        if place is None:
+            return "%s was sent to a system that was removed; %s" % (
+                asked, self.moved(node, state.asked.entry(self.run.deck.entries), self.run.medium.moved(
+                    node.number, state.asked.entry(self.run.deck.entries))))
         return "the answer to %s is in the inbox of %s: %s" % (asked, name, self.recipe((node, "TAKE", place + 1)))
 
     def unended(self, task):

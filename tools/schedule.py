@@ -6,7 +6,8 @@
 
 The deck is read from the file DECK, else from standard input; ./grs first sees that it has no mistake. For one deck the events are
 always the same. They come in rounds, as those of ./grs gen do: in a round each system in turn goes on with each of its tasks, takes its turn
-at the message, sends, takes a mail, settles a request and tells the owners of the lock entries; from the third round on it
+at the message, sends, takes a mail, settles a request, tells the owners of the lock entries and sends its parts of those that others
+gather; from the third round on it
 carries out a command of its desk before that, once it has made as many events as the command says, or where nothing else
 is left to do. Events that would have nothing to do are left out. The rounds end when the complex is at rest: what waits then waits
 for ever, unless LEAVE and REST, which are never written, are put in by hand.
@@ -73,11 +74,20 @@ class Rounds:
             return True
         if not node.is_star:
             return False
-        if verb == "SEND":
-            return node.tasks[of].phase == runs.TO_SEND
         if verb == "TELL":
             return node.untold(of) is not None
-        return bool(medium.inbox[system] if verb == "TAKE" else node.held)
+        if verb == "PART":
+            return of in node.owes and node.owes[of] not in node.knows
+        if verb == "SETTLE":
+            return any(entry not in node.gathers for entry, *_ in node.held)
+        if verb == "SEND":
+            asked = node.tasks[of].asked if node.tasks[of].phase == runs.TO_SEND else None
+            return asked is not None and self.is_decided(node, asked.entry(self.deck.entries))
+        return bool(medium.inbox[system] or node.learns())
+
+    def is_decided(self, node, entry):
+        """Whether a request of an entry gets to its manager: the lists aren't gathered, and no notice of it lies in the inbox."""
+        return entry not in node.gathers and bool(node.learns() or not self.run.medium.moved(node.number, entry))
 
     def command(self, system, is_idle):
         """Carries out the next command of a desk, where it is time for it."""
@@ -107,6 +117,7 @@ class Rounds:
             self.make(system, "SETTLE")
             for entry in range(self.deck.entries):
                 self.make(system, "TELL", entry)
+                self.make(system, "PART", entry)
         return self.did
 
     def commands(self):

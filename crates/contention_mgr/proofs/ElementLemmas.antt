@@ -2,9 +2,10 @@
 use Rattle.std.proofs.Common.{◌≡◌, ℕ, Bool, true, false, cond, not, List, [], ◌∷◌, ◌++◌, map, filter, Option, Some}
 use Rattle.std.proofs.Common.{None, zero, suc, refl, arith, length}
 use Rattle.std.specs.Prelude.{◌==◌, slice_set}
-use Rattle.std.specs.Option.{option_map_or}
+use Rattle.std.specs.List.{list_all}
+use Rattle.std.specs.Option.{option_map, option_map_or}
 use Rattle.grs_base.specs.Lists.{decide_enq, is_owner, standing_of}
-use Rattle.grs_base.specs.State.{list_of}
+use Rattle.grs_base.specs.State.{State, list_of}
 use Rattle.grs_base.specs.declared.decision.Effect.{Effect}
 use Rattle.grs_base.specs.declared.decision.Effect.TheVariants.{Nothing, Append, MakeExclusive}
 use Rattle.grs_base.specs.declared.resource.Ctl.{Ctl}
@@ -13,7 +14,11 @@ use Rattle.grs_base.specs.declared.resource.TaskId.{TaskId}
 use Rattle.grs_wire.specs.Wants.{new_owners}
 use Rattle.grs_wire.specs.declared.request.Want.{Want}
 use Rattle.grs_wire.specs.declared.request.Want.TheVariants.{Enq, Deq, Release, Look}
+use Rattle.grs_wire.specs.declared.gather.PartRec.{PartRec}
 use Rattle.contention_mgr.specs.Elements.{all_of, elements_of, ElementsAreAskers, TellingKeepsElements}
+use Rattle.contention_mgr.specs.Elements.{LosingKeepsElements, InstalledAreRecords}
+use Rattle.contention_mgr.specs.Installs.{lists_of, kept_of}
+use Rattle.contention_mgr.specs.Loses.{Freed, freed_lists, stays, with_freed, lost}
 use Rattle.contention_mgr.specs.Manager.{Ranked, Managed, ManagerView, plain, is_of, exclusive, marked, taken_out}
 use Rattle.contention_mgr.specs.Manager.{with_mark, with_control, enqueued, given_up, settled, items_of, kept_at}
 use Rattle.contention_mgr.specs.Manager.{kept_for, managed_for, managed_of, with_entry, entry_wanted, after_request}
@@ -131,8 +136,36 @@ module _ (p : TaskId → Bool) where
       go (Some m) k =
           elements-entry v (entry_of_res (length v.entries) r) (told t r m) h (elements-mark false r t m.items k)
 
+  -- the elements of an entry, and of all, behind the loss of a system
+  elements-freed : (s : ℕ) (fs : List Freed) (xs : List Ranked) → elements_of p xs ≡ true
+      → elements_of p (with_freed s fs xs) ≡ true
+  elements-freed s [] xs h = h
+  elements-freed s (f ∷ fs) xs h = elements-freed s fs (with_control s f.0 f.1 xs) (elements-control s f.0 f.1 xs h)
+
+  elements-lost : (s n : ℕ) (m : Managed) → elements_of p m.items ≡ true → elements_of p (lost s n m).items ≡ true
+  elements-lost s n m h =
+      elements-freed s (freed_lists n (plain m.items)) (filter (stays n) m.items) (elements-filter (stays n) m.items h)
+
+  all-lost : (s n : ℕ) (es : List (Option Managed)) → all_of p es ≡ true
+      → all_of p (map (option_map (lost s n)) es) ≡ true
+  all-lost s n [] h = refl
+  all-lost s n (None ∷ es) h = all-lost s n es h
+  all-lost s n (Some m ∷ es) h = grind (arith, h, elements-lost s n m, all-lost s n es)
+
+  -- the elements of records
+  elements-kept-of : (s : ℕ) (lists : State) (recs : List PartRec) → list_all (λ y. p y.task) recs ≡ true
+      → elements_of p (map (kept_of s lists) recs) ≡ true
+  elements-kept-of s lists [] h = refl
+  elements-kept-of s lists (y ∷ ys) h = grind (arith, h, elements-kept-of s lists ys)
+
 pub elements_are_askers : ElementsAreAskers
 elements_are_askers p v t w own h = after-request p v t w own h
 
 pub telling_keeps_elements : TellingKeepsElements
 telling_keeps_elements p v t r h = after-telling p v t r h
+
+pub losing_keeps_elements : LosingKeepsElements
+losing_keeps_elements p v t h = all-lost p v.system.0 t.0 v.entries h
+
+pub installed_are_records : InstalledAreRecords
+installed_are_records p s recs h = elements-kept-of p s (lists_of recs) recs h

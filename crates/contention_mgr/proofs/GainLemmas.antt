@@ -69,7 +69,7 @@ pick-flat p f g (w ∷ ws) =
 abbrev pub freed_on : Res → List Freed → List TaskId
 freed_on r fs = flat_map (λ f. cond (same_res r f.0) f.1 []) fs
 
-lists-built : (s hs : State) → lists_from s hs ≡ built (λ h. h.0) (list_of s) hs
+pub lists-built : (s hs : State) → lists_from s hs ≡ built (λ h. h.0) (list_of s) hs
 lists-built s [] = refl
 lists-built s (h ∷ hs) = ap (put res_order h.0 (list_of s h.0)) (lists-built s hs)
 

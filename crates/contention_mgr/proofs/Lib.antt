@@ -13,6 +13,7 @@ pub mod InstallLemmas
 pub mod LoseLemmas
 pub mod NameOrder
 pub mod GainLemmas
+pub mod LoseNothing
 pub mod LoseLawProofs
 pub mod LoseSamples
 pub mod InstallSamples

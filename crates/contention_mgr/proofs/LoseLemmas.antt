@@ -186,9 +186,15 @@ pub lost-more : (s n : ℕ) (xs ys : List (Option Managed)) (i : ℕ) (x z : Opt
 lost-more s n xs ys i x z inside before is step =
     ap (set ys i) step ∙ map_over_more (option_map (lost s n)) xs ys i x inside before is
 
+-- the rows of an entry's table are those of its plain lists
+pub rows-are : (next : ℕ) (f : Marking) (s : State) (m : Managed) (rows lent : List Row)
+    → record { next = next; items = ranked_all f s } ≡ m → rows ≡ rows_of s → lent ≡ rows
+    → lent ≡ rows_of (plain m.items)
+rows-are next f s m rows lent view is same =
+    same ∙ is ∙ ap rows_of (sym (plain-ranked f s) ∙ ap (λ (k : Managed). plain k.items) view)
+
 pub freed-is : (n next : ℕ) (f : Marking) (s : State) (m : Managed) (rows lent : List Row)
     → record { next = next; items = ranked_all f s } ≡ m → rows ≡ rows_of s → lent ≡ rows
     → map (λ x. (x.res, freed n x.res x.elems)) lent ≡ freed_lists n (plain m.items)
 freed-is n next f s m rows lent view is same =
-    ap (map (λ (x : Row). (x.res, freed n x.res x.elems)))
-    (same ∙ is ∙ ap rows_of (sym (plain-ranked f s) ∙ ap (λ (k : Managed). plain k.items) view))
+    ap (map (λ (x : Row). (x.res, freed n x.res x.elems))) (rows-are next f s m rows lent view is same)

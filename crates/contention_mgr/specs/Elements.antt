@@ -1,11 +1,15 @@
 -- Whose elements a manager keeps.
-use Rattle.std.specs.Prelude.{◌≡◌, Bool, true, false, ◌||◌, List, [], ◌∷◌, Option}
+use Rattle.std.specs.Prelude.{◌≡◌, ℕ, Bool, true, false, ◌||◌, List, [], ◌∷◌, Option}
 use Rattle.std.specs.List.{list_all}
 use Rattle.grs_base.specs.Same.{same_res}
 use Rattle.grs_base.specs.State.{State, is_at}
 use Rattle.grs_base.specs.declared.resource.Res.{Res}
+use Rattle.grs_base.specs.declared.resource.SysId.{SysId}
 use Rattle.grs_base.specs.declared.resource.TaskId.{TaskId}
+use Rattle.grs_wire.specs.declared.gather.PartRec.{PartRec}
 use Rattle.grs_wire.specs.declared.request.Want.{Want}
+use Rattle.contention_mgr.specs.Installs.{installed}
+use Rattle.contention_mgr.specs.Loses.{after_losing}
 use Rattle.contention_mgr.specs.Manager.{Ranked, Managed, ManagerView, items_of, after_request, after_telling}
 
 -- whether a task has an element on a resource
@@ -31,3 +35,15 @@ abbrev pub TellingKeepsElements : Type 0
 TellingKeepsElements =
     (p : TaskId → Bool) (v : ManagerView) (t : TaskId) (r : Res) → all_of p v.entries ≡ true
     → all_of p (after_telling v t r).entries ≡ true
+
+-- Nor does the loss of a system.
+abbrev pub LosingKeepsElements : Type 0
+LosingKeepsElements =
+    (p : TaskId → Bool) (v : ManagerView) (t : SysId) → all_of p v.entries ≡ true
+    → all_of p (after_losing v t).entries ≡ true
+
+-- The elements of an entry that is made of records are of their tasks.
+abbrev pub InstalledAreRecords : Type 0
+InstalledAreRecords =
+    (p : TaskId → Bool) (s : ℕ) (recs : List PartRec) → list_all (λ y. p y.task) recs ≡ true
+    → elements_of p (installed s recs).items ≡ true

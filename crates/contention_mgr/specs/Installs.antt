@@ -1,16 +1,20 @@
 -- What an entry keeps of the records that were gathered of it.
-use Rattle.std.specs.Prelude.{◌≡◌, ℕ, ◌+◌, Bool, true, not, ◌&&◌, ◌==◌, nat_le, List, [], ◌∷◌, map}
-use Rattle.std.specs.List.{list_any, list_all}
+use Rattle.std.specs.Prelude.{◌≡◌, ℕ, ◌+◌, Bool, true, not, ◌&&◌, ◌==◌, nat_le, List, [], ◌∷◌, map, take}
+use Rattle.std.specs.List.{list_any, list_all, flat_map}
 use Rattle.grs_base.specs.Limits.{last_number}
-use Rattle.grs_base.specs.Lists.{owns}
+use Rattle.grs_base.specs.Lists.{owns, owners}
+use Rattle.grs_base.specs.Rows.{rows_of}
 use Rattle.grs_base.specs.Same.{same_res, same_task}
-use Rattle.grs_base.specs.State.{State, list_of}
+use Rattle.grs_base.specs.State.{State, list_of, pick}
 use Rattle.grs_base.specs.declared.resource.Elem.{Elem}
+use Rattle.grs_base.specs.declared.resource.Res.{Res}
+use Rattle.grs_base.specs.declared.resource.Row.{Row}
+use Rattle.grs_base.specs.declared.resource.TaskId.{TaskId}
 use Rattle.grs_wire.specs.declared.gather.PartRec.{PartRec}
 use Rattle.lock_structure.specs.Entries.{entry_of_res, is_entry}
 use Rattle.lock_structure.specs.RankedRows.{rises}
 use Rattle.contention_mgr.specs.Loads.{greatest}
-use Rattle.contention_mgr.specs.Manager.{Ranked, Managed}
+use Rattle.contention_mgr.specs.Manager.{Ranked, Managed, ManagerView, plain, items_of, managed_at}
 
 -- the element of a record, and the plain lists of records in their order
 abbrev pub elem_of : PartRec → Elem
@@ -51,3 +55,13 @@ pub record IsInstallable (entries e : ℕ) (recs : List PartRec) : Type 0 where
   -- their ranks rise, and none is past the last number
   pub rising : rises (ranks_on recs) ≡ true
   pub small : list_all (λ n. nat_le n last_number) (ranks_on recs) ≡ true
+
+-- ---- who of the manager's own system owns
+
+-- the tasks of system s that own by the list of a row, in its order, each with the resource
+abbrev pub own_in : ℕ → Row → List (TaskId × Res)
+own_in s x = pick (λ e. s == e.task.system.0) (λ e. (e.task, x.res)) (take (owners x.elems) x.elems)
+
+-- those of an entry, resources in the order in which they are shown
+abbrev pub own_owners : ManagerView → ℕ → List (TaskId × Res)
+own_owners v e = flat_map (own_in v.system.0) (rows_of (plain (items_of (managed_at v e))))

@@ -1,5 +1,5 @@
 -- Laws of what a manager keeps once a system is removed.
-use Rattle.std.specs.Prelude.{◌≡◌, ℕ, Bool, true, false, not, ◌&&◌, ◌||◌, ◌==◌, List, [], ◌∷◌, map, filter}
+use Rattle.std.specs.Prelude.{◌≡◌, ℕ, Bool, true, false, not, ◌&&◌, ◌||◌, ◌==◌, List, [], ◌∷◌, map, filter, Option}
 use Rattle.std.specs.List.{list_any, list_all, flat_map}
 use Rattle.std.specs.Ordering.{is_lt}
 use Rattle.grs_base.specs.ResOrder.{res_order}
@@ -81,3 +81,15 @@ GainedOnList =
     (v : ManagerView) (n : SysId) (r : Res)
     → pick (λ p. same_res r p.1) (λ p. p.0) (gained v n)
     ≡ flat_map (λ o. filter (λ u. v.system.0 == u.system.0) (freed n.0 r (list_of (plain (items_of o)) r))) v.entries
+
+-- ---- nothing to lose
+
+-- whether no element of a task of system n is kept of an entry
+abbrev pub is_without : ℕ → Option Managed → Bool
+is_without n o = list_all (stays n) (items_of o)
+
+-- Where no entry has one, the manager stays as it is, and nobody gets control.
+abbrev pub LosingNothing : Type 0
+LosingNothing =
+    (v : ManagerView) (n : SysId) → list_all (is_without n.0) v.entries ≡ true
+    → (after_losing v n ≡ v) × (gained v n ≡ [])

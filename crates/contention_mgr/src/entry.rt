@@ -1,17 +1,18 @@
 //! One lock entry that is managed: the lists of its resources, and beside them the ranks of their elements.
 ghost use Rattle.std.specs.Prelude.{◌≡◌, ◌≤◌, ◌==◌, ℕ, true, false, not, cond, length, nat_le, option_map, IfOk, OnOk, OnErr};
-ghost use Rattle.std.specs.List.{list_all};
+ghost use Rattle.std.specs.List.{list_all, flat_map};
 ghost use Rattle.grs_base.specs.Limits.{last_number};
+ghost use Rattle.grs_base.specs.Rows.{rows_of};
 ghost use Rattle.grs_base.specs.State.{State as Plain, release_state};
 ghost use Rattle.grs_wire.specs.Wants.{answer_to, after_want, new_owners};
 ghost use Rattle.contention_mgr.specs.Manager.{plain, no_elements, settled, appends, queues as queues_by, rank_given, with_control, taken_out, with_mark, any_untold_in, first_untold, owner_of};
 ghost use Rattle.contention_mgr.specs.Loads.{loaded};
 ghost use Rattle.contention_mgr.specs.Loses.{freed_lists, with_freed, lost};
-ghost use Rattle.contention_mgr.specs.Installs.{installed, places_apart, ranks_on};
+ghost use Rattle.contention_mgr.specs.Installs.{installed, places_apart, ranks_on, own_in};
 ghost use Rattle.lock_structure.specs.RankedRows.{rows_apart, all_apart, ranks_of};
 ghost use Rattle.contention_mgr.specs.Marks.{mark_in, ranked_all, entry_of_parts, is_gone, AreMarked};
 
-use crate::install::{add_lists, add_marks, greatest_of};
+use crate::install::{add_lists, add_marks, greatest_of, owners_in};
 use crate::load::{add_rows, greatest_rank};
 use crate::lose::freed_rows;
 use crate::marks::{Mark, Marks};
@@ -358,6 +359,19 @@ impl Entry {
             }
             None => Ok(None),
         }
+    }
+
+    /// The tasks of a system that own, each with the resource: resources as they are shown, and the tasks of a list in its
+    /// order.
+    pub(crate) fn owners_of(
+        &self,
+        alloc: Global,
+        system: SysId,
+    ) -> Result<List<(TaskId, Res)>, NoMemory>
+        ensures { IfOk result (λ owners. owners ≡ flat_map (own_in system.0) (rows_of (plain self.now.items))) }
+    {
+        let rows = self.table.rows(alloc)?;
+        owners_in(alloc, system, rows.as_slice())
     }
 
     /// Whether nothing stands in the lists.

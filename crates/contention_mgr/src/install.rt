@@ -1,20 +1,22 @@
 //! An entry made of the records that were gathered of it.
-ghost use Rattle.std.specs.Prelude.{◌≡◌, ◌++◌, ◌∷◌, ◌&&◌, [], true, false, cond, map, Some, OnOk};
+ghost use Rattle.std.specs.Prelude.{◌≡◌, ◌++◌, ◌∷◌, ◌&&◌, [], true, false, cond, map, Some, IfOk, OnOk};
+ghost use Rattle.std.specs.List.{flat_map};
 ghost use Rattle.grs_base.specs.Lists.{has_task, owns};
 ghost use Rattle.grs_base.specs.Same.{same_res, same_task};
 ghost use Rattle.grs_base.specs.State.{list_of};
 ghost use Rattle.grs_base.specs.declared.resource.Res.{Res as ResValue};
 ghost use Rattle.grs_base.specs.declared.resource.TaskId.{TaskId as TaskValue};
 ghost use Rattle.grs_wire.specs.declared.request.Answer.TheVariants.{Coded};
-ghost use Rattle.contention_mgr.specs.Installs.{elem_of, lists_of, ranks_on, is_left, kept_of, places_apart};
+ghost use Rattle.contention_mgr.specs.Installs.{elem_of, lists_of, ranks_on, is_left, kept_of, places_apart, own_in};
 ghost use Rattle.contention_mgr.specs.Loads.{greatest};
 ghost use Rattle.contention_mgr.specs.Marks.{mark_in, ranked_all, is_gone, AreMarked};
 
 use crate::marks::{Mark, Marks};
-use grs_base::{Code, NoMemory, Res, Ret, SysId, TaskId};
+use grs_base::{Code, List, NoMemory, Res, Ret, Row, SysId, TaskId};
 use grs_wire::PartRec;
 use qel_store::LinkedQueues;
 use queue_table::Table;
+use ret_codes::owners_among;
 use std::alloc::Global;
 
 /// Puts the element of a record last in the list of its resource, in which its task has none.
@@ -112,4 +114,38 @@ pub(crate) fn greatest_of(recs: &[PartRec]) -> u64
         most = most.max(rec.rank);
     }
     most
+}
+
+/// Puts the owners of a row that are of a system behind others, each with the resource.
+fn add_owners(
+    alloc: Global,
+    owners: &mut List<(TaskId, Res)>,
+    system: SysId,
+    row: &Row,
+) -> Result<(), NoMemory>
+    ensures { OnOk result (owners.new ≡ owners.old ++ own_in system.0 row.now) }
+{
+    let elems = row.elems.as_slice();
+    let owning = &elems[..owners_among(elems)];
+    for elem in owning {
+        if system.0 == elem.task.system.0 {
+            owners.push((elem.task, row.res.copy(alloc)?))?;
+        }
+    }
+    Ok(())
+}
+
+/// The owners of rows that are of a system, each with the resource, row by row.
+pub(crate) fn owners_in(
+    alloc: Global,
+    system: SysId,
+    rows: &[Row],
+) -> Result<List<(TaskId, Res)>, NoMemory>
+    ensures { IfOk result (λ owners. owners ≡ flat_map (own_in system.0) rows.now) }
+{
+    let mut owners = List::new(alloc);
+    for row in rows {
+        add_owners(alloc, &mut owners, system, row)?;
+    }
+    Ok(owners)
 }

@@ -1,5 +1,5 @@
 //! Laws of what a manager keeps: each function's contract is one, and there is nothing to run.
-ghost use Rattle.contention_mgr.specs.Elements.{ElementsAreAskers, TellingKeepsElements};
+ghost use Rattle.contention_mgr.specs.Elements.{ElementsAreAskers, TellingKeepsElements, LosingKeepsElements, InstalledAreRecords};
 ghost use Rattle.contention_mgr.specs.Laws.{ListsFollow, TellingKeepsLists, RanksBegin, LoadedRanksRise, RanksRise, TellingKeepsRanks, FirstIsAny, FirstIsUntold, FirstIsLeast, UntoldOwnBegins, LoadedUntoldOwn, UntoldStayOwners, TellingKeepsUntoldOwn, FirstUntoldOwns, UntoldFollow, GainersAreUntold, TellingTells, LoadedAreTold, OthersStay, WellKeptBegins, EntriesAreWellKept, RequestsKeepWell, TellingKeepsWell};
 
 /// The plain lists of an entry after a request are what the request makes of them.
@@ -100,6 +100,16 @@ pub fn elements_are_askers()
 /// Telling an owner adds no element.
 pub fn telling_keeps_elements()
     ensures { TellingKeepsElements }
+{}
+
+/// The loss of a system adds none.
+pub fn losing_keeps_elements()
+    ensures { LosingKeepsElements }
+{}
+
+/// The elements of an entry that is made of records are of their tasks.
+pub fn installed_are_records()
+    ensures { InstalledAreRecords }
 {}
 
 /// A request leaves what is kept of other entries than its own.

@@ -1,6 +1,6 @@
 //! Laws of what a manager keeps once a system is removed, and of whom it gives: each function's contract is one, and
 //! there is nothing to run.
-ghost use Rattle.contention_mgr.specs.LoseLaws.{LostLists, LostRanks, LosingKeepsOwners, LosingKeepsRanks, LosingKeepsUntoldOwn, LosingKeepsWell, LostUntold, GainedAreFreed, GainedInOrder, GainedOnList};
+ghost use Rattle.contention_mgr.specs.LoseLaws.{LostLists, LostRanks, LosingKeepsOwners, LosingKeepsRanks, LosingKeepsUntoldOwn, LosingKeepsWell, LostUntold, GainedAreFreed, GainedInOrder, GainedOnList, LosingNothing};
 
 /// The plain lists are those of before without the elements of the removed system's tasks.
 pub fn lost_lists()
@@ -50,4 +50,9 @@ pub fn gained_in_order()
 /// The tasks of a list are given in its order.
 pub fn gained_on_list()
     ensures { GainedOnList }
+{}
+
+/// A system of which no element is kept is lost without a change, and nobody gets control.
+pub fn losing_nothing()
+    ensures { LosingNothing }
 {}

@@ -5,7 +5,7 @@ ghost use Rattle.grs_base.specs.Limits.{last_number};
 ghost use Rattle.grs_wire.specs.Wants.{answer_to, new_owners};
 ghost use Rattle.contention_mgr.specs.Loads.{loaded};
 ghost use Rattle.lock_structure.specs.RankedRows.{IsLoadable};
-ghost use Rattle.contention_mgr.specs.Installs.{installed, IsInstallable};
+ghost use Rattle.contention_mgr.specs.Installs.{installed, IsInstallable, own_owners};
 ghost use Rattle.contention_mgr.specs.Loses.{freed_at, lost, gained, after_losing};
 ghost use Rattle.contention_mgr.specs.Manager.{plain, no_elements, settled, are_of, entry_of_looks, entry_wanted, kept_at, managed_at, managed_of, managed_for, items_of, with_entry, after_request, rank_for, told, after_telling, any_untold_in, any_untold_at, first_untold, owner_of};
 ghost use Rattle.lock_structure.specs.Entries.{entry_of_res};
@@ -259,6 +259,14 @@ impl Manager {
         self.system
     }
 
+    /// How many lock entries there are: one at least.
+    pub fn entries(&self) -> u32
+        ensures count { result ≡ length self.now.entries }
+        ensures some { result ≢ 0 }
+    {
+        self.entries
+    }
+
     /// The lock entry of a resource. Only one of the whole complex has one.
     pub fn entry_of(&self, res: &Res) -> Option<u32>
         ensures entry { result ≡ entry_of_res (length self.now.entries) res.now }
@@ -432,6 +440,17 @@ impl Manager {
         let owners = own_in_order(self.alloc, self.system, all.as_slice())?;
         lose_all(&mut self.slots, self.system, target, all.as_slice());
         Ok(owners)
+    }
+
+    /// The tasks of the manager's own system that own a resource of an entry, each with the resource: resources as they are
+    /// shown, and the tasks of a list in its order.
+    pub fn own_owners(&self, entry: u32) -> Result<List<(TaskId, Res)>, NoMemory>
+        ensures { IfOk result (λ owners. owners ≡ own_owners self.now entry) }
+    {
+        match slot(&self.slots, entry) {
+            Some(kept) => kept.owners_of(self.alloc, self.system),
+            None => Ok(List::new(self.alloc)),
+        }
     }
 
     /// Whether nothing stands in the lists of an entry.

@@ -1,13 +1,13 @@
 -- A medium to which a journal leads has an inbox for each system, and its lock words name these as managers; so a call
 -- is entered exactly where the medium differs, or its reply is acted on.
 use Rattle.std.proofs.Common.{◌≡◌, ◌⊎◌, ◌<◌, ◌≤◌, ℕ, Bool, true, false, cond, ◌||◌, List, [], ◌∷◌, length, inl, inr}
-use Rattle.std.proofs.Common.{refl, ap, sym, ◌∙◌, subst}
+use Rattle.std.proofs.Common.{refl, sym, ◌∙◌, subst, replicate}
 use Rattle.std.specs.Prelude.{◌==◌, Option, Some, None}
 use Rattle.std.specs.List.{All, list_all}
 use Rattle.std.proofs.lemmas.List.{length-set, length-replicate}
 use Rattle.grs_base.specs.Limits.{most_systems}
 use Rattle.grs_base.specs.declared.resource.SysId.{SysId}
-use Rattle.grs_wire.specs.LockWords.{leave_changes}
+use Rattle.grs_wire.specs.LockWords.{leave_changes, leave_reply}
 use Rattle.grs_wire.specs.Masks.{has}
 use Rattle.grs_wire.specs.Unseen.{unseen}
 use Rattle.grs_wire.specs.declared.medium.Act.{Act}
@@ -16,10 +16,12 @@ use Rattle.grs_wire.specs.declared.medium.Call.{Call}
 use Rattle.grs_wire.specs.declared.medium.JEntry.{JEntry}
 use Rattle.grs_wire.specs.declared.medium.Mail.{Mail}
 use Rattle.grs_wire.specs.declared.medium.Reply.{Reply}
-use Rattle.grs_wire.specs.declared.medium.Reply.TheVariants.{Already, Purged, NoSuch, InStar, Stale, Removed}
+use Rattle.grs_wire.specs.declared.medium.Reply.TheVariants.{Already, Purged, NoSuch, Stale, Removed}
 use Rattle.grs_wire.specs.declared.request.Req.{Req}
 use Rattle.lock_structure.proofs.WordLaws.{below-left_words, below-replicate, below-submitted_words}
-use Rattle.lock_structure.specs.Words.{ManagerIsBelow, route, word_fits}
+use Rattle.lock_structure.proofs.Within.{below-purged_words, within-left_words, within-purged_words, within-replicate}
+use Rattle.lock_structure.proofs.Within.{within-submitted_words, within-words}
+use Rattle.lock_structure.specs.Words.{ManagerIsBelow, MaskIsBelow, left_words, route, word_fits}
 use Rattle.lock_structure.specs.declared.word.Route.{Route}
 use Rattle.lock_structure.specs.declared.word.Route.TheVariants as routes
 use Rattle.rsa_message.specs.Message.{first_number}
@@ -27,17 +29,20 @@ use Rattle.grs_medium.proofs.ChangeLaws.{changes_what_it_says}
 use Rattle.grs_medium.proofs.Differs.{names_there}
 use Rattle.grs_medium.proofs.KeepLaws.{leaves_the_rest}
 use Rattle.grs_medium.proofs.KeptSizes.{keeps_systems}
+use Rattle.grs_medium.proofs.SpaceLaws.{length-posted}
 use Rattle.grs_medium.proofs.SwitchLaws.{words-below}
-use Rattle.grs_medium.specs.Apply.{ActFits, MayCall, apply, changes, is_live, joined, leave_row, mail_row, manages}
-use Rattle.grs_medium.specs.Apply.{medium_after, purge_row, reply_to, rest_row, row, submit_on, submit_row, switch_ring}
-use Rattle.grs_medium.specs.Apply.{switch_row, take_from, take_row, turn_row, without_system}
-use Rattle.grs_medium.specs.Medium.{MediumState, first_medium, inbox, systems_of, word}
+use Rattle.grs_medium.specs.Apply.{ActFits, MayCall, apply, changes, is_live, is_noticed, joined, leave_row, mail_row}
+use Rattle.grs_medium.specs.Apply.{manages, medium_after, moved_by, notice_reply, purge_row, reply_to, rest_row, row}
+use Rattle.grs_medium.specs.Apply.{submit_on, submit_row, switch_ring, switch_row, take_from, take_row, turn_row}
+use Rattle.grs_medium.specs.Apply.{without_in_star, without_system, without_target}
+use Rattle.grs_medium.specs.Inboxes.{emptied}
+use Rattle.grs_medium.specs.Medium.{MediumState, awake, first_medium, inbox, systems_of, word}
 use Rattle.grs_bus.specs.Entered.{EntersJustThese, IsEnteredJust}
 use Rattle.grs_bus.specs.Journal.{AreRight, after_all, is_acted_on, is_entered}
 
--- so many inboxes, and managers below that number
+-- so many inboxes, and lock words that name systems below that number alone
 abbrev Names : ℕ → MediumState → Type 0
-Names n m = (length m.inboxes ≡ n) × All (ManagerIsBelow n) m.words
+Names n m = (length m.inboxes ≡ n) × (All (ManagerIsBelow n) m.words × All (MaskIsBelow n) m.words)
 
 either : (n : ℕ) (b : Bool) (x y : MediumState) → Names n x → Names n y → Names n (cond b x y)
 either n true x y p q = p
@@ -56,22 +61,33 @@ module _ (m : MediumState) (few : systems_of m ≤ most_systems) (h : Names (sys
       go : (b : Bool) (o : Option ℕ)
           → Names (systems_of m) (cond {A = Reply × MediumState} b (Already, m) (switch_ring m c words o)).1
       go true o = h
-      go false None = (h.0, words-below (systems_of m) words fits)
+      go false None = (h.0, (words-below (systems_of m) words fits, within-words (systems_of m) words fits))
       go false (Some k) = h
 
   joins : (c : SysId) (e : ℕ) → c.0 < systems_of m → e < length m.words → Names (systems_of m) (joined m c e)
   joins c e here inside =
-      either (systems_of m) (manages m c e) m _ h
-      (h.0, below-submitted_words (systems_of m) m.words e c few here inside h.1)
+      either (systems_of m) (manages m c e) m _ h (
+        h.0,
+        (
+          below-submitted_words (systems_of m) m.words e c few here inside h.1.0,
+          within-submitted_words (systems_of m) m.words e c few here inside h.1.1,
+        ),
+      )
 
   submits : (c : SysId) (e : ℕ) (q : Req) → c.0 < systems_of m → e < length m.words
       → Names (systems_of m) (submit_row m c e q).1
   unfolding submit_row
-  submits c e q here inside = go (route (word m e) c)
+  submits c e q here inside = by_notice (is_noticed m c e)
     where
       go : (r : Route) → Names (systems_of m) (submit_on m c e q r).1
       go routes.Sole = joins c e here inside
       go (routes.To s) = (length-set m.inboxes s.0 _ ∙ h.0, (joins c e here inside).1)
+
+      by_notice : (b : Bool)
+          → Names (systems_of m)
+          (cond {A = Reply × MediumState} b (notice_reply m c e, m) (submit_on m c e q (route (word m e) c))).1
+      by_notice true = h
+      by_notice false = go (route (word m e) c)
 
   takes : (c : SysId) → Names (systems_of m) (take_row m c).1
   unfolding take_row
@@ -87,20 +103,43 @@ module _ (m : MediumState) (few : systems_of m ≤ most_systems) (h : Names (sys
 
   leaves : (c : SysId) (e : ℕ) → e < length m.words → Names (systems_of m) (leave_row m c e).1
   unfolding leave_row
-  leaves c e inside =
-      either (systems_of m) (leave_changes (word m e) c) _ m
-      (h.0, below-left_words (systems_of m) m.words e c few inside h.1) h
+  leaves c e inside = by_notice (is_noticed m c e)
+    where
+      left : MediumState
+      left = cond (leave_changes (word m e) c) (record m { words = left_words m.words e c; rest = awake m c }) m
+
+      by_notice : (b : Bool)
+          → Names (systems_of m)
+          (cond {A = Reply × MediumState} b (notice_reply m c e, m) (leave_reply (word m e) c, left)).1
+      by_notice true = h
+      by_notice false =
+          either (systems_of m) (leave_changes (word m e) c) _ m (
+            h.0,
+            (
+              below-left_words (systems_of m) m.words e c few inside h.1.0,
+              within-left_words (systems_of m) m.words e c inside h.1.1,
+            ),
+          )
+          h
 
   purges : (c t : SysId) → Names (systems_of m) (purge_row m c t).1
   unfolding purge_row
-  purges c t = go m.star (is_live m t)
+  purges c t = go (is_live m t)
     where
-      go : (b d : Bool)
-          → Names (systems_of m)
-          (cond {A = Reply × MediumState} b (InStar, m) (cond d (Purged, without_system m c t) (NoSuch, m))).1
-      go true d = h
-      go false true = h
-      go false false = h
+      departs : Names (systems_of m) (without_in_star m t)
+      departs = (
+        length-posted t (moved_by m.words (systems_of m) t) (emptied m.inboxes t.0)
+            ∙ (length-set m.inboxes t.0 [] ∙ h.0),
+        (
+          below-purged_words (systems_of m) m.words t h.1.1 h.1.0,
+          within-purged_words (systems_of m) m.words t h.1.1,
+        ),
+      )
+
+      go : (b : Bool)
+          → Names (systems_of m) (cond {A = Reply × MediumState} b (Purged, without_target m c t) (NoSuch, m)).1
+      go true = either (systems_of m) m.star (without_in_star m t) (without_system m c t) departs h
+      go false = h
 
   rows : (c : SysId) (act : Act) → c.0 < systems_of m → ActFits m c act → Names (systems_of m) (row m c act).1
   unfolding row rest_row
@@ -139,9 +178,13 @@ behind m (e ∷ es) right h =
       subst (λ (k : ℕ). Names k (medium_after m e.system e.call)) (sym same) (calls m h.0 h.1 e.system e.call may),
     )
 
+first_words : (systems entries : ℕ)
+    → All (ManagerIsBelow systems) (replicate entries 0) × All (MaskIsBelow systems) (replicate entries 0)
+first_words systems entries = (below-replicate systems entries, within-replicate systems entries)
+
 at_first : (systems entries : ℕ) (star : Bool) → systems ≤ most_systems → IsWhole (first_medium systems entries star)
-at_first systems entries true few = (few, (length-replicate systems [], below-replicate systems entries))
-at_first systems entries false few = (few, (length-replicate systems [], below-replicate systems entries))
+at_first systems entries true few = (few, (length-replicate systems [], first_words systems entries))
+at_first systems entries false few = (few, (length-replicate systems [], first_words systems entries))
 
 -- a call of such a medium
 just : (m : MediumState) → IsWhole m → (c : SysId) (call : Call) → MayCall m c call → IsEnteredJust m c call
@@ -152,7 +195,7 @@ just m h c call may = by_test (changes m c call) refl (is_acted_on (reply_to m c
         → (b || d ≡ true → (¬ (medium_after m c call ≡ m)) ⊎ (d ≡ true))
         × (b || d ≡ false → (medium_after m c call ≡ m) × (d ≡ false))
     by_test true is d acted = (
-      λ yes. inl (changes_what_it_says m c call (names_there m c call.act h.1.0 h.1.1 may.1) is),
+      λ yes. inl (changes_what_it_says m c call (names_there m c call.act h.1.0 h.1.1.0 may.1) is),
       λ no. absurd (cc),
     )
     by_test false is true acted = (λ yes. inr refl, λ no. absurd (cc))

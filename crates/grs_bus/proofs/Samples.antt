@@ -8,7 +8,9 @@ use Rattle.grs_wire.specs.declared.medium.Act.TheVariants.{Turn, Take, Leave, Pu
 use Rattle.grs_wire.specs.declared.medium.Call.{Call}
 use Rattle.grs_wire.specs.declared.medium.JEntry.{JEntry}
 use Rattle.grs_wire.specs.declared.medium.Reply.TheVariants.{Purged, Resting, Stale}
-use Rattle.rsa_message.specs.Message.{first_after, any_unseen, cleared, stamped, turn_reply, wakes, rest_after_turn}
+use Rattle.lock_structure.specs.Purge.{purged_word}
+use Rattle.rsa_message.specs.Message.{departed, first_after, any_unseen, cleared, stamped, turn_reply, wakes}
+use Rattle.rsa_message.specs.Message.{rest_after_turn}
 use Rattle.rsa_message.specs.Message.{turned, turn_changes, dropped, closed_by}
 use Rattle.grs_wire.specs.Unseen.{unseen}
 use Rattle.grs_medium.specs.Apply.{turn_row, switch_row, submit_row, take_row, mail_row, leave_row, purge_row, rest_row}
@@ -45,7 +47,8 @@ entered :
     × (is_entered (record ring { rest = 1 }) (sys 0) (call 0 Rest) ≡ false)
     × (is_entered (record ring { removed = 1 }) (sys 0) (call 1 Rest) ≡ false)
 unfolding is_entered has without with_also first_after unseen any_unseen cleared stamped turn_reply wakes
-    rest_after_turn turned turn_changes dropped closed_by manager lock_word submitted leave_reply leave_changes
+    rest_after_turn turned turn_changes dropped departed closed_by manager lock_word submitted purged_word leave_reply
+    leave_changes
     left_word medium_at_end turn_row switch_row submit_row route take_row mail_row leave_row purge_row rest_row row
     apply row_changes changes
 entered = (refl, refl, refl, refl, refl, refl, refl, refl, refl, refl, refl)
@@ -64,6 +67,7 @@ journals :
     ≡ entry_of (sys 0) (call 0 (Purge (sys 1))) Purged ∷ entry_of (sys 0) (call 0 Rest) (Stale 2) ∷ [])
     × (entries_of 2 removal ≡ [])
 unfolding removal has without with_also first_after unseen any_unseen cleared stamped turn_reply wakes rest_after_turn
-    turned turn_changes dropped closed_by manager lock_word submitted leave_reply leave_changes left_word medium_at_end
+    turned turn_changes dropped departed closed_by manager lock_word submitted purged_word leave_reply leave_changes
+    left_word medium_at_end
     turn_row switch_row submit_row route take_row mail_row leave_row purge_row rest_row row apply row_changes changes
 journals = (refl, refl, refl, refl, refl)

@@ -5,7 +5,7 @@ use Rattle.grs_base.specs.declared.resource.SysId.{SysId}
 use Rattle.grs_wire.specs.declared.medium.Call.{Call}
 use Rattle.grs_wire.specs.declared.medium.JEntry.{JEntry}
 use Rattle.grs_wire.specs.declared.medium.Reply.{Reply}
-use Rattle.grs_wire.specs.declared.medium.Reply.TheVariants.{Stale, Already, NoSuch, InStar, Sole, Left}
+use Rattle.grs_wire.specs.declared.medium.Reply.TheVariants.{Stale, Already, NoSuch, Sole, Left}
 use Rattle.grs_medium.specs.Apply.{reply_to, medium_after, changes, MayCall}
 use Rattle.grs_medium.specs.Medium.{MediumState}
 
@@ -22,7 +22,6 @@ abbrev pub is_acted_on : Reply → Bool
 is_acted_on (Stale set) = true
 is_acted_on Already = true
 is_acted_on NoSuch = true
-is_acted_on InStar = true
 is_acted_on Sole = true
 is_acted_on Left = true
 is_acted_on reply = false

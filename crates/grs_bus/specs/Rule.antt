@@ -48,7 +48,12 @@ spent_view = record {
   spent = true;
   given = 0;
   olds = [];
-  first = record { state = first_medium 0 0 false; room = record { caller = None; entries = 0 }; ready = None };
+  first = record {
+    state = first_medium 0 0 false;
+    room = record { caller = None; entries = 0 };
+    ready = None;
+    moved = [];
+  };
 }
 
 -- what is kept of a seat that is taken in: of its view, which is of what the seat shows

@@ -93,7 +93,7 @@ impl Bus {
 
     /// Waits until no other seat has the word, takes it, makes the call, and gives the word back: the medium's reply,
     /// and whether the call was entered into the journal. It is entered where it changes the medium, and where its
-    /// reply is Stale, Already, NoSuch, InStar, Sole or Left. All memory is taken before the medium changes, so on
+    /// reply is Stale, Already, NoSuch, Sole or Left. All memory is taken before the medium changes, so on
     /// NoMemory neither the medium nor the journal has changed. An entry past the 2^57th is answered NoMemory too.
     pub fn call<R: Wait>(
         &self,

@@ -2,7 +2,7 @@
 ghost use Rattle.grs_bus.specs.Entered.{EntersJustThese};
 
 /// Of the medium to which a journal leads from the first one on, a call is entered exactly where the medium differs behind it, or
-/// its reply is Stale, Already, NoSuch, InStar, Sole or Left, on which its system acts.
+/// its reply is Stale, Already, NoSuch, Sole or Left, on which its system acts.
 pub fn enters_just_these()
     ensures { EntersJustThese }
 {}

@@ -28,12 +28,7 @@ fn is_acted_on(reply: &Reply) -> bool
 {
     matches!(
         reply,
-        Reply::Stale { set: _ }
-            | Reply::Already
-            | Reply::NoSuch
-            | Reply::InStar
-            | Reply::Sole
-            | Reply::Left
+        Reply::Stale { set: _ } | Reply::Already | Reply::NoSuch | Reply::Sole | Reply::Left
     )
 }
 

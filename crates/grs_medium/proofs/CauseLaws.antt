@@ -12,12 +12,13 @@ use Rattle.grs_wire.specs.declared.medium.Reply.TheVariants.{NoSuch, InStar, Res
 use Rattle.rsa_message.specs.Message.{first_number, turn_reply, stands_at}
 use Rattle.grs_wire.specs.Replies.{is_of_act}
 use Rattle.grs_wire.specs.Unseen.{unseen}
-use Rattle.grs_medium.specs.Apply.{turn_row, switch_ring, switch_row, is_live, without_system, purge_row, resting}
+use Rattle.grs_medium.specs.Apply.{turn_row, switch_ring, switch_row, is_live, without_target, purge_row, resting}
 use Rattle.grs_medium.specs.Apply.{rest_row, row, apply}
 use Rattle.grs_medium.specs.Medium.{MediumState, all_rest, medium_at_end}
 use Rattle.grs_medium.specs.Causes.{is_removed, turns_elsewhere, switches_in_star, switches_behind, switches}
-use Rattle.grs_medium.specs.Causes.{purges_in_star, purges_nobody, rests_last, rests_early, RemovedComes, StaleComes}
-use Rattle.grs_medium.specs.Causes.{NotYoursComes, AlreadyComes, BehindComes, SwitchedComes, InStarComes, NoSuchComes}
+use Rattle.grs_medium.specs.Causes.{purges, purges_nobody, rests_last, rests_early, RemovedComes, StaleComes}
+use Rattle.grs_medium.specs.Causes.{NotYoursComes, AlreadyComes, BehindComes, SwitchedComes, PurgedComes, NoSuchComes}
+use Rattle.grs_medium.specs.Causes.{NeverInStar}
 use Rattle.grs_medium.specs.Causes.{OverComes, RestingComes}
 use Rattle.grs_medium.proofs.Replies.{neither, other_reply, never, heard}
 
@@ -45,18 +46,15 @@ switch_switched m c words true o = neither (λ e. absurd cc) false≢true
 switch_switched m c words false None = (λ e. refl, λ e. refl)
 switch_switched m c words false (Some n) = neither (λ e. absurd cc) false≢true
 
-purge_in_star : {M : Type 0} (star living : Bool) (m gone : M)
-    → ((cond {A = Reply × M} star (InStar, m) (cond living (Purged, gone) (NoSuch, m))).0 ≡ InStar) ↔ (star ≡ true)
-purge_in_star true living m gone = (λ e. refl, λ e. refl)
-purge_in_star false true m gone = neither (λ e. absurd cc) false≢true
-purge_in_star false false m gone = neither (λ e. absurd cc) false≢true
+purge_purged : {M : Type 0} (living : Bool) (m gone : M)
+    → ((cond {A = Reply × M} living (Purged, gone) (NoSuch, m)).0 ≡ Purged) ↔ (living ≡ true)
+purge_purged true m gone = (λ e. refl, λ e. refl)
+purge_purged false m gone = neither (λ e. absurd cc) false≢true
 
-purge_no_such : {M : Type 0} (star living : Bool) (m gone : M)
-    → ((cond {A = Reply × M} star (InStar, m) (cond living (Purged, gone) (NoSuch, m))).0 ≡ NoSuch)
-    ↔ ((not star && not living) ≡ true)
-purge_no_such true living m gone = neither (λ e. absurd cc) false≢true
-purge_no_such false true m gone = neither (λ e. absurd cc) false≢true
-purge_no_such false false m gone = (λ e. refl, λ e. refl)
+purge_no_such : {M : Type 0} (living : Bool) (m gone : M)
+    → ((cond {A = Reply × M} living (Purged, gone) (NoSuch, m)).0 ≡ NoSuch) ↔ (not living ≡ true)
+purge_no_such true m gone = neither (λ e. absurd cc) false≢true
+purge_no_such false m gone = (λ e. refl, λ e. refl)
 
 rest_over : (b : Bool) → (cond b Over Resting ≡ Over) ↔ (b ≡ true)
 rest_over true = (λ e. refl, λ e. refl)
@@ -90,14 +88,14 @@ unfolding row switch_row
 row_switched m c (Switch words) = switch_switched m c words m.star (first_number (unseen c m.message.entries))
 row_switched m c act = never m c act Switched refl
 
-row_in_star : (m : MediumState) (c : SysId) (act : Act) → ((row m c act).0 ≡ InStar) ↔ (purges_in_star m act ≡ true)
+row_purged : (m : MediumState) (c : SysId) (act : Act) → ((row m c act).0 ≡ Purged) ↔ (purges m act ≡ true)
 unfolding row purge_row
-row_in_star m c (Purge t) = purge_in_star m.star (is_live m t) m (without_system m c t)
-row_in_star m c act = never m c act InStar refl
+row_purged m c (Purge t) = purge_purged (is_live m t) m (without_target m c t)
+row_purged m c act = never m c act Purged refl
 
 row_no_such : (m : MediumState) (c : SysId) (act : Act) → ((row m c act).0 ≡ NoSuch) ↔ (purges_nobody m act ≡ true)
 unfolding row purge_row
-row_no_such m c (Purge t) = purge_no_such m.star (is_live m t) m (without_system m c t)
+row_no_such m c (Purge t) = purge_no_such (is_live m t) m (without_target m c t)
 row_no_such m c act = never m c act NoSuch refl
 
 row_over : (m : MediumState) (c : SysId) (act : Act) → ((row m c act).0 ≡ Over) ↔ (rests_last m c act ≡ true)
@@ -157,8 +155,26 @@ behind_comes m c call first = heard m c call (Behind first) refl (row_behind m c
 pub switched_comes : SwitchedComes
 switched_comes m c call = heard m c call Switched refl (row_switched m c call.act)
 
-pub in_star_comes : InStarComes
-in_star_comes m c call = heard m c call InStar refl (row_in_star m c call.act)
+pub purged_comes : PurgedComes
+purged_comes m c call = heard m c call Purged refl (row_purged m c call.act)
+
+-- no act is answered InStar
+row_never : (m : MediumState) (c : SysId) (act : Act) → ¬ ((row m c act).0 ≡ InStar)
+unfolding row purge_row
+row_never m c (Purge t) = by_living (is_live m t)
+  where
+    by_living : (b : Bool)
+        → ¬ ((cond {A = Reply × MediumState} b (Purged, without_target m c t) (NoSuch, m)).0 ≡ InStar)
+    by_living true = λ e. absurd cc
+    by_living false = λ e. absurd cc
+row_never m c act = other_reply m c act InStar refl
+
+nobody_stays : {A : Type 0} → ¬ A → A ↔ (true ≡ false)
+nobody_stays none = neither none true≢false
+
+pub never_in_star : NeverInStar
+never_in_star m c call told =
+    true≢false (((heard m c call InStar refl (nobody_stays (row_never m c call.act))).0 told).1)
 
 pub no_such_comes : NoSuchComes
 no_such_comes m c call = heard m c call NoSuch refl (row_no_such m c call.act)

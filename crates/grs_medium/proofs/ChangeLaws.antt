@@ -17,14 +17,15 @@ use Rattle.grs_wire.specs.declared.medium.Reply.TheVariants.{Already}
 use Rattle.grs_wire.specs.LockWords.{manager, manager_number, is_manager, submitted, leave_changes, left_word}
 use Rattle.grs_wire.specs.Masks.{has, only, without}
 use Rattle.grs_wire.proofs.MaskLaws.{has-without_same, has-with_same}
-use Rattle.lock_structure.specs.Words.{word_at, route_by, route, submitted_words}
+use Rattle.lock_structure.specs.Words.{word_at, route_by, route, submitted_words, left_words}
 use Rattle.lock_structure.proofs.WordLaws.{submitted-unmanaged, left_word-changed}
-use Rattle.rsa_message.specs.Message.{Message, stands_at, after, or_else, first_after, first_number, any_unseen, left_by}
+use Rattle.rsa_message.specs.Message.{Message, stands_at, after, or_else, first_after, first_number, any_unseen}
+use Rattle.rsa_message.specs.Message.{left_by}
 use Rattle.rsa_message.specs.Message.{cleared, stamped, is_due, moves, turned_open, turned_closed, turned, turn_changes}
 use Rattle.grs_wire.specs.Unseen.{is_unseen, unseen}
 use Rattle.grs_medium.specs.Apply.{turn_row, switch_ring, switch_row, joined, submit_on, submit_row, take_from}
 use Rattle.grs_medium.specs.Apply.{take_row, mail_row, leave_row, purge_row, rest_row, row, row_changes, apply, changes}
-use Rattle.grs_medium.specs.Apply.{is_live, without_system}
+use Rattle.grs_medium.specs.Apply.{is_noticed, manages, is_live, without_system, without_in_star, without_target}
 use Rattle.grs_medium.specs.Inboxes.{inbox_of, is_empty, with_mail, without_first}
 use Rattle.grs_medium.specs.Medium.{MediumState, systems_of, awake, inbox, live, word}
 use Rattle.grs_medium.specs.Changes.{ChangesWhatItSays, NamesWhatIsThere}
@@ -125,11 +126,24 @@ turned_moves m c out lives rest h =
     by_closed true closed here g = closed_moves m c here
     by_closed false closed here g = open_moves m c out lives rest here (rw closed at g)
 
-purge_moves : {M : Type 0} (s l : Bool) (m : M) (x : Reply × M) (y z : Reply) → (not s && l) ≡ true → ¬ (x.1 ≡ m)
-    → ¬ ((cond s (y, m) (cond l x (z, m))).1 ≡ m)
-purge_moves true l m x y z h moves = absurd cc
-purge_moves false true m x y z h moves = moves
-purge_moves false false m x y z h moves = absurd cc
+purge_moves : {M : Type 0} (l : Bool) (m : M) (x : Reply × M) (z : Reply) → l ≡ true → ¬ (x.1 ≡ m)
+    → ¬ ((cond l x (z, m)).1 ≡ m)
+purge_moves true m x z h moves = moves
+purge_moves false m x z h moves = absurd cc
+
+-- who is removed is among the removed
+target_gone : (m : MediumState) (c t : SysId) → has (without_target m c t).removed t.0 ≡ true
+target_gone m c t = go m.star
+  where
+    go : (b : Bool) → has (cond b (without_in_star m t) (without_system m c t)).removed t.0 ≡ true
+    go true = has-with_same m.removed t.0
+    go false = has-with_same m.removed t.0
+
+-- a call that no notice forestalls changes what its row does
+heard_moves : {M : Type 0} (b r : Bool) (m : M) (x : Reply × M) (y : Reply) → (r ≡ true → ¬ (x.1 ≡ m))
+    → (not b && r) ≡ true → ¬ ((cond b (y, m) x).1 ≡ m)
+heard_moves true r m x y moves h = absurd cc
+heard_moves false r m x y moves h = moves h
 
 -- a Switch that changes the mode
 switch_moves : (m : MediumState) (c : SysId) (words : List ℕ) (star : Bool) → m.star ≡ star → (o : Option ℕ)
@@ -190,8 +204,8 @@ take_moves m c (mail ∷ rest) is h = λ e. let filled : length (inbox m c.0) �
     taking_moves m.inboxes c.0 (omega arith) (ap (λ (x : MediumState). x.inboxes) e)
 
 leave_moves : (m : MediumState) (c : SysId) (entry : ℕ) → entry < length m.words → leave_changes (word m entry) c ≡ true
-    → ¬ ((leave_row m c entry).1 ≡ m)
-unfolding leave_row
+    → ¬ (cond (leave_changes (word m entry) c) (record m { words = left_words m.words entry c; rest = awake m c }) m
+    ≡ m)
 leave_moves m c entry inside h =
     rw h (λ e.
     word_moves m.words entry (left_word (word m entry) c) inside (left_word-changed (word m entry) c h)
@@ -199,26 +213,32 @@ leave_moves m c entry inside h =
 
 row_moves : (m : MediumState) (c : SysId) (act : Act) → NamesWhatIsThere m act → row_changes m c act ≡ true
     → ¬ ((row m c act).1 ≡ m)
-unfolding row row_changes turn_row switch_row submit_row route take_row mail_row purge_row rest_row
-row_moves m c (Turn out) there h = λ e. turned_moves m.message c out (live m) m.rest h (ap (λ (x : MediumState). x.message) e)
+unfolding row row_changes turn_row switch_row submit_row route take_row mail_row leave_row purge_row rest_row
+row_moves m c (Turn out) there
+    h = λ e. turned_moves m.message c out (live m) m.rest h (ap (λ (x : MediumState). x.message) e)
 row_moves m c (Purge t) there h =
-    let living = and_parts (not m.star) (is_live m t) h in
-    let present = and_parts (nat_lt t.0 (systems_of m)) (not (has m.removed t.0)) living.1 in
-    purge_moves m.star (is_live m t) m _ _ _ h (λ e.
-    apart_by (λ (x : MediumState). has x.removed t.0) (without_system m c t) m (has-with_same m.removed t.0)
+    let present = and_parts (nat_lt t.0 (systems_of m)) (not (has m.removed t.0)) h in
+    purge_moves (is_live m t) m _ _ h (λ e.
+    apart_by (λ (x : MediumState). has x.removed t.0) (without_target m c t) m (target_gone m c t)
     (is_false (has m.removed t.0) present.1) e)
 row_moves m c Rest there h = λ e.
     apart_by (λ (x : MediumState). has x.rest c.0) _ m (has-with_same m.rest c.0) (is_false (has m.rest c.0) h) e
 row_moves m c (Switch words) there h =
     switch_moves m c words m.star refl (first_number (unseen c m.message.entries)) h
 row_moves m c (Submit entry req) there h =
-    submit_moves m c entry req (manager (word m entry)) refl there.0 there.1 h (unless _ m _ (is_false _ h))
+    heard_moves (is_noticed m c entry) (not (manages m c entry)) m _ _
+    (λ other.
+    submit_moves m c entry req (manager (word m entry)) refl there.0 there.1 other (unless _ m _ (is_false _ other)))
+    h
 row_moves m c Take there h = take_moves m c (inbox m c.0) refl h
 row_moves m c (Settle to mail) there
     h = λ e. mail_moves m.inboxes to.0 mail there (ap (λ (x : MediumState). x.inboxes) e)
 row_moves m c (Tell to mail) there
     h = λ e. mail_moves m.inboxes to.0 mail there (ap (λ (x : MediumState). x.inboxes) e)
-row_moves m c (Leave entry) there h = leave_moves m c entry there h
+row_moves m c (Leave entry) there h =
+    heard_moves (is_noticed m c entry) (leave_changes (word m entry) c) m _ _
+    (λ leaves. leave_moves m c entry there leaves)
+    h
 
 pub changes_what_it_says : ChangesWhatItSays
 unfolding apply changes

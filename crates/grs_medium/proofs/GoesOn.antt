@@ -12,7 +12,7 @@ use Rattle.grs_wire.specs.declared.medium.Mail.{Mail}
 use Rattle.grs_wire.specs.declared.medium.Reply.{Reply}
 use Rattle.grs_wire.specs.declared.medium.Reply.TheVariants as replies
 use Rattle.grs_wire.specs.declared.request.Req.{Req}
-use Rattle.grs_wire.specs.LockWords.{leave_changes}
+use Rattle.grs_wire.specs.LockWords.{leave_changes, leave_reply}
 use Rattle.grs_wire.specs.Unseen.{unseen}
 use Rattle.grs_wire.proofs.MaskLaws.{has-with_same, has-with_other, has-zero}
 use Rattle.grs_wire.proofs.WantLaws.{by_test}
@@ -20,16 +20,18 @@ use Rattle.lock_structure.specs.Words.{route, left_words, submitted_words}
 use Rattle.lock_structure.specs.declared.word.Route.{Route}
 use Rattle.lock_structure.specs.declared.word.Route.TheVariants as routes
 use Rattle.rsa_message.specs.Message.{any_unseen, closed_by, dropped, first_number, stands_at, turned, turned_closed}
-use Rattle.rsa_message.specs.Message.{turned_open}
-use Rattle.grs_medium.specs.Apply.{apply, row, turn_row, switch_ring, switch_row, manages, joined, submit_on}
+use Rattle.rsa_message.specs.Message.{turned_open, departed}
+use Rattle.grs_medium.specs.Apply.{apply, row, turn_row, switch_ring, switch_row, is_noticed, notice_reply}
+use Rattle.grs_medium.specs.Apply.{manages, joined, submit_on}
 use Rattle.grs_medium.specs.Apply.{submit_row, take_from, take_row, mail_row, leave_row, is_live, without_system}
-use Rattle.grs_medium.specs.Apply.{purge_row, rest_row}
+use Rattle.grs_medium.specs.Apply.{without_in_star, without_target, purge_row, rest_row}
 use Rattle.grs_medium.specs.Apply.{medium_after}
 use Rattle.grs_medium.specs.GoesOn.{WaitsForLive}
 use Rattle.grs_medium.specs.Inboxes.{without_first, with_mail}
 use Rattle.grs_medium.specs.Medium.{MediumState, first_medium, systems_of, live, inbox, awake, word}
 use Rattle.grs_medium.proofs.LiveLaws.{has-live}
-use Rattle.grs_medium.proofs.Waiting.{Masks, StandsLive, turn_masks, turn_stands, dropped_masks, dropped_stands}
+use Rattle.grs_medium.proofs.Waiting.{Masks, StandsLive, turn_masks, turn_stands, cleared_live, dropped_masks}
+use Rattle.grs_medium.proofs.Waiting.{dropped_stands}
 
 -- ---- as it is said of the set of the live systems
 pub masks_of : (m : MediumState) → WaitsForLive m → Masks (live m) m.message.entries
@@ -108,34 +110,38 @@ take_goes : (m : MediumState) (c : SysId) (mails : List Mail) → WaitsForLive m
 take_goes m c [] w = w
 take_goes m c (mail ∷ rest) w = beside m m.words (without_first m.inboxes c.0) (awake m c) w
 
+-- the systems that are live once t is removed
+module _ (m : MediumState) (t : SysId) where
+  abbrev after : ℕ
+  after = others (systems_of m) (with_also m.removed t.0)
+
+  gone : has after t.0 ≡ false
+  gone =
+      has-live (systems_of m) (with_also m.removed t.0) t.0
+      ∙ and_right (nat_lt t.0 (systems_of m)) (not (has (with_also m.removed t.0) t.0))
+      (ap not (has-with_same m.removed t.0))
+
+  same : (u : ℕ) → u ≢ t.0 → has after u ≡ has (live m) u
+  same u ne =
+      has-live (systems_of m) (with_also m.removed t.0) u
+      ∙ (ap (λ b. nat_lt u (systems_of m) && not b) (has-with_other m.removed t.0 u ne)
+      ∙ sym (has-live (systems_of m) m.removed u))
+
 drop_goes : (m : MediumState) (c t : SysId) → is_live m t ≡ true → WaitsForLive m → WaitsForLive (without_system m c t)
 unfolding dropped
 drop_goes m c t there w =
     waits_by (without_system m c t)
-    (dropped_masks m.message c t (live m) after same (masks_of m w)) w.opened
-    (λ ring. dropped_stands m.message c t (live m) after low gone same (stands_of m w ring))
+    (dropped_masks m.message c t (live m) (after m t) (same m t) (masks_of m w)) w.opened
+    (λ ring. dropped_stands m.message c t (live m) (after m t) low (gone m t) (same m t) (stands_of m w ring))
   where
-    n : ℕ
-    n = systems_of m
+    low : t.0 < systems_of m
+    low = ltb-true t.0 (systems_of m) (and_parts (nat_lt t.0 (systems_of m)) (not (has m.removed t.0)) there).0
 
-    now : ℕ
-    now = with_also m.removed t.0
-
-    after : ℕ
-    after = others n now
-
-    low : t.0 < n
-    low = ltb-true t.0 n (and_parts (nat_lt t.0 n) (not (has m.removed t.0)) there).0
-
-    gone : has after t.0 ≡ false
-    gone =
-        has-live n now t.0
-        ∙ and_right (nat_lt t.0 n) (not (has now t.0)) (ap not (has-with_same m.removed t.0))
-
-    same : (u : ℕ) → u ≢ t.0 → has after u ≡ has (live m) u
-    same u ne =
-        has-live n now u
-        ∙ (ap (λ b. nat_lt u n && not b) (has-with_other m.removed t.0 u ne) ∙ sym (has-live n m.removed u))
+depart_goes : (m : MediumState) (t : SysId) → m.star ≡ true → WaitsForLive m → WaitsForLive (without_in_star m t)
+unfolding departed
+depart_goes m t star w =
+    waits_by (without_in_star m t) (cleared_live t (live m) (after m t) (same m t) m.message.entries (masks_of m w))
+    (λ ring. absurd (true≢false (sym star ∙ ring))) (λ ring. absurd (true≢false (sym star ∙ ring)))
 
 pub row_goes : (m : MediumState) (c : SysId) (act : Act) → WaitsForLive m → WaitsForLive (row m c act).1
 unfolding row switch_row submit_row take_row mail_row leave_row purge_row rest_row
@@ -146,20 +152,33 @@ row_goes m c (Switch words) w =
   where
     Kept : Reply × MediumState → Type 0
     Kept x = WaitsForLive x.1
-row_goes m c (Submit entry q) w = submit_goes m c entry q (route (word m entry) c) w
+row_goes m c (Submit entry q) w =
+    by_test Kept (is_noticed m c entry) (notice_reply m c entry, m) (submit_on m c entry q (route (word m entry) c))
+    (λ noticed. w) (λ heard. submit_goes m c entry q (route (word m entry) c) w)
+  where
+    Kept : Reply × MediumState → Type 0
+    Kept x = WaitsForLive x.1
 row_goes m c Take w = take_goes m c (inbox m c.0) w
 row_goes m c (Settle to mail) w = beside m m.words (with_mail m.inboxes to.0 mail) (awake m c) w
 row_goes m c (Tell to mail) w = beside m m.words (with_mail m.inboxes to.0 mail) (awake m c) w
 row_goes m c (Leave entry) w =
+    by_test Kept (is_noticed m c entry) (notice_reply m c entry, m) (leave_reply (word m entry) c, left) (λ noticed. w)
+    (λ heard.
     by_test WaitsForLive (leave_changes (word m entry) c)
     (record m { words = left_words m.words entry c; rest = awake m c }) m
-    (λ leaves. beside m (left_words m.words entry c) m.inboxes (awake m c) w) (λ stays. w)
+    (λ leaves. beside m (left_words m.words entry c) m.inboxes (awake m c) w) (λ stays. w))
+  where
+    left : MediumState
+    left = cond (leave_changes (word m entry) c) (record m { words = left_words m.words entry c; rest = awake m c }) m
+
+    Kept : Reply × MediumState → Type 0
+    Kept x = WaitsForLive x.1
 row_goes m c (Purge t) w =
-    by_test Kept m.star (replies.InStar, m)
-    (cond (is_live m t) (replies.Purged, without_system m c t) (replies.NoSuch, m)) (λ star. w)
-    (λ ring.
-    by_test Kept (is_live m t) (replies.Purged, without_system m c t) (replies.NoSuch, m)
-    (λ there. drop_goes m c t there w) (λ gone. w))
+    by_test Kept (is_live m t) (replies.Purged, without_target m c t) (replies.NoSuch, m)
+    (λ there.
+    by_test WaitsForLive m.star (without_in_star m t) (without_system m c t) (λ star. depart_goes m t star w)
+    (λ ring. drop_goes m c t there w))
+    (λ gone. w)
   where
     Kept : Reply × MediumState → Type 0
     Kept x = WaitsForLive x.1

@@ -13,7 +13,7 @@ use Rattle.grs_wire.specs.declared.medium.Mail.{Mail}
 use Rattle.grs_wire.specs.declared.medium.RingEntry.{RingEntry}
 use Rattle.grs_wire.specs.declared.medium.Reply.{Reply}
 use Rattle.grs_wire.specs.declared.medium.Reply.TheVariants.{Already}
-use Rattle.grs_wire.specs.LockWords.{manager, is_manager}
+use Rattle.grs_wire.specs.LockWords.{manager, is_manager, leave_changes}
 use Rattle.grs_wire.specs.Masks.{has, without, only}
 use Rattle.grs_wire.proofs.MaskLaws.{without-absent, with-present, has-with_same}
 use Rattle.lock_structure.specs.Words.{route_by, route}
@@ -22,8 +22,9 @@ use Rattle.rsa_message.specs.Message.{cleared, stamped, is_due, moves, wakes, re
 use Rattle.rsa_message.specs.Message.{turned_closed, turned, turn_changes}
 use Rattle.grs_wire.specs.Unseen.{is_unseen, unseen}
 use Rattle.rsa_message.proofs.OrderLaws.{stands_at-exact}
-use Rattle.grs_medium.specs.Apply.{turn_row, switch_ring, switch_row, joined, submit_on, submit_row, take_from}
-use Rattle.grs_medium.specs.Apply.{take_row, leave_row, purge_row, rest_row, row, row_changes, apply, changes, is_live}
+use Rattle.grs_medium.specs.Apply.{turn_row, switch_ring, switch_row, is_noticed, manages, joined, submit_on}
+use Rattle.grs_medium.specs.Apply.{submit_row, take_from, take_row, leave_row, purge_row, rest_row, row, row_changes}
+use Rattle.grs_medium.specs.Apply.{apply, changes, is_live}
 use Rattle.grs_medium.specs.Inboxes.{is_empty}
 use Rattle.grs_medium.specs.Medium.{MediumState, inbox, live, word}
 use Rattle.grs_medium.specs.Changes.{LeavesTheRest}
@@ -35,11 +36,15 @@ behind_checks true k r m x y z same h = refl
 behind_checks false true r m x y z same h = same h
 behind_checks false false r m x y z same h = refl
 
-not_purged : {M : Type 0} (s l : Bool) (m : M) (x : Reply × M) (y z : Reply) → (not s && l) ≡ false
-    → (cond s (y, m) (cond l x (z, m))).1 ≡ m
-not_purged true l m x y z h = refl
-not_purged false true m x y z h = absurd cc
-not_purged false false m x y z h = refl
+not_purged : {M : Type 0} (l : Bool) (m : M) (x : Reply × M) (z : Reply) → l ≡ false → (cond l x (z, m)).1 ≡ m
+not_purged true m x z h = absurd cc
+not_purged false m x z h = refl
+
+-- a call that a notice forestalls changes nothing, and any other what its row does
+not_forestalled : {M : Type 0} (b r : Bool) (m : M) (x : Reply × M) (y : Reply) → (r ≡ false → x.1 ≡ m)
+    → (not b && r) ≡ false → (cond b (y, m) x).1 ≡ m
+not_forestalled true r m x y same h = refl
+not_forestalled false r m x y same h = same h
 
 -- a set that lacks s isn't that of s alone
 not_only : (m s : ℕ) → has m s ≡ false → eqb m (only s) ≡ false
@@ -169,14 +174,17 @@ row_kept m c (Turn out) h =
     ap (λ (x : Message). record m { message = x; rest = rest_after_turn m.message c (length out) m.rest })
     (turned_kept m.message c out (live m) m.rest h)
     ∙ ap (λ (x : ℕ). record m { rest = x }) (rest_kept m.message c (length out) (live m) m.rest h)
-row_kept m c (Purge t) h = not_purged m.star (is_live m t) m _ _ _ h
+row_kept m c (Purge t) h = not_purged (is_live m t) m _ _ h
 row_kept m c Rest h = ap (λ (x : ℕ). record m { rest = x }) (with-present m.rest c.0 (is_true (has m.rest c.0) h))
 row_kept m c (Switch words) h = switch_kept m c words m.star (first_number (unseen c m.message.entries)) h
-row_kept m c (Submit entry req) h = submit_kept m c entry req (manager (word m entry)) h (when _ m _ (is_true _ h))
+row_kept m c (Submit entry req) h =
+    not_forestalled (is_noticed m c entry) (not (manages m c entry)) m _ _
+    (λ other. submit_kept m c entry req (manager (word m entry)) other (when _ m _ (is_true _ other))) h
 row_kept m c Take h = take_kept m c (inbox m c.0) h
 row_kept m c (Settle to mail) h = absurd cc
 row_kept m c (Tell to mail) h = absurd cc
-row_kept m c (Leave entry) h = unless _ _ m h
+row_kept m c (Leave entry) h =
+    not_forestalled (is_noticed m c entry) (leave_changes (word m entry) c) m _ _ (λ stays. unless _ _ m stays) h
 
 pub leaves_the_rest : LeavesTheRest
 unfolding apply changes

@@ -3,26 +3,29 @@
 use Rattle.std.proofs.Common.{◌≡◌, ◌<◌, ℕ, Bool, true, false, cond, List, [], ◌∷◌, length, refl, ap, sym, ◌∙◌, subst}
 use Rattle.std.specs.Prelude.{◌==◌, Option, Some, None}
 use Rattle.std.specs.List.{list_all}
-use Rattle.std.proofs.lemmas.List.{length-set}
+use Rattle.std.proofs.lemmas.List.{length-map, length-set}
 use Rattle.grs_base.specs.declared.resource.SysId.{SysId}
-use Rattle.grs_wire.specs.LockWords.{leave_changes}
+use Rattle.grs_wire.specs.LockWords.{leave_changes, leave_reply}
 use Rattle.grs_wire.specs.Masks.{has}
 use Rattle.grs_wire.specs.declared.medium.Act.{Act}
 use Rattle.grs_wire.specs.declared.medium.Act.TheVariants as acts
 use Rattle.grs_wire.specs.declared.medium.Call.{Call}
 use Rattle.grs_wire.specs.declared.medium.Mail.{Mail}
 use Rattle.grs_wire.specs.declared.medium.Reply.{Reply}
-use Rattle.grs_wire.specs.declared.medium.Reply.TheVariants.{Already, Purged, NoSuch, InStar, Stale, Removed}
+use Rattle.grs_wire.specs.declared.medium.Reply.TheVariants.{Already, Purged, NoSuch, Stale, Removed}
 use Rattle.grs_wire.specs.declared.request.Req.{Req}
-use Rattle.lock_structure.specs.Words.{route, word_fits}
+use Rattle.lock_structure.specs.Purge.{purged_word}
+use Rattle.lock_structure.specs.Words.{route, left_words, word_fits}
 use Rattle.lock_structure.specs.declared.word.Route.{Route}
 use Rattle.lock_structure.specs.declared.word.Route.TheVariants as routes
 use Rattle.rsa_message.specs.Message.{first_number, stands_at, closed_by, turned_closed, turned_open, turned, dropped}
+use Rattle.rsa_message.specs.Message.{departed}
 use Rattle.grs_wire.specs.Unseen.{unseen}
-use Rattle.grs_medium.specs.Apply.{turn_row, switch_ring, switch_row, manages, joined, submit_on, submit_row, take_from}
-use Rattle.grs_medium.specs.Apply.{take_row, mail_row, leave_row, is_live, without_system, purge_row, rest_row, row}
+use Rattle.grs_medium.specs.Apply.{turn_row, switch_ring, switch_row, is_noticed, notice_reply, manages, joined}
+use Rattle.grs_medium.specs.Apply.{submit_on, submit_row, take_from, take_row, mail_row, leave_row, is_live}
+use Rattle.grs_medium.specs.Apply.{without_system, without_in_star, without_target, purge_row, rest_row, row}
 use Rattle.grs_medium.specs.Apply.{apply, medium_after, ActFits, MayCall}
-use Rattle.grs_medium.specs.Medium.{MediumState, systems_of, live, inbox, word}
+use Rattle.grs_medium.specs.Medium.{MediumState, systems_of, live, inbox, awake, word}
 
 -- as many lock words, and as many systems
 abbrev Keeps : MediumState → MediumState → Type 0
@@ -58,11 +61,16 @@ joins m c e = keeps-either m (manages m c e) m _ (refl, refl) (length-set m.word
 
 submits : (m : MediumState) (c : SysId) (e : ℕ) (q : Req) → Keeps m (submit_row m c e q).1
 unfolding submit_row
-submits m c e q = go (route (word m e) c)
+submits m c e q = by_notice (is_noticed m c e)
   where
     go : (r : Route) → Keeps m (submit_on m c e q r).1
     go routes.Sole = joins m c e
     go (routes.To s) = joins m c e
+
+    by_notice : (b : Bool)
+        → Keeps m (cond {A = Reply × MediumState} b (notice_reply m c e, m) (submit_on m c e q (route (word m e) c))).1
+    by_notice true = (refl, refl)
+    by_notice false = go (route (word m e) c)
 
 takes : (m : MediumState) (c : SysId) → Keeps m (take_row m c).1
 unfolding take_row
@@ -74,17 +82,25 @@ takes m c = go (inbox m c.0)
 
 leaves : (m : MediumState) (c : SysId) (e : ℕ) → Keeps m (leave_row m c e).1
 unfolding leave_row
-leaves m c e = keeps-either m (leave_changes (word m e) c) _ m (length-set m.words e _, refl) (refl, refl)
+leaves m c e = by_notice (is_noticed m c e)
+  where
+    left : MediumState
+    left = cond (leave_changes (word m e) c) (record m { words = left_words m.words e c; rest = awake m c }) m
+
+    by_notice : (b : Bool)
+        → Keeps m (cond {A = Reply × MediumState} b (notice_reply m c e, m) (leave_reply (word m e) c, left)).1
+    by_notice true = (refl, refl)
+    by_notice false = keeps-either m (leave_changes (word m e) c) _ m (length-set m.words e _, refl) (refl, refl)
 
 purges : (m : MediumState) (c t : SysId) → Keeps m (purge_row m c t).1
-unfolding purge_row dropped
-purges m c t = go m.star (is_live m t)
+unfolding purge_row dropped departed
+purges m c t = go (is_live m t)
   where
-    go : (b d : Bool)
-        → Keeps m (cond {A = Reply × MediumState} b (InStar, m) (cond d (Purged, without_system m c t) (NoSuch, m))).1
-    go true d = (refl, refl)
-    go false true = (refl, refl)
-    go false false = (refl, refl)
+    go : (b : Bool) → Keeps m (cond {A = Reply × MediumState} b (Purged, without_target m c t) (NoSuch, m)).1
+    go true =
+        keeps-either m m.star (without_in_star m t) (without_system m c t)
+        (length-map m.words (λ (w : ℕ). purged_word w t), refl) (refl, refl)
+    go false = (refl, refl)
 
 rows : (m : MediumState) (c : SysId) (act : Act) → ActFits m c act → Keeps m (row m c act).1
 unfolding row mail_row rest_row

@@ -1,7 +1,9 @@
 pub mod Samples
 pub mod SwitchLaws
+pub mod NamedLaws
 pub mod SetLaws
 pub mod InboxLaws
+pub mod SpaceLaws
 pub mod KeepLaws
 pub mod KeptSizes
 pub mod ChangeLaws
@@ -15,3 +17,4 @@ pub mod LiveLaws
 pub mod Round
 pub mod Waiting
 pub mod GoesOn
+pub mod Removals

@@ -1,5 +1,6 @@
 -- Each call is answered by a reply that is listed for it, and by no other.
-use Rattle.std.proofs.Common.{◌≡◌, ℕ, Bool, true, false, cond, not, ◌&&◌, ◌||◌, List, [], ◌∷◌, length, refl, ap, sym, ◌∙◌, arith}
+use Rattle.std.proofs.Common.{◌≡◌, ℕ, Bool, true, false, cond, not, ◌&&◌, ◌||◌, List, [], ◌∷◌, length, refl, ap, sym}
+use Rattle.std.proofs.Common.{◌∙◌, arith}
 use Rattle.std.specs.Prelude.{◌↔◌, Option, Some, None, ◌==◌, nat_le}
 use Rattle.std.proofs.lemmas.Bool.{true≢false, false≢true}
 use Rattle.std.proofs.lemmas.Bool.Decides.{nat_tests}
@@ -11,18 +12,20 @@ use Rattle.grs_wire.specs.declared.medium.Call.{Call}
 use Rattle.grs_wire.specs.declared.medium.Mail.{Mail}
 use Rattle.grs_wire.specs.declared.medium.Reply.{Reply}
 use Rattle.grs_wire.specs.declared.medium.Reply.TheVariants.{Turned, NotYours, Already, Sole, Sent, Taken, Empty}
-use Rattle.grs_wire.specs.declared.medium.Reply.TheVariants.{Settled, Told, Left, Kept, Purged, NoSuch, InStar, Resting}
-use Rattle.grs_wire.specs.declared.medium.Reply.TheVariants.{Over, Stale, Removed}
+use Rattle.grs_wire.specs.declared.medium.Reply.TheVariants.{Settled, Told, Left, Kept, Yours, Old, Purged, NoSuch}
+use Rattle.grs_wire.specs.declared.medium.Reply.TheVariants.{Resting, Over, Stale, Removed}
 use Rattle.grs_wire.specs.Replies.{is_check, is_of_act, is_listed}
-use Rattle.grs_wire.specs.LockWords.{is_kept, interest, leave_reply}
-use Rattle.lock_structure.specs.Words.{route}
+use Rattle.grs_wire.specs.LockWords.{is_kept, interest, leave_reply, leave_changes}
+use Rattle.lock_structure.specs.Words.{route, left_words}
 use Rattle.lock_structure.specs.declared.word.Route.{Route}
 use Rattle.lock_structure.specs.declared.word.Route.TheVariants as routes
 use Rattle.rsa_message.specs.Message.{first_number, turn_reply, stands_at}
 use Rattle.grs_wire.specs.Unseen.{unseen}
-use Rattle.grs_medium.specs.Apply.{turn_row, switch_ring, switch_row, submit_on, submit_row, take_from, take_row}
-use Rattle.grs_medium.specs.Apply.{mail_row, leave_row, is_live, without_system, purge_row, resting, rest_row, row, apply, reply_to}
-use Rattle.grs_medium.specs.Medium.{MediumState, inbox, word, all_rest, medium_at_end}
+use Rattle.grs_medium.specs.Apply.{turn_row, switch_ring, switch_row, is_noticed, manages, submit_on, submit_row}
+use Rattle.grs_medium.specs.Apply.{take_from, take_row, mail_row, leave_row, is_live, without_target, purge_row}
+use Rattle.grs_medium.specs.Apply.{resting}
+use Rattle.grs_medium.specs.Apply.{rest_row, row, apply, reply_to}
+use Rattle.grs_medium.specs.Medium.{MediumState, awake, inbox, word, all_rest, medium_at_end}
 use Rattle.grs_medium.specs.Causes.{is_removed, is_heard, RepliesAreListed}
 
 -- ---- a call that is heard is answered by a reply of its act
@@ -57,11 +60,19 @@ switch_is_its m c words = by_star m.star (first_number (unseen c m.message.entri
 submit_is_its : (m : MediumState) (c : SysId) (entry : ℕ) (req : Req)
     → is_of_act (Submit entry req) (submit_row m c entry req).0 ≡ true
 unfolding submit_row
-submit_is_its m c entry req = by_route (route (word m entry) c)
+submit_is_its m c entry req = by_notice (is_noticed m c entry) (manages m c entry)
   where
     by_route : (r : Route) → is_of_act (Submit entry req) (submit_on m c entry req r).0 ≡ true
     by_route routes.Sole = refl
     by_route (routes.To s) = refl
+
+    by_notice : (b d : Bool)
+        → is_of_act (Submit entry req)
+        (cond {A = Reply × MediumState} b (cond d Yours Old, m) (submit_on m c entry req (route (word m entry) c))).0
+        ≡ true
+    by_notice true true = refl
+    by_notice true false = refl
+    by_notice false d = by_route (route (word m entry) c)
 
 take_is_its : (m : MediumState) (c : SysId) → is_of_act Take (take_row m c).0 ≡ true
 unfolding take_row
@@ -73,23 +84,33 @@ take_is_its m c = by_inbox (inbox m c.0)
 
 leave_is_its : (m : MediumState) (c : SysId) (entry : ℕ) → is_of_act (Leave entry) (leave_row m c entry).0 ≡ true
 unfolding leave_row leave_reply
-leave_is_its m c entry = by_kept (is_kept (word m entry) c)
+leave_is_its m c entry = by_notice (is_noticed m c entry) (manages m c entry)
   where
     by_kept : (b : Bool) → is_of_act (Leave entry) (cond b (Kept (interest (word m entry))) Left) ≡ true
     by_kept true = refl
     by_kept false = refl
 
+    by_notice : (b d : Bool)
+        → is_of_act (Leave entry)
+        (cond {A = Reply × MediumState} b (cond d Yours Old, m) (
+          cond (is_kept (word m entry) c) (Kept (interest (word m entry))) Left,
+          cond (leave_changes (word m entry) c) (record m { words = left_words m.words entry c; rest = awake m c }) m,
+        )).0
+        ≡ true
+    by_notice true true = refl
+    by_notice true false = refl
+    by_notice false d = by_kept (is_kept (word m entry) c)
+
 purge_is_its : (m : MediumState) (c target : SysId) → is_of_act (Purge target) (purge_row m c target).0 ≡ true
 unfolding purge_row
-purge_is_its m c target = by_star m.star (is_live m target)
+purge_is_its m c target = by_living (is_live m target)
   where
-    by_star : (b d : Bool)
+    by_living : (b : Bool)
         → is_of_act (Purge target)
-        (cond {A = Reply × MediumState} b (InStar, m) (cond d (Purged, without_system m c target) (NoSuch, m))).0
+        (cond {A = Reply × MediumState} b (Purged, without_target m c target) (NoSuch, m)).0
         ≡ true
-    by_star true d = refl
-    by_star false true = refl
-    by_star false false = refl
+    by_living true = refl
+    by_living false = refl
 
 rest_is_its : (m : MediumState) (c : SysId) → is_of_act Rest (rest_row m c).0 ≡ true
 unfolding rest_row

@@ -13,18 +13,20 @@ use Rattle.grs_wire.specs.declared.request.Want.TheVariants as wants
 use Rattle.grs_wire.specs.declared.medium.Act.{Act}
 use Rattle.grs_wire.specs.declared.medium.Act.TheVariants.{Turn, Switch, Submit, Take, Settle, Tell, Leave, Purge, Rest}
 use Rattle.grs_wire.specs.declared.medium.Call.{Call}
+use Rattle.grs_wire.specs.declared.medium.Mail.{Mail}
 use Rattle.grs_wire.specs.declared.medium.Mail.TheVariants as mails
 use Rattle.grs_wire.specs.declared.medium.Reply.{Reply}
 use Rattle.grs_wire.specs.declared.medium.Reply.TheVariants.{Turned, NotYours, Behind, Switched, Already, Sole, Sent}
-use Rattle.grs_wire.specs.declared.medium.Reply.TheVariants.{Taken, Empty, Settled, Told, Left, Kept, Purged, NoSuch}
-use Rattle.grs_wire.specs.declared.medium.Reply.TheVariants.{InStar, Resting, Over, Stale, Removed}
+use Rattle.grs_wire.specs.declared.medium.Reply.TheVariants.{Taken, Empty, Settled, Told, Left, Kept, Yours, Old}
+use Rattle.grs_wire.specs.declared.medium.Reply.TheVariants.{Purged, NoSuch, Resting, Over, Stale, Removed}
 use Rattle.grs_wire.specs.declared.medium.RingEntry.{RingEntry}
 use Rattle.grs_wire.specs.declared.medium.RingBody.TheVariants as bodies
 use Rattle.grs_wire.specs.Masks.{has, without, with_also}
 use Rattle.grs_wire.specs.LockWords.{manager, lock_word, submitted, leave_reply, leave_changes, left_word}
+use Rattle.lock_structure.specs.Purge.{purged_word}
 use Rattle.lock_structure.specs.Words.{route}
 use Rattle.rsa_message.specs.Message.{first_after, any_unseen, cleared, stamped, turn_reply, wakes, rest_after_turn}
-use Rattle.rsa_message.specs.Message.{turned, turn_changes, dropped, closed_by}
+use Rattle.rsa_message.specs.Message.{opened, turned, turn_changes, dropped, departed, closed_by}
 use Rattle.grs_wire.specs.Unseen.{unseen}
 use Rattle.grs_medium.specs.Medium.{MediumState, first_medium, medium_at_end}
 use Rattle.grs_medium.specs.Apply.{turn_row, switch_row, submit_row, take_row, mail_row, leave_row, purge_row, rest_row}
@@ -157,16 +159,112 @@ star :
     × ((after_all (first_medium 2 1 true) ((0, 0, Submit 0 (ask 0)) ∷ (1, 0, Submit 0 (ask 1)) ∷ [])).words ≡ 259 ∷ [])
     × ((after_all (first_medium 2 1 true) ((0, 0, Submit 0 (ask 0)) ∷ [])).words ≡ 257 ∷ [])
     × ((after_all (first_medium 2 1 true) star_calls).words ≡ 0 ∷ [])
-    -- in star mode nobody is removed, nobody changes it again, and the message stands nowhere
-    × (answers (first_medium 2 1 true) ((0, 0, Purge (sys 1)) ∷ (0, 0, Switch (0 ∷ [])) ∷ (0, 0, turn) ∷ (1, 0, Leave 0)
+    -- in star mode nobody changes it again, and the message stands nowhere
+    × (answers (first_medium 2 1 true) ((0, 0, Switch (0 ∷ [])) ∷ (0, 0, turn) ∷ (1, 0, Leave 0)
     ∷ (0, 0, Tell (sys 1) (mails.Granted (t_of 1) (Systems (65 ∷ []) (66 ∷ [])))) ∷ (1, 0, Take) ∷ [])
-    ≡ (InStar, false) ∷ (Already, false) ∷ (NotYours None, false) ∷ (Left, false) ∷ (Told, true)
+    ≡ (Already, false) ∷ (NotYours None, false) ∷ (Left, false) ∷ (Told, true)
     ∷ (Taken (mails.Granted (t_of 1) (Systems (65 ∷ []) (66 ∷ []))), true) ∷ [])
 unfolding star_calls has without with_also first_after unseen any_unseen cleared stamped turn_reply wakes
     rest_after_turn turned turn_changes dropped closed_by manager lock_word submitted leave_reply leave_changes
     left_word medium_at_end turn_row switch_row submit_row route take_row mail_row leave_row purge_row rest_row row
     apply row_changes changes
 star = (refl, refl, refl, refl, refl)
+
+-- Three systems in star mode: the first manages an entry in which all have interest, and the third another one, in
+-- which the first has interest. The first is removed: the second manages its entry in the next epoch, and both others
+-- get to know it. A request of the first stays in the inbox of the third. Before the notice is taken the entry is
+-- answered by it.
+first_manages : List Made
+first_manages =
+    (0, 0, Submit 0 (ask 0)) ∷ (1, 0, Submit 0 (ask 1)) ∷ (2, 0, Submit 0 (ask 2)) ∷ (2, 0, Submit 1 (ask 2))
+    ∷ (0, 0, Submit 1 (ask 0)) ∷ (2, 0, Rest) ∷ (1, 0, Purge (sys 0)) ∷ []
+
+calls_behind : List Made
+calls_behind =
+    (0, 0, Take) ∷ (2, 0, Take) ∷ (1, 1, Submit 0 (ask 1)) ∷ (2, 1, Submit 0 (ask 2)) ∷ (2, 1, Leave 0)
+    ∷ (1, 1, Leave 0) ∷ (1, 1, Take) ∷ (1, 1, Submit 0 (ask 1)) ∷ (2, 1, Take) ∷ (2, 1, Take) ∷ (2, 1, Submit 0 (ask 2))
+    ∷ (1, 1, Purge (sys 0)) ∷ []
+
+notice : Mail
+notice = mails.Notice (sys 0) (record { entry = 0; manager = sys 1; mask = 6; epoch = 1 } ∷ [])
+
+removal_in_star :
+    (answers (first_medium 3 2 true) first_manages
+    ≡ (Sole, true) ∷ (Sent, true) ∷ (Sent, true) ∷ (Sole, true) ∷ (Sent, true) ∷ (Resting, true) ∷ (Purged, true) ∷ [])
+    × (after_all (first_medium 3 2 true) first_manages
+    ≡ record (first_medium 3 2 true) {
+      words = 4614 ∷ 772 ∷ [];
+      inboxes = [] ∷ (notice ∷ []) ∷ (mails.Request 1 (sys 0) (ask 0) ∷ notice ∷ []) ∷ [];
+      removed = 1;
+    })
+    × (answers (after_all (first_medium 3 2 true) first_manages) calls_behind
+    ≡ (Removed, false) ∷ (Stale 1, false) ∷ (Yours, false) ∷ (Old, false) ∷ (Old, false) ∷ (Yours, false)
+    ∷ (Taken notice, true) ∷ (Sole, false) ∷ (Taken (mails.Request 1 (sys 0) (ask 0)), true) ∷ (Taken notice, true)
+    ∷ (Sent, true) ∷ (NoSuch, false) ∷ [])
+unfolding first_manages calls_behind notice has without with_also first_after unseen any_unseen cleared stamped
+    turn_reply wakes rest_after_turn turned turn_changes dropped departed closed_by manager lock_word submitted
+    purged_word leave_reply leave_changes left_word medium_at_end turn_row switch_row submit_row route take_row mail_row
+    leave_row purge_row rest_row row apply row_changes changes
+removal_in_star = (refl, refl, refl)
+
+-- Three systems in star mode, of which the first manages three entries: one in which all have interest, one in which
+-- the third has, and one of its own. It is removed, and then the second is, which has got the first of them. Each gets
+-- to know what it has interest in; each removal counts as an epoch; and whoever comes next manages an entry of nobody.
+in_turn : List Made
+in_turn =
+    (0, 0, Submit 0 (ask 0)) ∷ (0, 0, Submit 1 (ask 0)) ∷ (0, 0, Submit 2 (ask 0)) ∷ (1, 0, Submit 0 (ask 1))
+    ∷ (2, 0, Submit 0 (ask 2)) ∷ (2, 0, Submit 1 (ask 2)) ∷ (2, 0, Purge (sys 0)) ∷ []
+
+gone_first : MediumState
+gone_first = after_all (first_medium 3 3 true) in_turn
+
+both_of_them : Mail
+both_of_them =
+    mails.Notice (sys 0)
+    (record { entry = 0; manager = sys 1; mask = 6; epoch = 1 }
+    ∷ record { entry = 1; manager = sys 2; mask = 4; epoch = 1 } ∷ [])
+
+the_next : Mail
+the_next = mails.Notice (sys 1) (record { entry = 0; manager = sys 2; mask = 4; epoch = 2 } ∷ [])
+
+removals_in_turn :
+    (gone_first
+    ≡ record (first_medium 3 3 true) {
+      words = 4614 ∷ 4868 ∷ 4096 ∷ [];
+      inboxes = [] ∷ (notice ∷ []) ∷ (both_of_them ∷ []) ∷ [];
+      removed = 1;
+    })
+    × (after_all gone_first ((2, 1, Purge (sys 1)) ∷ [])
+    ≡ record (first_medium 3 3 true) {
+      words = 8964 ∷ 4868 ∷ 4096 ∷ [];
+      inboxes = [] ∷ [] ∷ (both_of_them ∷ the_next ∷ []) ∷ [];
+      removed = 3;
+    })
+    × (answers (after_all gone_first ((2, 1, Purge (sys 1)) ∷ []))
+    ((2, 3, Submit 0 (ask 2)) ∷ (2, 3, Leave 1) ∷ (2, 3, Submit 2 (ask 2)) ∷ (2, 3, Take) ∷ (2, 3, Leave 1)
+    ∷ (2, 3, Submit 0 (ask 2)) ∷ (2, 3, Take) ∷ (2, 3, Submit 0 (ask 2)) ∷ [])
+    ≡ (Yours, false) ∷ (Yours, false) ∷ (Sole, true) ∷ (Taken both_of_them, true) ∷ (Left, true) ∷ (Yours, false)
+    ∷ (Taken the_next, true) ∷ (Sole, false) ∷ [])
+    × ((after_all gone_first ((2, 1, Submit 2 (ask 2)) ∷ [])).words ≡ 4614 ∷ 4868 ∷ 4868 ∷ [])
+unfolding in_turn gone_first both_of_them the_next notice has without with_also first_after unseen any_unseen cleared
+    stamped turn_reply wakes rest_after_turn turned turn_changes dropped departed closed_by manager lock_word submitted
+    purged_word leave_reply leave_changes left_word medium_at_end turn_row switch_row submit_row route take_row mail_row
+    leave_row purge_row rest_row row apply row_changes changes
+removals_in_turn = (refl, refl, refl, refl)
+
+-- Once the complex has changed to star mode, and the third system has yet to change, where the message stands: it is
+-- removed, and the message stands nowhere.
+leaves_the_message :
+    ((after_all (first_medium 3 1 false) ((0, 0, Switch (263 ∷ [])) ∷ (1, 0, turn) ∷ [])).message
+    ≡ record (opened 3) { holder = Some (sys 2); closed = true; still = 4 })
+    × ((after_all (first_medium 3 1 false)
+    ((0, 0, Switch (263 ∷ [])) ∷ (1, 0, turn) ∷ (0, 0, Purge (sys 2)) ∷ [])).message
+    ≡ record (opened 3) { holder = None; closed = true; still = 0 })
+unfolding has without with_also first_after unseen any_unseen cleared stamped turn_reply wakes rest_after_turn turned
+    turn_changes dropped departed closed_by manager lock_word submitted purged_word leave_reply leave_changes left_word
+    medium_at_end turn_row switch_row submit_row route take_row mail_row leave_row purge_row rest_row row apply
+    row_changes changes
+leaves_the_message = (refl, refl)
 
 -- A request of a system that has interest already leaves the word, and yet goes to the manager and clears the flag of
 -- rest. The manager's own changes nothing, nor its flag.

@@ -1,25 +1,60 @@
 -- When the answers of star mode come.
-use Rattle.std.proofs.Common.{◌≡◌, ℕ, Bool, true, false, cond, not, ◌||◌, List, [], ◌∷◌, length, refl, ap, sym, subst}
+use Rattle.std.proofs.Common.{◌≡◌, ℕ, Bool, true, false, cond, not, ◌&&◌, ◌||◌, List, [], ◌∷◌, length, refl, ap, sym}
+use Rattle.std.proofs.Common.{subst}
 use Rattle.std.proofs.Common.{arith}
 use Rattle.std.specs.Prelude.{◌↔◌, Option, Some, None, is_none, ◌==◌}
-use Rattle.std.proofs.lemmas.Bool.{eqb-true, false≢true}
+use Rattle.std.proofs.lemmas.Bool.{eqb-true, false≢true, true≢false}
 use Rattle.grs_base.specs.declared.resource.SysId.{SysId}
 use Rattle.grs_wire.specs.declared.request.Req.{Req}
 use Rattle.grs_wire.specs.declared.medium.Act.{Act}
 use Rattle.grs_wire.specs.declared.medium.Act.TheVariants.{Submit, Take, Settle, Tell, Leave}
 use Rattle.grs_wire.specs.declared.medium.Mail.{Mail}
 use Rattle.grs_wire.specs.declared.medium.Reply.TheVariants.{Sole, Sent, Taken, Empty, Settled, Told, Left, Kept}
-use Rattle.grs_wire.specs.LockWords.{manager, is_manager, is_kept, interest, leave_reply}
+use Rattle.grs_wire.specs.declared.medium.Reply.TheVariants.{Yours, Old}
+use Rattle.grs_wire.specs.declared.medium.Reply.{Reply}
+use Rattle.grs_wire.specs.LockWords.{manager, is_manager, is_kept, interest, leave_reply, leave_changes}
 use Rattle.lock_structure.proofs.Others.{kept-where}
-use Rattle.lock_structure.specs.Words.{route_by, route}
+use Rattle.lock_structure.specs.Words.{route_by, route, left_words}
+use Rattle.lock_structure.specs.declared.word.Route.{Route}
 use Rattle.lock_structure.specs.declared.word.Route.TheVariants as routes
-use Rattle.grs_medium.specs.Apply.{submit_on, submit_row, take_from, take_row, mail_row, leave_row, row}
+use Rattle.grs_medium.specs.Apply.{is_noticed, manages, submit_on, submit_row, take_from, take_row, mail_row}
+use Rattle.grs_medium.specs.Apply.{leave_row, row}
 use Rattle.grs_medium.specs.Inboxes.{is_empty, first_mail}
-use Rattle.grs_medium.specs.Medium.{MediumState, inbox, word}
+use Rattle.grs_medium.specs.Medium.{MediumState, awake, inbox, word}
 use Rattle.grs_medium.specs.Causes.{submits_alone, submits_to_another, taken_mail, takes_nothing, settles, tells}
 use Rattle.grs_medium.specs.Causes.{leaves_others, leaves, interested, SoleComes, SentComes, TakenComes, EmptyComes}
-use Rattle.grs_medium.specs.Causes.{SettledComes, ToldComes, KeptComes, LeftComes}
+use Rattle.grs_medium.specs.Causes.{SettledComes, ToldComes, KeptComes, LeftComes, YoursComes, OldComes}
+use Rattle.grs_medium.specs.Causes.{is_forestalled, is_its_own}
 use Rattle.grs_medium.proofs.Replies.{neither, other_reply, never, heard}
+
+-- A call that a notice forestalls is answered as it says; any other by its row.
+unless_noticed : {M C : Type 0} (b own : Bool) (m : M) (x : Reply × M) (reply : Reply) → ¬ (Yours ≡ reply)
+    → ¬ (Old ≡ reply) → ((x.0 ≡ reply) ↔ C)
+    → ((cond {A = Reply × M} b (cond own Yours Old, m) x).0 ≡ reply) ↔ ((not b ≡ true) × C)
+unless_noticed true true m x reply yours old law = neither yours (λ p. false≢true p.0)
+unless_noticed true false m x reply yours old law = neither old (λ p. false≢true p.0)
+unless_noticed false own m x reply yours old law = (λ e. (refl, law.0 e), λ p. law.1 p.1)
+
+both_hold : {A : Type 0} (b d : Bool) → (A ↔ ((not b ≡ true) × (d ≡ true))) → A ↔ ((not b && d) ≡ true)
+both_hold true d law = (λ a. absurd (false≢true (law.0 a).0), λ e. absurd (false≢true e))
+both_hold false d law = (λ a. (law.0 a).1, λ e. law.1 (refl, e))
+
+both_and : {A C : Type 0} (b d : Bool) → (A ↔ ((not b ≡ true) × ((d ≡ true) × C)))
+    → A ↔ (((not b && d) ≡ true) × C)
+both_and true d law = (λ a. absurd (false≢true (law.0 a).0), λ p. absurd (false≢true p.0))
+both_and false d law = (λ a. (law.0 a).1, λ p. law.1 (refl, p))
+
+noticed_yours : {M : Type 0} (b own : Bool) (m : M) (x : Reply × M) → ¬ (x.0 ≡ Yours)
+    → ((cond {A = Reply × M} b (cond own Yours Old, m) x).0 ≡ Yours) ↔ ((b ≡ true) × (own ≡ true))
+noticed_yours true true m x other = (λ e. (refl, refl), λ p. refl)
+noticed_yours true false m x other = neither (λ e. absurd cc) (λ p. false≢true p.1)
+noticed_yours false own m x other = neither other (λ p. false≢true p.0)
+
+noticed_old : {M : Type 0} (b own : Bool) (m : M) (x : Reply × M) → ¬ (x.0 ≡ Old)
+    → ((cond {A = Reply × M} b (cond own Yours Old, m) x).0 ≡ Old) ↔ ((b ≡ true) × (own ≡ false))
+noticed_old true true m x other = neither (λ e. absurd cc) (λ p. true≢false p.1)
+noticed_old true false m x other = (λ e. (refl, refl), λ p. refl)
+noticed_old false own m x other = neither other (λ p. false≢true p.0)
 
 -- the rows of a Submit, a Take and a Leave
 submit_sole : (m : MediumState) (c : SysId) (entry : ℕ) (req : Req) (o : Option SysId)
@@ -60,18 +95,36 @@ leave_left : (b : Bool) (given : ℕ) → (cond b (Kept given) Left ≡ Left) �
 leave_left true given = neither (λ e. absurd cc) false≢true
 leave_left false given = (λ e. refl, λ e. refl)
 
+-- neither row is answered what a notice answers
+submit_other : (m : MediumState) (c : SysId) (entry : ℕ) (req : Req) (r : Route)
+    → (¬ ((submit_on m c entry req r).0 ≡ Yours)) × (¬ ((submit_on m c entry req r).0 ≡ Old))
+submit_other m c entry req routes.Sole = (λ e. absurd cc, λ e. absurd cc)
+submit_other m c entry req (routes.To s) = (λ e. absurd cc, λ e. absurd cc)
+
+leave_other : (b : Bool) (mask : ℕ) → (¬ (cond b (Kept mask) Left ≡ Yours)) × (¬ (cond b (Kept mask) Left ≡ Old))
+leave_other true mask = (λ e. absurd cc, λ e. absurd cc)
+leave_other false mask = (λ e. absurd cc, λ e. absurd cc)
+
 always : {A : Type 0} → A → A ↔ (true ≡ true)
 always a = (λ x. refl, λ y. a)
 
 -- each reply to an act
 row_sole : (m : MediumState) (c : SysId) (act : Act) → ((row m c act).0 ≡ Sole) ↔ (submits_alone m c act ≡ true)
 unfolding row submit_row route
-row_sole m c (Submit entry req) = submit_sole m c entry req (manager (word m entry))
+row_sole m c (Submit entry req) =
+    both_hold (is_noticed m c entry) _
+    (unless_noticed (is_noticed m c entry) (manages m c entry) m
+    (submit_on m c entry req (route_by (manager (word m entry)) c))
+    Sole (λ e. absurd cc) (λ e. absurd cc) (submit_sole m c entry req (manager (word m entry))))
 row_sole m c act = never m c act Sole refl
 
 row_sent : (m : MediumState) (c : SysId) (act : Act) → ((row m c act).0 ≡ Sent) ↔ (submits_to_another m c act ≡ true)
 unfolding row submit_row route
-row_sent m c (Submit entry req) = submit_sent m c entry req (manager (word m entry))
+row_sent m c (Submit entry req) =
+    both_hold (is_noticed m c entry) _
+    (unless_noticed (is_noticed m c entry) (manages m c entry) m
+    (submit_on m c entry req (route_by (manager (word m entry)) c))
+    Sent (λ e. absurd cc) (λ e. absurd cc) (submit_sent m c entry req (manager (word m entry))))
 row_sent m c act = never m c act Sent refl
 
 row_taken : (m : MediumState) (c : SysId) (act : Act) (mail : Mail) → ((row m c act).0 ≡ Taken mail)
@@ -95,25 +148,74 @@ unfolding row mail_row
 row_told m c (Tell to mail) = always refl
 row_told m c act = never m c act Told refl
 
+-- the medium behind a Leave that no notice forestalls
+abbrev left_medium : MediumState → SysId → ℕ → MediumState
+left_medium m c entry =
+    cond (leave_changes (word m entry) c) (record m { words = left_words m.words entry c; rest = awake m c }) m
+
+-- any other Leave is one that isn't forestalled and keeps nobody
+left_hold : {A : Type 0} (b d : Bool) → (A ↔ ((not b ≡ true) × (not d ≡ true)))
+    → A ↔ ((not b && not (not b && d)) ≡ true)
+left_hold true d law = (λ a. absurd (false≢true (law.0 a).0), λ e. absurd (false≢true e))
+left_hold false d law = (λ a. (law.0 a).1, λ e. law.1 (refl, e))
+
 row_kept : (m : MediumState) (c : SysId) (act : Act) (mask : ℕ) → ((row m c act).0 ≡ Kept mask)
     ↔ ((leaves_others m c act ≡ true) × (mask ≡ interested m act))
 unfolding row leave_row leave_reply
 row_kept m c (Leave entry) mask =
-    subst (λ (b : Bool).
+    both_and (is_noticed m c entry) _
+    (unless_noticed (is_noticed m c entry) (manages m c entry) m
+    (cond (is_kept (word m entry) c) (Kept (interest (word m entry))) Left, left_medium m c entry) (Kept mask)
+    (λ e. absurd cc) (λ e. absurd cc)
+    (subst (λ (b : Bool).
     (cond (is_kept (word m entry) c) (Kept (interest (word m entry))) Left ≡ Kept mask)
     ↔ ((b ≡ true) × (mask ≡ interest (word m entry))))
     (kept-where (word m entry) c)
-    (leave_kept (is_kept (word m entry) c) (interest (word m entry)) mask)
+    (leave_kept (is_kept (word m entry) c) (interest (word m entry)) mask)))
 row_kept m c act mask = neither (other_reply m c act (Kept mask) refl) (λ p. false≢true p.0)
 
 row_left : (m : MediumState) (c : SysId) (act : Act) → ((row m c act).0 ≡ Left) ↔ (leaves m c act ≡ true)
 unfolding row leave_row leave_reply
 row_left m c (Leave entry) =
-    subst (λ (b : Bool).
+    left_hold (is_noticed m c entry) _
+    (unless_noticed (is_noticed m c entry) (manages m c entry) m
+    (cond (is_kept (word m entry) c) (Kept (interest (word m entry))) Left, left_medium m c entry) Left
+    (λ e. absurd cc) (λ e. absurd cc)
+    (subst (λ (b : Bool).
     (cond (is_kept (word m entry) c) (Kept (interest (word m entry))) Left ≡ Left) ↔ (not b ≡ true))
     (kept-where (word m entry) c)
-    (leave_left (is_kept (word m entry) c) (interest (word m entry)))
+    (leave_left (is_kept (word m entry) c) (interest (word m entry)))))
 row_left m c act = never m c act Left refl
+
+row_yours : (m : MediumState) (c : SysId) (act : Act) → ((row m c act).0 ≡ Yours)
+    ↔ ((is_forestalled m c act ≡ true) × (is_its_own m c act ≡ true))
+unfolding row submit_row leave_row leave_reply
+row_yours m c (Submit entry req) =
+    noticed_yours (is_noticed m c entry) (manages m c entry) m (submit_on m c entry req (route (word m entry) c))
+    (submit_other m c entry req (route (word m entry) c)).0
+row_yours m c (Leave entry) =
+    noticed_yours (is_noticed m c entry) (manages m c entry) m
+    (cond (is_kept (word m entry) c) (Kept (interest (word m entry))) Left, left_medium m c entry)
+    (leave_other (is_kept (word m entry) c) (interest (word m entry))).0
+row_yours m c act = neither (other_reply m c act Yours refl) (λ p. false≢true p.0)
+
+row_old : (m : MediumState) (c : SysId) (act : Act) → ((row m c act).0 ≡ Old)
+    ↔ ((is_forestalled m c act ≡ true) × (is_its_own m c act ≡ false))
+unfolding row submit_row leave_row leave_reply
+row_old m c (Submit entry req) =
+    noticed_old (is_noticed m c entry) (manages m c entry) m (submit_on m c entry req (route (word m entry) c))
+    (submit_other m c entry req (route (word m entry) c)).1
+row_old m c (Leave entry) =
+    noticed_old (is_noticed m c entry) (manages m c entry) m
+    (cond (is_kept (word m entry) c) (Kept (interest (word m entry))) Left, left_medium m c entry)
+    (leave_other (is_kept (word m entry) c) (interest (word m entry))).1
+row_old m c act = neither (other_reply m c act Old refl) (λ p. false≢true p.0)
+
+pub yours_comes : YoursComes
+yours_comes m c call = heard m c call Yours refl (row_yours m c call.act)
+
+pub old_comes : OldComes
+old_comes m c call = heard m c call Old refl (row_old m c call.act)
 
 pub sole_comes : SoleComes
 sole_comes m c call = heard m c call Sole refl (row_sole m c call.act)

@@ -1,7 +1,7 @@
 -- The calls of the medium, row by row: what each is answered, and what the medium is afterwards.
-use Rattle.std.specs.Prelude.{◌≡◌, ◌≢◌, ◌<◌, ◌≤◌, ℕ, Bool, true, cond, not, ◌==◌, ◌&&◌, List, [], ◌∷◌, length, Option}
-use Rattle.std.specs.Prelude.{Some, None, is_none}
-use Rattle.std.specs.List.{list_all}
+use Rattle.std.specs.Prelude.{◌≡◌, ◌≢◌, ◌<◌, ◌≤◌, ℕ, Bool, true, cond, not, ◌==◌, ◌&&◌, List, [], ◌∷◌, length, map}
+use Rattle.std.specs.Prelude.{Option, Some, None, is_none}
+use Rattle.std.specs.List.{list_all, range_with_len}
 use Rattle.grs_base.specs.Limits.{most_additions}
 use Rattle.grs_base.specs.declared.resource.SysId.{SysId}
 use Rattle.grs_wire.specs.declared.request.Req.{Req}
@@ -12,17 +12,20 @@ use Rattle.grs_wire.specs.declared.medium.Mail.{Mail}
 use Rattle.grs_wire.specs.declared.medium.Mail.TheVariants as mails
 use Rattle.grs_wire.specs.declared.medium.Reply.{Reply}
 use Rattle.grs_wire.specs.declared.medium.Reply.TheVariants.{Behind, Switched, Already, Sole, Sent, Taken, Empty}
-use Rattle.grs_wire.specs.declared.medium.Reply.TheVariants.{Settled, Told, Purged, NoSuch, InStar, Resting, Over}
-use Rattle.grs_wire.specs.declared.medium.Reply.TheVariants.{Stale, Removed}
-use Rattle.grs_wire.specs.Masks.{has, with_also, lives}
+use Rattle.grs_wire.specs.declared.medium.Reply.TheVariants.{Settled, Told, Yours, Old, Purged, NoSuch, Resting}
+use Rattle.grs_wire.specs.declared.medium.Reply.TheVariants.{Over, Stale, Removed}
+use Rattle.grs_wire.specs.declared.gather.Moved.{Moved}
+use Rattle.grs_wire.specs.Masks.{has, with_also, without_others, lives}
+use Rattle.grs_wire.specs.Notices.{noticed}
 use Rattle.grs_wire.specs.LockWords.{manager, is_manager, leave_reply, leave_changes}
+use Rattle.lock_structure.specs.Purge.{purged_words, moved_for}
 use Rattle.lock_structure.specs.Words.{route, submitted_words, left_words, word_fits}
 use Rattle.lock_structure.specs.declared.word.Route.{Route}
 use Rattle.lock_structure.specs.declared.word.Route.TheVariants as routes
 use Rattle.rsa_message.specs.Message.{first_number, turn_reply, turned, rest_after_turn, turn_changes, closed_by}
-use Rattle.rsa_message.specs.Message.{dropped}
+use Rattle.rsa_message.specs.Message.{dropped, departed}
 use Rattle.grs_wire.specs.Unseen.{unseen}
-use Rattle.grs_medium.specs.Inboxes.{is_empty, with_mail, without_first}
+use Rattle.grs_medium.specs.Inboxes.{is_empty, with_mail, without_first, posted, emptied}
 use Rattle.grs_medium.specs.Medium.{MediumState, systems_of, live, inbox, medium_at_end, all_rest, awake, word}
 
 -- Turn: the caller gets its unseen entries, and its requests go into the message
@@ -43,11 +46,19 @@ switch_ring m c words None = (
 unfoldable pub switch_row : MediumState → SysId → List ℕ → Reply × MediumState
 switch_row m c words = cond m.star (Already, m) (switch_ring m c words (first_number (unseen c m.message.entries)))
 
--- Submit: the caller has interest in the lock entry from then on, and the first to have it manages the entry. A
--- request that isn't the caller's own to decide goes to the manager. A manager's own request changes nothing.
+-- Whether a notice in the caller's inbox names the lock entry. Then a Submit or a Leave of it changes nothing, and is
+-- answered whether the entry is the caller's to manage from now on, or the caller knows an old manager.
+abbrev pub is_noticed : MediumState → SysId → ℕ → Bool
+is_noticed m c entry = noticed entry (inbox m c.0)
+
 abbrev pub manages : MediumState → SysId → ℕ → Bool
 manages m c entry = is_manager (manager (word m entry)) c
 
+abbrev pub notice_reply : MediumState → SysId → ℕ → Reply
+notice_reply m c entry = cond (manages m c entry) Yours Old
+
+-- Submit: the caller has interest in the lock entry from then on, and the first to have it manages the entry. A
+-- request that isn't the caller's own to decide goes to the manager. A manager's own request changes nothing.
 abbrev pub joined : MediumState → SysId → ℕ → MediumState
 joined m c entry = cond (manages m c entry) m (record m { words = submitted_words m.words entry c; rest = awake m c })
 
@@ -57,7 +68,8 @@ submit_on m c entry req
     (routes.To s) = (Sent, record (joined m c entry) { inboxes = with_mail m.inboxes s.0 (mails.Request entry c req) })
 
 unfoldable pub submit_row : MediumState → SysId → ℕ → Req → Reply × MediumState
-submit_row m c entry req = submit_on m c entry req (route (word m entry) c)
+submit_row m c entry req =
+    cond (is_noticed m c entry) (notice_reply m c entry, m) (submit_on m c entry req (route (word m entry) c))
 
 -- Take: the first mail of the caller's inbox is taken out
 abbrev pub take_from : MediumState → SysId → List Mail → Reply × MediumState
@@ -73,12 +85,13 @@ mail_row reply m c to mail = (reply, record m { inboxes = with_mail m.inboxes to
 
 -- Leave: the caller gives up its interest, but no manager leaves others behind
 unfoldable pub leave_row : MediumState → SysId → ℕ → Reply × MediumState
-leave_row m c entry = (
-  leave_reply (word m entry) c,
-  cond (leave_changes (word m entry) c) (record m { words = left_words m.words entry c; rest = awake m c }) m,
-)
+leave_row m c entry =
+    cond (is_noticed m c entry) (notice_reply m c entry, m) (
+      leave_reply (word m entry) c,
+      cond (leave_changes (word m entry) c) (record m { words = left_words m.words entry c; rest = awake m c }) m,
+    )
 
--- Purge: a live system is removed, in ring mode
+-- Purge: a live system is removed. In ring mode an entry of the message tells of it.
 abbrev pub is_live : MediumState → SysId → Bool
 is_live m s = lives (systems_of m) m.removed s.0
 
@@ -87,8 +100,26 @@ without_system m c t =
     let gone = record m { removed = with_also m.removed t.0; rest = awake m c } in
     record gone { message = dropped m.message c t (live gone) }
 
+-- what each of so many systems gets to know by the removal of t in star mode, by number
+abbrev pub moved_by : List ℕ → ℕ → SysId → List (List Moved)
+moved_by words systems t = map (λ s. moved_for words t (record { 0 = s })) (range_with_len 0 systems)
+
+-- In star mode each system gets to know by a notice, last in its inbox, of which lock entries it is interested in t was
+-- the manager; t leaves the lock words and the message, its inbox is emptied, and all live flags are cleared.
+abbrev pub without_in_star : MediumState → SysId → MediumState
+without_in_star m t = record m {
+  message = departed m.message t;
+  words = purged_words m.words t;
+  inboxes = posted t (moved_by m.words (systems_of m) t) (emptied m.inboxes t.0);
+  removed = with_also m.removed t.0;
+  rest = without_others (systems_of m) (with_also m.removed t.0) m.rest;
+}
+
+abbrev pub without_target : MediumState → SysId → SysId → MediumState
+without_target m c t = cond m.star (without_in_star m t) (without_system m c t)
+
 unfoldable pub purge_row : MediumState → SysId → SysId → Reply × MediumState
-purge_row m c t = cond m.star (InStar, m) (cond (is_live m t) (Purged, without_system m c t) (NoSuch, m))
+purge_row m c t = cond (is_live m t) (Purged, without_target m c t) (NoSuch, m)
 
 -- Rest: the caller's flag is set, and all is over once all have come to rest and nothing is left to do
 abbrev pub resting : MediumState → SysId → MediumState
@@ -124,16 +155,16 @@ abbrev pub medium_after : MediumState → SysId → Call → MediumState
 medium_after m c call = (apply m c call).1
 
 -- whether an act that is neither answered Removed nor Stale changes the medium; a Submit at another's entry does by its
--- mail, also where the word stays
+-- mail, also where the word stays, but nothing does that a notice forestalls
 unfoldable pub row_changes : MediumState → SysId → Act → Bool
 row_changes m c (Turn out) = turn_changes m.message c (length out) (live m) m.rest
 row_changes m c (Switch words) = not m.star && is_none (first_number (unseen c m.message.entries))
-row_changes m c (Submit entry req) = not (manages m c entry)
+row_changes m c (Submit entry req) = not (is_noticed m c entry) && not (manages m c entry)
 row_changes m c Take = not (is_empty (inbox m c.0))
 row_changes m c (Settle to mail) = true
 row_changes m c (Tell to mail) = true
-row_changes m c (Leave entry) = leave_changes (word m entry) c
-row_changes m c (Purge target) = not m.star && is_live m target
+row_changes m c (Leave entry) = not (is_noticed m c entry) && leave_changes (word m entry) c
+row_changes m c (Purge target) = is_live m target
 row_changes m c Rest = not (has m.rest c.0)
 
 -- whether a call changes the medium

@@ -12,7 +12,7 @@ use Rattle.grs_wire.specs.LockWords.{interest, manager, is_manager}
 use Rattle.lock_structure.specs.Laws.{has_others}
 use Rattle.rsa_message.specs.Message.{stands_at, first_number}
 use Rattle.grs_wire.specs.Unseen.{unseen}
-use Rattle.grs_medium.specs.Apply.{is_live, resting, reply_to}
+use Rattle.grs_medium.specs.Apply.{is_noticed, manages, is_live, resting, reply_to}
 use Rattle.grs_medium.specs.Inboxes.{is_empty, first_mail}
 use Rattle.grs_medium.specs.Medium.{MediumState, all_rest, inbox, medium_at_end, word}
 
@@ -48,14 +48,14 @@ abbrev pub switches : MediumState → SysId → Act → Bool
 switches m c (Switch words) = not m.star && is_none (first_number (unseen c m.message.entries))
 switches m c act = false
 
--- a Purge in star mode
-abbrev pub purges_in_star : MediumState → Act → Bool
-purges_in_star m (Purge target) = m.star
-purges_in_star m act = false
+-- a Purge of a live system
+abbrev pub purges : MediumState → Act → Bool
+purges m (Purge target) = is_live m target
+purges m act = false
 
--- a Purge in ring mode of a system that was removed, or of none
+-- a Purge of a system that was removed, or of none
 abbrev pub purges_nobody : MediumState → Act → Bool
-purges_nobody m (Purge target) = not m.star && not (is_live m target)
+purges_nobody m (Purge target) = not (is_live m target)
 purges_nobody m act = false
 
 -- a Rest with which all live systems are at rest, and nothing is left to do
@@ -68,15 +68,28 @@ abbrev pub rests_early : MediumState → SysId → Act → Bool
 rests_early m c Rest = not (all_rest (resting m c) && medium_at_end m)
 rests_early m c act = false
 
--- a Submit on a lock entry that the caller manages, or nobody
+-- a Submit or a Leave of a lock entry that a notice in the caller's inbox names; and such a one of an entry that the
+-- caller manages
+abbrev pub is_forestalled : MediumState → SysId → Act → Bool
+is_forestalled m c (Submit entry req) = is_noticed m c entry
+is_forestalled m c (Leave entry) = is_noticed m c entry
+is_forestalled m c act = false
+
+abbrev pub is_its_own : MediumState → SysId → Act → Bool
+is_its_own m c (Submit entry req) = manages m c entry
+is_its_own m c (Leave entry) = manages m c entry
+is_its_own m c act = false
+
+-- a Submit on a lock entry that the caller manages, or nobody, and no notice in its inbox names
 abbrev pub submits_alone : MediumState → SysId → Act → Bool
-submits_alone m c (Submit entry req) = is_none (manager (word m entry)) || is_manager (manager (word m entry)) c
+submits_alone m c (Submit entry req) =
+    not (is_noticed m c entry) && (is_none (manager (word m entry)) || is_manager (manager (word m entry)) c)
 submits_alone m c act = false
 
--- a Submit on a lock entry that another system manages
+-- a Submit on a lock entry that another system manages, where no notice in the caller's inbox names it
 abbrev pub submits_to_another : MediumState → SysId → Act → Bool
 submits_to_another m c (Submit entry req) =
-    not (is_none (manager (word m entry)) || is_manager (manager (word m entry)) c)
+    not (is_noticed m c entry) && not (is_none (manager (word m entry)) || is_manager (manager (word m entry)) c)
 submits_to_another m c act = false
 
 -- the mail that a Take of the caller gets: the first of its inbox
@@ -97,16 +110,18 @@ abbrev pub tells : Act → Bool
 tells (Tell to mail) = true
 tells act = false
 
--- a Leave of a lock entry that the caller manages, having interest in it, and others have interest as well
+-- a Leave of a lock entry that the caller manages, having interest in it, and others have interest as well; and no
+-- notice in the caller's inbox names it
 abbrev pub leaves_others : MediumState → SysId → Act → Bool
 leaves_others m c (Leave entry) =
-    is_manager (manager (word m entry)) c
-    && (has (interest (word m entry)) c.0 && has_others (interest (word m entry)) c)
+    not (is_noticed m c entry)
+    && (is_manager (manager (word m entry)) c
+    && (has (interest (word m entry)) c.0 && has_others (interest (word m entry)) c))
 leaves_others m c act = false
 
--- any other Leave
+-- any other Leave of an entry that no notice in the caller's inbox names
 abbrev pub leaves : MediumState → SysId → Act → Bool
-leaves m c (Leave entry) = not (leaves_others m c (Leave entry))
+leaves m c (Leave entry) = not (is_noticed m c entry) && not (leaves_others m c (Leave entry))
 leaves m c act = false
 
 -- the systems that have interest in the lock entry of a Leave
@@ -150,10 +165,24 @@ SwitchedComes =
     (m : MediumState) (c : SysId) (call : Call) → (reply_to m c call ≡ replies.Switched)
     ↔ ((is_heard m c call ≡ true) × (switches m c call.act ≡ true))
 
-abbrev pub InStarComes : Type 0
-InStarComes =
-    (m : MediumState) (c : SysId) (call : Call) → (reply_to m c call ≡ replies.InStar)
-    ↔ ((is_heard m c call ≡ true) × (purges_in_star m call.act ≡ true))
+abbrev pub PurgedComes : Type 0
+PurgedComes =
+    (m : MediumState) (c : SysId) (call : Call) → (reply_to m c call ≡ replies.Purged)
+    ↔ ((is_heard m c call ≡ true) × (purges m call.act ≡ true))
+
+-- nothing is answered InStar
+abbrev pub NeverInStar : Type 0
+NeverInStar = (m : MediumState) (c : SysId) (call : Call) → ¬ (reply_to m c call ≡ replies.InStar)
+
+abbrev pub YoursComes : Type 0
+YoursComes =
+    (m : MediumState) (c : SysId) (call : Call) → (reply_to m c call ≡ replies.Yours)
+    ↔ ((is_heard m c call ≡ true) × ((is_forestalled m c call.act ≡ true) × (is_its_own m c call.act ≡ true)))
+
+abbrev pub OldComes : Type 0
+OldComes =
+    (m : MediumState) (c : SysId) (call : Call) → (reply_to m c call ≡ replies.Old)
+    ↔ ((is_heard m c call ≡ true) × ((is_forestalled m c call.act ≡ true) × (is_its_own m c call.act ≡ false)))
 
 abbrev pub NoSuchComes : Type 0
 NoSuchComes =

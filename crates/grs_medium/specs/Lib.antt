@@ -8,3 +8,4 @@ pub mod TurnReplies
 pub mod TakeReplies
 pub mod Concerned
 pub mod GoesOn
+pub mod Removals

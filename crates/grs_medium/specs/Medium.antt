@@ -1,9 +1,10 @@
 -- The medium: the part of a complex that all its systems share.
-use Rattle.std.specs.Prelude.{ℕ, Bool, cond, ◌&&◌, List, [], replicate}
+use Rattle.std.specs.Prelude.{◌<◌, ◌^◌, ℕ, Bool, cond, ◌&&◌, List, [], length, replicate}
+use Rattle.std.specs.List.{All}
 use Rattle.grs_base.specs.declared.resource.SysId.{SysId}
 use Rattle.grs_wire.specs.declared.medium.Mail.{Mail}
 use Rattle.grs_wire.specs.Masks.{has, without, others, all_others}
-use Rattle.lock_structure.specs.Words.{word_at}
+use Rattle.lock_structure.specs.Words.{word_at, ManagerIsBelow, MaskIsBelow}
 use Rattle.rsa_message.specs.Message.{Message, opened, never_opened, message_at_end}
 use Rattle.grs_medium.specs.Inboxes.{inbox_of, is_empty}
 
@@ -16,6 +17,12 @@ pub record MediumState : Type 0 where
   pub inboxes : List (List Mail)
   pub removed : ℕ
   pub rest : ℕ
+
+-- Lock words that name some of so many systems alone, of no more entries than a number can name.
+pub record AreWords (systems : ℕ) (words : List ℕ) : Type 0 where
+  pub managers : All (ManagerIsBelow systems) words
+  pub masks : All (MaskIsBelow systems) words
+  pub count : length words < 2 ^ 32
 
 -- the medium at the start
 abbrev pub first_medium : ℕ → ℕ → Bool → MediumState

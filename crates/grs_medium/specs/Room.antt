@@ -1,9 +1,10 @@
 -- The room that a call of the medium was given beforehand, so that it takes no memory.
-use Rattle.std.specs.Prelude.{◌≡◌, ℕ, true, false, length, Option, Some, None}
+use Rattle.std.specs.Prelude.{◌≡◌, ℕ, true, false, List, length, Option, Some, None}
 use Rattle.grs_base.specs.declared.resource.SysId.{SysId}
 use Rattle.grs_wire.specs.declared.medium.Act.{Act}
 use Rattle.grs_wire.specs.declared.medium.Act.TheVariants.{Turn, Submit, Settle, Tell, Purge}
 use Rattle.grs_wire.specs.declared.medium.Call.{Call}
+use Rattle.grs_wire.specs.declared.gather.Moved.{Moved}
 use Rattle.grs_wire.specs.declared.medium.Mail.{Mail}
 use Rattle.grs_wire.specs.declared.medium.Mail.TheVariants as mails
 use Rattle.grs_wire.specs.declared.request.Req.{Req}
@@ -13,15 +14,17 @@ use Rattle.lock_structure.specs.declared.word.Route.TheVariants.{Sole, To}
 use Rattle.rsa_message.specs.Message.{put_in}
 use Rattle.rsa_message.specs.Places.{HasPlaces}
 use Rattle.rsa_message.specs.Room.{Room, HasRoom}
-use Rattle.grs_medium.specs.Apply.{is_live}
+use Rattle.grs_medium.specs.Apply.{is_live, moved_by}
 use Rattle.grs_medium.specs.Causes.{is_heard}
-use Rattle.grs_medium.specs.Medium.{MediumState, word}
+use Rattle.grs_medium.specs.Medium.{MediumState, systems_of, word}
 
--- a medium with its room: the message's, and whose inbox has room for one more mail
+-- a medium with its room: the message's, whose inbox has room for one more mail, and what was got ready for each system
+-- to get to know by a removal
 pub record MediumValue : Type 0 where
   pub state : MediumState
   pub room : Room
   pub ready : Option SysId
+  pub moved : List (List Moved)
 
 -- the mail of a request, and whom it goes to, where it goes to the manager
 abbrev pub request_on : Route → ℕ → SysId → Req → Option (SysId × Mail)
@@ -33,9 +36,13 @@ abbrev pub HasRoomOn : Option SysId → Route → Type 0
 HasRoomOn ready Sole = Unit {0}
 HasRoomOn ready (To s) = ready ≡ Some s
 
--- room for the entry that tells of the removal of t, where that is a live system in ring mode
+-- Where t is a live system: room for the entry that tells of its removal in ring mode, and in star mode the lists that
+-- the notices have, got ready.
 abbrev pub HasRoomToPurge : MediumValue → SysId → Type 0
-HasRoomToPurge v t = v.state.star ≡ false → is_live v.state t ≡ true → HasPlaces v.room 1
+HasRoomToPurge v t =
+    is_live v.state t ≡ true
+    → (v.state.star ≡ false → HasPlaces v.room 1)
+    × (v.state.star ≡ true → v.moved ≡ moved_by v.state.words (systems_of v.state) t)
 
 -- room for this act of c
 abbrev pub HasRoomForAct : MediumValue → SysId → Act → Type 0

@@ -1,6 +1,7 @@
 //! Laws of the medium: each function's contract is one, and there is nothing to run.
-ghost use Rattle.grs_medium.specs.Causes.{RepliesAreListed, RemovedComes, StaleComes, NotYoursComes, AlreadyComes, BehindComes, SwitchedComes, InStarComes, NoSuchComes, OverComes, RestingComes, SoleComes, SentComes, TakenComes, EmptyComes, SettledComes, ToldComes, KeptComes, LeftComes};
+ghost use Rattle.grs_medium.specs.Causes.{RepliesAreListed, RemovedComes, StaleComes, NotYoursComes, AlreadyComes, BehindComes, SwitchedComes, PurgedComes, NeverInStar, YoursComes, OldComes, NoSuchComes, OverComes, RestingComes, SoleComes, SentComes, TakenComes, EmptyComes, SettledComes, ToldComes, KeptComes, LeftComes};
 ghost use Rattle.grs_medium.specs.Changes.{LeavesTheRest, ChangesWhatItSays};
+ghost use Rattle.grs_medium.specs.Removals.{RemovalIsNoticed, RemovalKeepsMail, RemovalEmptiesInbox, RemovalWakes};
 ghost use Rattle.grs_medium.specs.TurnReplies.{TurnIsRefused, TurnIsServed};
 ghost use Rattle.grs_medium.specs.TakeReplies.{TakeFindsNothing};
 
@@ -53,13 +54,17 @@ pub fn switched_comes()
     ensures { SwitchedComes }
 {}
 
-/// A call that is heard is answered InStar exactly where it is a Purge in star mode.
-pub fn in_star_comes()
-    ensures { InStarComes }
+/// A call that is heard is answered Purged exactly where it is a Purge of a live system.
+pub fn purged_comes()
+    ensures { PurgedComes }
 {}
 
-/// A call that is heard is answered NoSuch exactly where it is a Purge in ring mode of a system that was removed,
-/// or of none.
+/// No call is answered InStar.
+pub fn never_in_star()
+    ensures { NeverInStar }
+{}
+
+/// A call that is heard is answered NoSuch exactly where it is a Purge of a system that was removed, or of none.
 pub fn no_such_comes()
     ensures { NoSuchComes }
 {}
@@ -75,13 +80,26 @@ pub fn resting_comes()
     ensures { RestingComes }
 {}
 
+/// A call that is heard is answered Yours exactly where it is a Submit or a Leave of a lock entry that a notice in its
+/// caller's inbox names, and that its caller manages.
+pub fn yours_comes()
+    ensures { YoursComes }
+{}
+
+/// A call that is heard is answered Old exactly where it is a Submit or a Leave of a lock entry that a notice in its
+/// caller's inbox names, and that its caller doesn't manage.
+pub fn old_comes()
+    ensures { OldComes }
+{}
+
 /// A call that is heard is answered Sole exactly where it is a Submit on a lock entry that its caller manages, or
-/// nobody.
+/// nobody, and no notice in its caller's inbox names.
 pub fn sole_comes()
     ensures { SoleComes }
 {}
 
-/// A call that is heard is answered Sent exactly where it is a Submit on a lock entry that another system manages.
+/// A call that is heard is answered Sent exactly where it is a Submit on a lock entry that another system manages, and no
+/// notice in its caller's inbox names.
 pub fn sent_comes()
     ensures { SentComes }
 {}
@@ -108,12 +126,13 @@ pub fn told_comes()
 {}
 
 /// A call that is heard is answered Kept exactly where it is a Leave of a lock entry that its caller manages, and
-/// others have interest as well, with the set of all that have.
+/// others have interest as well, and no notice in its caller's inbox names, with the set of all that have.
 pub fn kept_comes()
     ensures { KeptComes }
 {}
 
-/// A call that is heard is answered Left exactly where it is any other Leave.
+/// A call that is heard is answered Left exactly where it is any other Leave of an entry that no notice in its caller's
+/// inbox names.
 pub fn left_comes()
     ensures { LeftComes }
 {}
@@ -128,4 +147,25 @@ pub fn turn_refusals_are_answers()
 /// A Take that is said to find an empty inbox is answered Empty, and changes nothing.
 pub fn empty_takes_are_answers()
     ensures { TakeFindsNothing }
+{}
+
+/// Behind a removal in star mode a notice in the inbox of any other system names a lock entry where one did before, and where
+/// the removed system managed the entry and the other has interest in it.
+pub fn removal_is_noticed()
+    ensures { RemovalIsNoticed }
+{}
+
+/// Its other mail stays in front, and one mail at most is behind it.
+pub fn removal_keeps_mail()
+    ensures { RemovalKeepsMail }
+{}
+
+/// The inbox of the removed system is empty.
+pub fn removal_empties_inbox()
+    ensures { RemovalEmptiesInbox }
+{}
+
+/// The flags of rest are cleared of all systems that are live then, and of no other.
+pub fn removal_wakes()
+    ensures { RemovalWakes }
 {}

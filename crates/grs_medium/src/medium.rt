@@ -1,12 +1,12 @@
 //! The medium and its calls.
-ghost use Rattle.std.specs.Prelude.{◌≡◌, ◌<◌, ◌≤◌, ◌&&◌, ℕ, true, not, is_none, length, List as ListSpec, None, Some, IfOk, OnOk};
+ghost use Rattle.std.specs.Prelude.{◌≡◌, ◌<◌, ◌≤◌, ◌^◌, ◌&&◌, ℕ, true, false, not, is_none, length, List as ListSpec, None, Some, IfOk, OnOk};
 ghost use Rattle.grs_base.specs.Limits.{most_additions, most_systems};
 ghost use Rattle.grs_wire.specs.LockWords.{leave_changes};
 ghost use Rattle.grs_wire.specs.declared.request.Req.{Req as ReqSpec};
 ghost use Rattle.lock_structure.specs.Words.{route};
 ghost use Rattle.grs_medium.specs.Inboxes.{is_empty};
 ghost use Rattle.grs_medium.specs.Medium.{first_medium, systems_of, awake, inbox, medium_at_end, word};
-ghost use Rattle.grs_medium.specs.Apply.{is_live, turn_row, manages, joined, submit_row, switch_ring, switch_row, take_row, mail_row, leave_row, purge_row, rest_row, reply_to, medium_after, changes, row, row_changes, ActFits, MayCall};
+ghost use Rattle.grs_medium.specs.Apply.{is_live, is_noticed, notice_reply, moved_by, without_in_star, without_system as without_in_ring, turn_row, manages, joined, submit_row, switch_ring, switch_row, take_row, mail_row, leave_row, purge_row, rest_row, reply_to, medium_after, changes, row, row_changes, ActFits, MayCall};
 ghost use Rattle.grs_medium.specs.Causes.{is_heard};
 ghost use Rattle.grs_medium.specs.Changes.{TellsChanges};
 ghost use Rattle.grs_medium.specs.GoesOn.{WaitsForLive};
@@ -21,10 +21,10 @@ ghost use Rattle.rsa_message.specs.Room.{HasRoom};
 ghost use Rattle.std.specs.Option.{option_map};
 
 use crate::inboxes::Inboxes;
-use crate::sets::{all_at_rest, live_of};
+use crate::sets::{all_at_rest, live_of, woken};
 use grs_base::{List, NoMemory, SysId};
 use grs_wire::masks::{has_system, with_system, without_system};
-use grs_wire::{Act, Call, Mail, Reply, Req, RingEntry};
+use grs_wire::{Act, Call, Mail, Moved, Reply, Req, RingEntry};
 use lock_structure::{Route, Words};
 use rsa_message::Rsa;
 use std::alloc::Global;
@@ -33,6 +33,7 @@ use std::marker::Model;
 /// The shared medium. Contracts see its parts, and the room that `reserve` made.
 #[derive(Drop)]
 pub struct Medium {
+    alloc: Global,
     systems: u32,
     star: bool,
     rsa: Rsa,
@@ -44,16 +45,15 @@ pub struct Medium {
 
 impl Model for Medium {
     ghost use Rattle.std.specs.Prelude.{◌≡◌, ◌≤◌, length};
-    ghost use Rattle.std.specs.List.{All};
     ghost use Rattle.grs_base.specs.Limits.{most_systems};
-    ghost use Rattle.lock_structure.specs.Words.{ManagerIsBelow};
+    ghost use Rattle.grs_medium.specs.Medium.{AreWords};
     ghost use Rattle.grs_medium.specs.Room.{MediumValue};
 
     ghost Value = { MediumValue };
 
-    ghost view = { λ m. record { state = record { star = m.star; message = m.rsa.message; words = m.words; inboxes = m.inboxes.mail; removed = m.removed; rest = m.rest }; room = m.rsa.room; ready = m.inboxes.ready } };
+    ghost view = { λ m. record { state = record { star = m.star; message = m.rsa.message; words = m.words; inboxes = m.inboxes.mail; removed = m.removed; rest = m.rest }; room = m.rsa.room; ready = m.inboxes.ready; moved = m.inboxes.moved } };
 
-    ghost invariant = { λ m. (m.systems ≡ m.rsa.message.systems) × (m.systems ≤ most_systems) × (length m.inboxes.mail ≡ m.systems) × All (ManagerIsBelow m.systems) m.words };
+    ghost invariant = { λ m. (m.systems ≡ m.rsa.message.systems) × (m.systems ≤ most_systems) × (length m.inboxes.mail ≡ m.systems) × AreWords m.systems m.words };
 }
 
 /// What a Turn is answered that doesn't get to the message.
@@ -90,6 +90,29 @@ fn request_to(route: Route, entry: u32, from: SysId, req: Req) -> Option<(SysId,
     }
 }
 
+/// What each of so many systems gets to know by the removal of one in star mode, by number.
+#[tactic(auto, using(lock_structure::proofs::Ranges::ranges))]
+fn moved_by(
+    alloc: Global,
+    words: &Words,
+    systems: u32,
+    target: SysId,
+) -> Result<Vec<List<Moved>>, NoMemory>
+    requires target { target.0 < most_systems }
+    requires systems { systems ≤ most_systems }
+    requires entries { length words.now < 2 ^ 32 }
+    ensures { IfOk result (λ lists. lists.items ≡ moved_by words.now systems target) }
+{
+    let mut lists = Vec::new(alloc);
+    for s in 0..systems {
+        let items = words.moved_for(target, SysId(s as u8))?;
+        if lists.push(items).is_err() {
+            return Err(NoMemory);
+        }
+    }
+    Ok(lists)
+}
+
 impl Medium {
     /// The medium at the start, of so many systems (1 to 8) and lock entries, in ring mode or in star mode.
     pub fn new(alloc: Global, systems: u32, entries: u32, star: bool) -> Result<Medium, NoMemory>
@@ -101,6 +124,7 @@ impl Medium {
         let words = Words::new(alloc, entries)?;
         let inboxes = Inboxes::new(alloc, systems)?;
         Ok(Medium {
+            alloc,
             systems,
             star,
             rsa: Rsa::new(alloc, systems, star),
@@ -168,13 +192,18 @@ impl Medium {
         (system.0 as u32) < self.systems && !has_system(self.removed, system)
     }
 
-    /// Makes room in the message for the entry that tells of a removal, where there is one.
+    /// Makes room for a removal, where there is one: in ring mode in the message, for the entry that tells of it, and in
+    /// star mode in the inboxes, with the lists that the notices have.
     fn reserve_removal(&mut self, target: SysId) -> Result<(), NoMemory>
         ensures state { self.new.state ≡ self.old.state }
         ensures room { OnOk result (HasRoomToPurge self.new target) }
     {
-        if self.star || !self.is_live(target) {
-            Ok(())
+        if !self.is_live(target) {
+            return Ok(());
+        }
+        if self.star {
+            let moved = moved_by(self.alloc, &self.words, self.systems, target)?;
+            self.inboxes.reserve_moved(moved)
         } else {
             self.rsa.reserve_places(1)
         }
@@ -422,6 +451,26 @@ impl Medium {
         }
     }
 
+    /// Whether a notice in the caller's inbox names an entry.
+    fn is_noticed(&self, caller: SysId, entry: u32) -> bool
+        requires { caller.0 < systems_of self.now.state }
+        ensures { result ≡ is_noticed self.now.state caller entry }
+    {
+        self.inboxes.has_notice(caller, entry)
+    }
+
+    /// What a Submit or a Leave of an entry is answered that such a notice names.
+    fn notice_reply(&self, caller: SysId, entry: u32) -> Reply
+        requires { entry < length self.now.state.words }
+        ensures { result ≡ notice_reply self.now.state caller entry }
+    {
+        if self.words.is_managed_by(entry, caller) {
+            Reply::Yours
+        } else {
+            Reply::Old
+        }
+    }
+
     /// A Submit.
     #[tactic(auto, unfolding(crate::specs::Apply::submit_row))]
     fn submit(&mut self, caller: SysId, entry: u32, req: Req) -> Reply
@@ -432,6 +481,9 @@ impl Medium {
         ensures state { self.new.state ≡ (submit_row self.old.state caller entry req).1 }
         ensures systems { systems_of self.new.state ≡ systems_of self.old.state }
     {
+        if self.is_noticed(caller, entry) {
+            return self.notice_reply(caller, entry);
+        }
         let route = self.join(caller, entry);
         match request_to(route, entry, caller, req) {
             Some((manager, mail)) => {
@@ -480,11 +532,43 @@ impl Medium {
         ensures state { self.new.state ≡ (leave_row self.old.state caller entry).1 }
         ensures systems { systems_of self.new.state ≡ systems_of self.old.state }
     {
+        if self.is_noticed(caller, entry) {
+            return self.notice_reply(caller, entry);
+        }
         if !self.words.leave_changes(entry, caller) {
             return self.words.leave_reply(entry, caller);
         }
         self.wake(caller);
         self.words.leave(entry, caller)
+    }
+
+    /// A Purge of a live system in star mode: it leaves the lock words and the message, its inbox is emptied, and each of the
+    /// others gets a notice of the entries that it managed. All live flags of rest are cleared.
+    fn purge_in_star(&mut self, target: SysId)
+        requires live { is_live self.old.state target ≡ true }
+        requires room { self.old.moved ≡ moved_by self.old.state.words (systems_of self.old.state) target }
+        ensures state { self.new.state ≡ without_in_star self.old.state target }
+        ensures systems { systems_of self.new.state ≡ systems_of self.old.state }
+    {
+        self.removed = with_system(self.removed, target);
+        self.rest = woken(self.systems, self.removed, self.rest);
+        self.rsa.depart(target);
+        self.words.purge(target);
+        self.inboxes.post(target);
+    }
+
+    /// A Purge of a live system in ring mode: an entry of the message tells of it.
+    fn purge_in_ring(&mut self, caller: SysId, target: SysId)
+        requires caller { caller.0 < systems_of self.old.state }
+        requires live { is_live self.old.state target ≡ true }
+        requires room { HasPlaces self.old.room 1 }
+        ensures state { self.new.state ≡ without_in_ring self.old.state caller target }
+        ensures systems { systems_of self.new.state ≡ systems_of self.old.state }
+    {
+        self.removed = with_system(self.removed, target);
+        self.rest = without_system(self.rest, caller);
+        let live = live_of(self.systems, self.removed);
+        self.rsa.drop_system(caller, target, live);
     }
 
     /// A Purge.
@@ -496,16 +580,14 @@ impl Medium {
         ensures state { self.new.state ≡ (purge_row self.old.state caller target).1 }
         ensures systems { systems_of self.new.state ≡ systems_of self.old.state }
     {
-        if self.star {
-            return Reply::InStar;
-        }
         if !self.is_live(target) {
             return Reply::NoSuch;
         }
-        self.removed = with_system(self.removed, target);
-        self.rest = without_system(self.rest, caller);
-        let live = live_of(self.systems, self.removed);
-        self.rsa.drop_system(caller, target, live);
+        if self.star {
+            self.purge_in_star(target);
+            return Reply::Purged;
+        }
+        self.purge_in_ring(caller, target);
         Reply::Purged
     }
 
@@ -571,8 +653,9 @@ impl Medium {
     /// Removed comes exactly where the caller was removed; else Stale exactly where the caller doesn't know of all
     /// removed systems. A Turn is answered NotYours exactly where the message isn't at the caller. A Switch is
     /// answered Already exactly in star mode, and else Behind exactly where the caller has yet to process an entry. A
-    /// Purge is answered InStar exactly in star mode, and else NoSuch exactly where the target was removed or is no
-    /// system.
+    /// Purge is answered NoSuch exactly where the target was removed or is no system, and else Purged. A Submit or a Leave
+    /// of a lock entry that a notice in the caller's inbox names is answered Yours exactly where the caller manages it, and
+    /// else Old.
     /// A Rest is answered Over exactly where all that aren't removed are then at rest and nothing is left to do.
     /// A Take is answered Empty exactly where the caller's inbox is empty, and a Leave Kept exactly where the caller
     /// manages the lock entry and others have interest in it as well.
@@ -605,9 +688,6 @@ impl Medium {
         ensures reply { result.0 ≡ (purge_row self.now.state caller target).0 }
         ensures changes { result.1 ≡ row_changes self.now.state caller (Act.Purge target) }
     {
-        if self.star {
-            return (Reply::InStar, false);
-        }
         if !self.is_live(target) {
             return (Reply::NoSuch, false);
         }
@@ -633,10 +713,14 @@ impl Medium {
     /// What a Submit would be answered.
     #[tactic(auto, unfolding(crate::specs::Apply::submit_row))]
     fn preview_submit(&self, caller: SysId, entry: u32) -> (Reply, bool)
-        requires { entry < length self.now.state.words }
+        requires caller { caller.0 < systems_of self.now.state }
+        requires entry { entry < length self.now.state.words }
         ensures reply { (req : ReqSpec) → result.0 ≡ (submit_row self.now.state caller entry req).0 }
-        ensures changes { result.1 ≡ not (manages self.now.state caller entry) }
+        ensures changes { result.1 ≡ (not (is_noticed self.now.state caller entry) && not (manages self.now.state caller entry)) }
     {
+        if self.is_noticed(caller, entry) {
+            return (self.notice_reply(caller, entry), false);
+        }
         let reply = match self.words.route(entry, caller) {
             Route::Sole => Reply::Sole,
             Route::To(_) => Reply::Sent,
@@ -663,8 +747,11 @@ impl Medium {
         requires caller { caller.0 < systems_of self.now.state }
         requires entry { entry < length self.now.state.words }
         ensures reply { result.0 ≡ (leave_row self.now.state caller entry).0 }
-        ensures changes { result.1 ≡ leave_changes (word self.now.state entry) caller }
+        ensures changes { result.1 ≡ (not (is_noticed self.now.state caller entry) && leave_changes (word self.now.state entry) caller) }
     {
+        if self.is_noticed(caller, entry) {
+            return (self.notice_reply(caller, entry), false);
+        }
         (
             self.words.leave_reply(entry, caller),
             self.words.leave_changes(entry, caller),

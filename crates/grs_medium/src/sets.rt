@@ -1,10 +1,10 @@
 //! What is asked of all systems that aren't removed.
 ghost use Rattle.std.specs.Prelude.{◌≡◌, ◌<◌, ◌≤◌, ◌||◌};
 ghost use Rattle.grs_base.specs.Limits.{most_systems};
-ghost use Rattle.grs_wire.specs.Masks.{has, others, all_others};
+ghost use Rattle.grs_wire.specs.Masks.{has, others, without_others, all_others};
 
 use grs_base::SysId;
-use grs_wire::masks::{has_system, with_system};
+use grs_wire::masks::{has_system, with_system, without_system};
 
 /// The systems that aren't removed.
 pub fn live_of(systems: u32, removed: u32) -> u32
@@ -19,6 +19,21 @@ pub fn live_of(systems: u32, removed: u32) -> u32
         }
     }
     live
+}
+
+/// The flags of rest with those of all systems cleared that aren't removed.
+pub fn woken(systems: u32, removed: u32, rest: u32) -> u32
+    requires { systems ≤ most_systems }
+    ensures { result ≡ without_others systems removed rest }
+{
+    let mut flags = rest;
+    for s in 0..systems {
+        let system = SysId(s as u8);
+        if !has_system(removed, system) {
+            flags = without_system(flags, system);
+        }
+    }
+    flags
 }
 
 /// Whether the system is removed or at rest.

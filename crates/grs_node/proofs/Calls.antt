@@ -5,7 +5,8 @@ use Rattle.std.specs.Prelude.{◌&&◌, ◌≢◌, All, not, ◌<◌, slice_set,
 use Rattle.std.proofs.lemmas.Bool.{and_parts, true≢false}
 use Rattle.std.proofs.lemmas.List.{length-set}
 use Rattle.std.proofs.lemmas.List.Elements.{All-tail}
-use Rattle.contention_mgr.specs.Manager.{Managed, no_elements, entry_wanted, kept_at, kept_for}
+use Rattle.contention_mgr.specs.Manager.{Managed, ManagerView, no_elements, entry_wanted, kept_at, kept_for, managed_at}
+use Rattle.contention_mgr.specs.Manager.{with_entry}
 use Rattle.std.specs.Option.{option_map}
 use Rattle.grs_base.specs.declared.resource.SysId.{SysId}
 use Rattle.grs_base.specs.declared.resource.TaskId.{TaskId}
@@ -13,75 +14,36 @@ use Rattle.grs_node.specs.Finish.{may_come}
 use Rattle.grs_wire.specs.Replies.{is_listed}
 use Rattle.grs_node.specs.Node.{NodeState, prepare, star_call, star_need, prepared_by, may_send, desk_of, desk_count}
 use Rattle.grs_node.specs.Node.{next_order, switch_call, purge_call, turn_call, may_go, is_pending}
-use Rattle.grs_node.specs.Star.{StarPart, send_of, send_to, leave_by, may_leave, manages, entry_for, entry_asked}
-use Rattle.grs_node.specs.Star.{manages_asked, manages_if_asked, was_prepared, begun, first_held, serves, answer_for}
-use Rattle.grs_node.specs.Star.{rank_of, settle_by, to_tell, tell_by}
+use Rattle.grs_node.specs.Names.{names_of}
+use Rattle.grs_node.specs.Star.{StarPart, send_of, send_to, leave_by, may_leave, gathers, entry_for, entry_asked}
+use Rattle.grs_node.specs.Star.{gathers_asked, manages_if_asked, was_prepared, managing, begun, first_held}
+use Rattle.grs_node.specs.Star.{settle_by, to_tell, tell_by, part_by, owed_to}
 use Rattle.grs_node.specs.declared.prepared.Prepared.TheVariants.{Quiet, Call, Nothing}
 use Rattle.grs_base.specs.Limits.{most_commands, most_additions}
 use Rattle.grs_base.specs.declared.resource.Res.{Res}
 use Rattle.grs_node.specs.declared.star.Need.{Need}
-use Rattle.grs_node.specs.declared.star.Need.TheVariants.{Alone, Asks, Idle}
+use Rattle.grs_node.specs.declared.star.Need.TheVariants.{Asks, Idle}
 use Rattle.grs_wire.specs.Decks.{IsOrderOf}
+use Rattle.grs_wire.specs.Masks.{has}
 use Rattle.grs_wire.specs.declared.deck.Choice.{Choice}
-use Rattle.grs_wire.specs.declared.deck.Choice.TheVariants as choices
 use Rattle.grs_wire.specs.declared.deck.Deck.{Deck}
 use Rattle.grs_wire.specs.declared.deck.Desk.{Desk}
 use Rattle.grs_wire.specs.declared.deck.Order.{Order}
-use Rattle.grs_wire.specs.declared.deck.Order.TheVariants as orders
 use Rattle.grs_wire.specs.declared.medium.Act.{Act}
+use Rattle.grs_wire.specs.declared.medium.Reply.{Reply}
+use Rattle.grs_wire.specs.declared.request.Req.{Req}
+use Rattle.system_purge.specs.Gather.{part_of}
+use Rattle.task_state.specs.View.{TasksView, is_task, state_of}
+use Rattle.task_state.specs.declared.state.Asked.{Asked}
+use Rattle.grs_wire.specs.declared.deck.Choice.TheVariants as choices
+use Rattle.grs_wire.specs.declared.deck.Order.TheVariants as orders
 use Rattle.grs_wire.specs.declared.medium.Act.TheVariants as acts
 use Rattle.grs_wire.specs.declared.medium.Mail.TheVariants as mails
-use Rattle.grs_wire.specs.declared.medium.Reply.{Reply}
 use Rattle.grs_wire.specs.declared.medium.Reply.TheVariants as replies
-use Rattle.grs_wire.specs.declared.request.Req.{Req}
-use Rattle.task_state.specs.View.{is_task, state_of}
-use Rattle.task_state.specs.declared.state.Asked.{Asked}
 
 pub own-sender : (deck : Deck) (n : NodeState) (t : TaskId) → may_send deck n t ≡ true → is_task n.tasks t ≡ true
 unfolding may_send
 own-sender deck n t h = (and_parts (is_task n.tasks t) _ h).0
-
--- ---- a Send that is done without a call
-quiet-need : (deck : Deck) (n : NodeState) (t : TaskId) (o : Option StarPart)
-    → star_call deck n o (choices.Send t) ≡ Quiet
-    → (is_task n.tasks t ≡ true) × IfSome o (λ p. manages_if_asked p (state_of n.tasks t).outstanding ≡ true)
-unfolding star_call
-quiet-need deck n t None h = cc
-quiet-need deck n t (Some p) h = go (may_send deck n t) refl h
-  where
-    decides : (x : Option Asked) → prepared_by n.known (send_of p t x) ≡ Quiet → manages_if_asked p x ≡ true
-    decides None k = refl
-    decides (Some a) k = at (entry_for p a.req.want) refl k
-      where
-        at : (e : Option ℕ) → entry_for p a.req.want ≡ e
-            → prepared_by n.known (send_to p (record { task = t; want = a.req.want }) e) ≡ Quiet
-            → is_some (kept_for p.manager.entries (entry_for p a.req.want)) ≡ true
-        at None is k = cc
-        at (Some e) is k =
-            ap (λ (x : Option ℕ). is_some (kept_for p.manager.entries x)) is ∙ manages-one (manages p e) k
-          where
-            manages-one : (b : Bool)
-                → prepared_by n.known (cond b Alone (Asks (acts.Submit e (record { task = t; want = a.req.want }))))
-                ≡ Quiet
-                → b ≡ true
-            manages-one true k = refl
-            manages-one false k = cc
-
-    go : (b : Bool) → may_send deck n t ≡ b
-        → prepared_by n.known (cond b (send_of p t (state_of n.tasks t).outstanding) Idle) ≡ Quiet
-        → (is_task n.tasks t ≡ true) × (manages_if_asked p (state_of n.tasks t).outstanding ≡ true)
-    go true is k = (own-sender deck n t is, decides (state_of n.tasks t).outstanding k)
-    go false is k = cc
-
-pub quiet-send : (deck : Deck) (n : NodeState) (t : TaskId) → prepare deck n (choices.Send t) ≡ Quiet
-    → is_task n.tasks t ≡ true
-unfolding prepare
-quiet-send deck n t h = (quiet-need deck n t n.star h).0
-
-pub quiet-decides : (deck : Deck) (n : NodeState) (t : TaskId) → prepare deck n (choices.Send t) ≡ Quiet
-    → IfSome n.star (λ p. manages_if_asked p (state_of n.tasks t).outstanding ≡ true)
-unfolding prepare
-quiet-decides deck n t h = (quiet-need deck n t n.star h).1
 
 -- ---- a choice whose call may come to a reply
 sent-need : (deck : Deck) (n : NodeState) (t : TaskId) (p : StarPart) (reply : Reply)
@@ -90,31 +52,31 @@ sent-need : (deck : Deck) (n : NodeState) (t : TaskId) (p : StarPart) (reply : R
 sent-need deck n t p reply h = go (may_send deck n t) refl h
   where
     free : (x : Option Asked) → may_come (prepared_by n.known (send_of p t x)) reply ≡ true
-        → manages_asked p (entry_asked p x) ≡ false
+        → gathers_asked p (entry_asked p x) ≡ false
     free None k = refl
     free (Some a) k = at (entry_for p a.req.want) refl k
       where
         at : (e : Option ℕ) → entry_for p a.req.want ≡ e
             → may_come (prepared_by n.known (send_to p (record { task = t; want = a.req.want }) e)) reply ≡ true
-            → manages_asked p (entry_for p a.req.want) ≡ false
-        at None is k = ap (manages_asked p) is
-        at (Some e) is k = ap (manages_asked p) is ∙ manages-one (manages p e) k
+            → gathers_asked p (entry_for p a.req.want) ≡ false
+        at None is k = ap (gathers_asked p) is
+        at (Some e) is k = ap (gathers_asked p) is ∙ gathers-one (gathers p e) k
           where
-            manages-one : (b : Bool)
+            gathers-one : (b : Bool)
                 → may_come (prepared_by n.known
-                (cond b Alone (Asks (acts.Submit e (record { task = t; want = a.req.want })))))
+                (cond b Idle (Asks (acts.Submit e (record { task = t; want = a.req.want })))))
                 reply
                 ≡ true
                 → b ≡ false
-            manages-one true k = cc
-            manages-one false k = refl
+            gathers-one true k = cc
+            gathers-one false k = refl
 
     both : (a b : Bool) → a ≡ true → b ≡ false → (a && not b) ≡ true
     both a b e f = rw (e, f) refl
 
     go : (b : Bool) → may_send deck n t ≡ b
         → may_come (prepared_by n.known (cond b (send_of p t (state_of n.tasks t).outstanding) Idle)) reply ≡ true
-        → (is_task n.tasks t && not (manages_asked p (entry_asked p (state_of n.tasks t).outstanding))) ≡ true
+        → (is_task n.tasks t && not (gathers_asked p (entry_asked p (state_of n.tasks t).outstanding))) ≡ true
     go true is k = both _ _ (own-sender deck n t is) (free (state_of n.tasks t).outstanding k)
     go false is k = cc
 
@@ -182,28 +144,34 @@ send-other p t None = refl
 send-other p t (Some a) = at (entry_for p a.req.want)
   where
     one : (e : ℕ) (b : Bool)
-        → needs_command (cond b Alone (Asks (acts.Submit e (record { task = t; want = a.req.want })))) ≡ false
+        → needs_command (cond b Idle (Asks (acts.Submit e (record { task = t; want = a.req.want })))) ≡ false
     one e true = refl
     one e false = refl
 
     at : (o : Option ℕ) → needs_command (send_to p (record { task = t; want = a.req.want }) o) ≡ false
     at None = refl
-    at (Some e) = one e (manages p e)
+    at (Some e) = one e (gathers p e)
 
 settle-other : (p : StarPart) (o : Option Req) → needs_command (settle_by p o) ≡ false
 settle-other p None = refl
-settle-other p (Some q) = go (serves p q)
-  where
-    go : (b : Bool)
-        → needs_command
-        (cond b (Asks (acts.Settle q.task.system (mails.Answered q.task (answer_for p q) (rank_of p q)))) Idle)
-        ≡ false
-    go true = refl
-    go false = refl
+settle-other p (Some q) = refl
 
 tell-other : (o : Option (TaskId × Res)) → needs_command (tell_by o) ≡ false
 tell-other None = refl
 tell-other (Some x) = refl
+
+part-other : (names : List TaskId) (known : ℕ) (p : StarPart) (v : TasksView) (e : ℕ) (o : Option SysId)
+    → needs_command (part_by names known p v e o) ≡ false
+part-other names known p v e None = refl
+part-other names known p v e (Some to) = go (has known to.0)
+  where
+    go : (b : Bool)
+        → needs_command
+        (cond b Idle
+        (Asks (acts.Tell to (mails.Part e p.manager.system (part_of (length p.manager.entries) e names v)))))
+        ≡ false
+    go true = refl
+    go false = refl
 
 need-other : (deck : Deck) (n : NodeState) (p : StarPart) (choice : Choice)
     → needs_command (star_need deck n p choice) ≡ false
@@ -220,7 +188,7 @@ need-other deck n p (choices.Leave e) = go (may_leave p n.tasks e)
     go : (b : Bool) → needs_command (cond b (Asks (acts.Leave e)) Idle) ≡ false
     go true = refl
     go false = refl
-need-other deck n p (choices.Part e) = refl
+need-other deck n p (choices.Part e) = part-other (names_of deck n.tasks.system) n.known p n.tasks e (owed_to p e)
 need-other deck n p (choices.Task t) = refl
 need-other deck n p choices.Turn = refl
 need-other deck n p choices.Switch = refl
@@ -264,7 +232,6 @@ of-in_star act h = (of-desk act h).4
 -- such a reply comes only where the desk has a command that isn't done
 module _ (deck : Deck) (n : NodeState) (reply : Reply) (only : OfDesk reply) where
   need-none : (need : Need) → needs_command need ≡ false → may_come (prepared_by n.known need) reply ≡ true → ⊥
-  need-none Alone h k = cc
   need-none (Asks act) h k = absurd (true≢false (sym k ∙ only act h))
   need-none Idle h k = cc
 
@@ -373,8 +340,6 @@ pub ruleset senders = (own-sender)
 
 pub ruleset came = (came-called)
 
-pub ruleset quiet_sends = (quiet-send, quiet-decides)
-
 -- ---- an entry that is managed from now on
 kept-set : (es : List (Option Managed)) (e : ℕ) (m : Managed) → e < length es
     → kept_at (slice_set es e (Some m)) e ≡ Some m
@@ -382,14 +347,30 @@ kept-set [] e m h = absurd (omega (arith, h))
 kept-set (o ∷ es) zero m h = refl
 kept-set (o ∷ es) (suc e) m h = kept-set es e m (omega (arith, h))
 
+-- there are as many entries
+pub managing-length : (m : ManagerView) (e : ℕ) → length (managing m e).entries ≡ length m.entries
+managing-length m e = go (is_some (managed_at m e))
+  where
+    go : (b : Bool) → length (cond b m (with_entry m (Some e) (Some no_elements))).entries ≡ length m.entries
+    go true = refl
+    go false = length-set m.entries e (Some no_elements)
+
+-- and it is managed
+managing-this : (m : ManagerView) (e : ℕ) → e < length m.entries → is_some (managed_at (managing m e) e) ≡ true
+managing-this m e h = go (is_some (managed_at m e)) refl
+  where
+    go : (b : Bool) → is_some (managed_at m e) ≡ b
+        → is_some (managed_at (cond b m (with_entry m (Some e) (Some no_elements))) e) ≡ true
+    go true is = is
+    go false is = ap (λ (o : Option Managed). is_some o) (kept-set m.entries e no_elements h)
+
 -- serves the request that is of it
 pub decides-begun : (p : StarPart) (x : Option Asked) (e : ℕ) → entry_asked p x ≡ Some e → e < length p.manager.entries
     → manages_if_asked (begun p e) x ≡ true
 decides-begun p None e is h = refl
 decides-begun p (Some a) e is h =
-    let at : entry_wanted (length (slice_set p.manager.entries e (Some no_elements))) a.req.want ≡ Some e =
-    ap (λ (n : ℕ). entry_wanted n a.req.want) (length-set p.manager.entries e (Some no_elements)) ∙ is in
-    ap (λ (o : Option ℕ). is_some (kept_for (slice_set p.manager.entries e (Some no_elements)) o)) at
-    ∙ ap (λ (o : Option Managed). is_some o) (kept-set p.manager.entries e no_elements h)
+    let at : entry_wanted (length (managing p.manager e).entries) a.req.want ≡ Some e =
+    ap (λ (n : ℕ). entry_wanted n a.req.want) (managing-length p.manager e) ∙ is in
+    ap (λ (o : Option ℕ). is_some (kept_for (managing p.manager e).entries o)) at ∙ managing-this p.manager e h
 
 pub ruleset begins = (decides-begun)

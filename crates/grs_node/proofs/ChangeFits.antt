@@ -1,7 +1,7 @@
 -- What a system comes to in star mode by its table fits the deck, where the table does.
 use Rattle.std.proofs.Common.{◌≡◌, ◌<◌, ◌≤◌, ◌+◌, ℕ, zero, suc, Bool, true, false, cond, ◌&&◌, List, [], ◌∷◌, ◌++◌}
 use Rattle.std.proofs.Common.{length, map, replicate, Option, Some, None, refl, ◌∙◌, subst, arith}
-use Rattle.std.specs.Prelude.{◌==◌, slice_get}
+use Rattle.std.specs.Prelude.{◌==◌, slice_get, IfSome}
 use Rattle.std.specs.List.{list_all, range_with_len}
 use Rattle.std.proofs.lemmas.Bool.{and_parts}
 use Rattle.std.proofs.lemmas.Bool.Decides.{nat_tests}
@@ -17,15 +17,16 @@ use Rattle.grs_base.specs.declared.resource.Elem.{Elem}
 use Rattle.grs_base.specs.declared.resource.Res.{Res}
 use Rattle.grs_base.specs.declared.resource.SysId.{SysId}
 use Rattle.grs_base.specs.declared.resource.TaskId.{TaskId}
+use Rattle.grs_node.proofs.RemovalFits.{none-gathering, none-orderly}
 use Rattle.grs_node.specs.Addressed.{is_within, is_addressed, PartFits}
 use Rattle.grs_node.specs.Change.{entry_by_table, part_by_table, with_rank_by, with_list_ranks, with_ranks}
 use Rattle.grs_node.specs.Change.{with_first_look, one_by_one}
 use Rattle.grs_node.specs.Node.{NodeState, desk_count, words_by, switch_call, change_to_star}
+use Rattle.grs_node.specs.Removal.{IsOrderly}
 use Rattle.grs_node.specs.Star.{StarPart}
 use Rattle.grs_wire.specs.Decks.{IsWithin, IsBounded}
 use Rattle.grs_wire.specs.declared.deck.Deck.{Deck}
 use Rattle.grs_wire.specs.declared.deck.Order.{Order}
-use Rattle.grs_wire.specs.declared.deck.Order.TheVariants as orders
 use Rattle.grs_wire.specs.declared.deck.SystemDef.{SystemDef}
 use Rattle.grs_wire.specs.declared.request.Req.{Req}
 use Rattle.grs_wire.specs.declared.request.Want.{Want}
@@ -36,6 +37,7 @@ use Rattle.mode_migrate.specs.Migrate.{managed_by_table, part_by, interest_by_ta
 use Rattle.mode_migrate.proofs.PartLaws.{all-part, all-list}
 use Rattle.mode_migrate.proofs.WordLaws.{own_words_fit}
 use Rattle.task_state.specs.View.{TasksView, is_task, with_state, with_rank, with_outstanding}
+use Rattle.grs_wire.specs.declared.deck.Order.TheVariants as orders
 
 both : (a b : Bool) → a ≡ true → b ≡ true → (a && b) ≡ true
 both true true e f = refl
@@ -89,6 +91,11 @@ part-fits deck s t some within = record {
   interest = length-map-range_with_len (interest_by_table deck.entries s t) 0 deck.entries;
   elements = table-elements (is_within deck) deck.entries s t within 0 deck.entries;
   held = refl;
+  gathering = none-gathering deck;
+  orderly =
+      none-orderly (part_by_table deck.entries s t).manager deck.entries (replicate deck.entries None)
+      (part_by_table deck.entries s t).interest
+      (length-map-range_with_len (entry_by_table deck.entries s t) 0 deck.entries);
 }
 
 -- ---- the desk
@@ -139,6 +146,19 @@ pub star-changed : (deck : Deck) (n : NodeState)
     → (change_to_star deck n).star ≡ Some (part_by_table deck.entries (record { 0 = n.tasks.system }) n.shared)
 unfolding change_to_star
 star-changed deck n = refl
+
+-- it knows as many systems to be removed, and gathers nothing
+pub known-changed : (deck : Deck) (n : NodeState) → (change_to_star deck n).known ≡ n.known
+unfolding change_to_star
+known-changed deck n = refl
+
+pub orderly-changed : (deck : Deck) (n : NodeState) → IfSome (change_to_star deck n).star IsOrderly
+unfolding change_to_star
+orderly-changed deck n =
+    let p = part_by_table deck.entries (record { 0 = n.tasks.system }) n.shared in
+    none-orderly p.manager deck.entries (replicate deck.entries None) p.interest
+    (length-map-range_with_len
+    (entry_by_table deck.entries (record { 0 = n.tasks.system }) n.shared) 0 deck.entries)
 
 -- ---- the words that a system asks for
 no-words-fit : (n k : ℕ) → list_all (word_fits n) (replicate k 0) ≡ true

@@ -12,33 +12,34 @@ use Rattle.grs_base.specs.declared.resource.Res.TheVariants.{Systems}
 use Rattle.grs_base.specs.declared.resource.Ret.TheVariants.{RetNone}
 use Rattle.grs_base.specs.declared.resource.SysId.{SysId}
 use Rattle.grs_base.specs.declared.resource.TaskId.{TaskId}
-use Rattle.grs_base.specs.declared.rnl.Which.TheVariants as which
 use Rattle.grs_node.specs.Addressed.{is_addressed}
 use Rattle.grs_node.specs.Change.{one_by_one}
 use Rattle.grs_wire.specs.Replies.{is_listed}
 use Rattle.grs_node.specs.Node.{NodeState, only, prepare, change_to_star, turned, put_in, all_sent, read_entries}
-use Rattle.grs_node.specs.Node.{switched, desk_told, finish_call, finish_star}
+use Rattle.grs_node.specs.Node.{switched, desk_told, finish_call, finish_star, losing}
+use Rattle.grs_node.specs.Removal.{lose_each, members_below, take_up_below}
 use Rattle.grs_node.specs.Star.{StarPart}
 use Rattle.grs_node.specs.declared.prepared.Prepared.TheVariants.{Call, Nothing}
 use Rattle.grs_wire.specs.LockWords.{lock_word, manager}
 use Rattle.grs_wire.specs.Masks.{has, with_also}
-use Rattle.grs_wire.specs.declared.deck.Choice.TheVariants as choices
 use Rattle.grs_wire.specs.declared.deck.Deck.{Deck}
 use Rattle.grs_wire.specs.declared.deck.Order.{Order}
-use Rattle.grs_wire.specs.declared.deck.Order.TheVariants as orders
-use Rattle.grs_wire.specs.declared.medium.Act.TheVariants as acts
-use Rattle.grs_wire.specs.declared.medium.Reply.TheVariants as replies
 use Rattle.grs_wire.specs.declared.request.Req.{Req}
 use Rattle.grs_wire.specs.declared.request.Want.{Want}
 use Rattle.grs_wire.specs.declared.request.Want.TheVariants.{Enq, Look}
-use Rattle.grs_wire.specs.declared.told.Verb.TheVariants as verbs
-use Rattle.grs_wire.specs.declared.told.Said.TheVariants as saids
 use Rattle.grs_wire.specs.declared.told.ToldLine.{ToldLine}
-use Rattle.grs_wire.specs.declared.told.ToldLine.TheVariants as told
 use Rattle.task_state.specs.View.{TasksView, state_of, with_state, with_outstanding, with_rank, telling}
-use Rattle.task_state.specs.declared.state.Phase.TheVariants as phases
 use Rattle.task_state.specs.declared.state.Rec.{Rec}
 use Rattle.task_state.specs.declared.state.TaskState.{TaskState}
+use Rattle.grs_base.specs.declared.rnl.Which.TheVariants as which
+use Rattle.grs_wire.specs.declared.deck.Choice.TheVariants as choices
+use Rattle.grs_wire.specs.declared.deck.Order.TheVariants as orders
+use Rattle.grs_wire.specs.declared.medium.Act.TheVariants as acts
+use Rattle.grs_wire.specs.declared.medium.Reply.TheVariants as replies
+use Rattle.grs_wire.specs.declared.told.Verb.TheVariants as verbs
+use Rattle.grs_wire.specs.declared.told.Said.TheVariants as saids
+use Rattle.grs_wire.specs.declared.told.ToldLine.TheVariants as told
+use Rattle.task_state.specs.declared.state.Phase.TheVariants as phases
 
 abbrev task : ℕ → ℕ → TaskId
 task s n = record { system = record { 0 = s }; job = 0; task = n }
@@ -130,7 +131,13 @@ lists = record {
 }
 
 abbrev part : SysId → Option Managed → StarPart
-part s o = record { manager = record { system = s; entries = o ∷ [] }; held = []; interest = true ∷ [] }
+part s o = record {
+  manager = record { system = s; entries = o ∷ [] };
+  gathers = None ∷ [];
+  owes = None ∷ [];
+  held = [];
+  interest = true ∷ [];
+}
 
 abbrev after : List ToldLine → ℕ → NodeState
 after lines done = record {
@@ -220,7 +227,8 @@ removal_first = refl
 -- ---- what comes of it
 done : finish_call (deck (orders.Star ∷ [])) (before enq) choices.Switch replies.Switched
     ≡ only (after (told.Desk 1 saids.StarDone ∷ []) 1)
-unfolding finish_call switched desk_told telling change_to_star with_rank with_state state_of
+unfolding finish_call switched desk_told telling change_to_star with_rank with_state state_of has losing lose_each
+    members_below take_up_below
 done = refl
 
 -- the complex was in star mode: the system changes at its next Turn
@@ -242,7 +250,8 @@ changed_before = refl
 
 -- ---- a Turn at the message
 closed : turned (deck []) (before enq) [] 0 true ≡ only (after [] 0)
-unfolding turned put_in all_sent read_entries change_to_star with_rank with_state state_of
+unfolding turned put_in all_sent read_entries change_to_star with_rank with_state state_of has losing lose_each
+    members_below take_up_below
 closed = refl
 
 open_message : turned (deck []) (before enq) [] 0 false ≡ only (before enq)

@@ -14,12 +14,17 @@ set-past (c ∷ bs) (suc e) b h = ap (λ (xs : List Bool). c ∷ xs) (set-past b
 
 pub ruleset flags = (flag-past, set-past)
 
--- two conditions may be looked at in either order
-pub last-first : (a b c : Bool) → (a && (b && c)) ≡ (a && (c && b))
-last-first false b c = refl
-last-first true false false = refl
-last-first true false true = refl
-last-first true true false = refl
-last-first true true true = refl
+-- a condition may be looked at last
+pub looked-last : (a b c d : Bool) → (a && (b && (c && d))) ≡ (a && (c && (d && b)))
+looked-last false b c d = refl
+looked-last true b false d = go b
+  where
+    go : (x : Bool) → (x && false) ≡ false
+    go true = refl
+    go false = refl
+looked-last true false true false = refl
+looked-last true false true true = refl
+looked-last true true true false = refl
+looked-last true true true true = refl
 
-pub ruleset leaves = (last-first)
+pub ruleset leaves = (looked-last)

@@ -7,7 +7,12 @@ pub mod Flags
 pub mod Calls
 pub mod Keeping
 pub mod Tables
+pub mod SentAgain
+pub mod RemovalStays
+pub mod RemovalFits
+pub mod RemovalSteps
 pub mod ChangeFits
+pub mod Owed
 pub mod Loading
 pub mod Settled
 pub mod Decided
@@ -18,3 +23,4 @@ pub mod StarSamples
 pub mod TableParts
 pub mod ChangeSamples
 pub mod ShowSamples
+pub mod RemovalSamples

@@ -205,6 +205,8 @@ pub by-roles-table : (entries : ℕ) (s : SysId) (t : State)
 by-roles-table entries s t =
     ap (λ (es : List (Option Managed)). record {
       manager = record { system = s; entries = es };
+      gathers = replicate entries None;
+      owes = replicate entries None;
       held = [];
       interest = map (is_among (interested_by entries s t)) (range_with_len 0 entries);
     })
@@ -212,6 +214,8 @@ by-roles-table entries s t =
     entries kept)
     ∙ ap (λ (flags : List Bool). record {
       manager = record { system = s; entries = map (entry_by_table entries s t) (range_with_len 0 entries) };
+      gathers = replicate entries None;
+      owes = replicate entries None;
       held = [];
       interest = flags;
     })

@@ -10,7 +10,7 @@ use Rattle.grs_wire.specs.declared.deck.Choice.TheVariants as choices
 use Rattle.grs_wire.specs.declared.deck.Deck.{Deck}
 use Rattle.grs_wire.specs.declared.medium.RingBody.{RingBody}
 use Rattle.grs_wire.specs.declared.request.Want.TheVariants.{Enq}
-use Rattle.grs_node.specs.Node.{NodeState, Step, finish_call, only, read_entry}
+use Rattle.grs_node.specs.Node.{NodeState, Step, finish_call, losing, only, read_entry, stale}
 use Rattle.ring_mode.specs.Ring.{answer_own, process, process_entry}
 use Rattle.task_state.specs.Replies.{tell_all, tell_new}
 use Rattle.system_purge.specs.Purge.{tell_freed}
@@ -41,8 +41,8 @@ silent : may_come Quiet replies.Removed ≡ false
 silent = refl
 
 -- a Rest of a system that knows nothing of a removal
-stale : may_come (Call (record { known = 0; act = acts.Rest })) (replies.Stale 2) ≡ true
-stale = refl
+unknowing : may_come (Call (record { known = 0; act = acts.Rest })) (replies.Stale 2) ≡ true
+unknowing = refl
 
 -- a Turn that gave and put in nothing leaves all as it is, unless the message is closed
 nothing : leaves_all (replies.Turned [] 0 false) ≡ true
@@ -152,19 +152,19 @@ informed known set = finish_call deck (record node { known = known }) choices.Re
 
 -- the other one of the deck
 other : informed 0 2 ≡ only (record node { known = 2 })
-unfolding finish_call
+unfolding finish_call stale losing
 other = refl
 
 -- what it knew otherwise it forgets
 anew : informed 2 1 ≡ only (record node { known = 1 })
-unfolding finish_call
+unfolding finish_call stale losing
 anew = refl
 
 -- a third one, which the deck lacks, alone or beside its two: nothing
 third : informed 2 4 ≡ only (record node { known = 2 })
-unfolding finish_call
+unfolding finish_call stale losing
 third = refl
 
 third_beside : informed 2 7 ≡ only (record node { known = 2 })
-unfolding finish_call
+unfolding finish_call stale losing
 third_beside = refl

@@ -1,6 +1,6 @@
 -- What a system does in star mode, on examples: each is what the rules of the service give by hand. The hash of A and B
 -- is 16820, which is slice 52 and entry 4 of 16.
-use Rattle.std.proofs.Common.{◌≡◌, ℕ, Bool, true, false, List, [], ◌∷◌, Option, Some, None, refl, codes, map}
+use Rattle.std.proofs.Common.{◌≡◌, ℕ, Bool, true, false, List, [], ◌∷◌, Option, Some, None, refl, codes, map, replicate}
 use Rattle.contention_mgr.specs.Manager.{Managed, Ranked, no_elements}
 use Rattle.grs_base.specs.Rnl.{no_entries}
 use Rattle.grs_base.specs.declared.decision.Code.TheVariants.{C00}
@@ -13,27 +13,21 @@ use Rattle.grs_base.specs.declared.resource.Ret.TheVariants.{RetNone}
 use Rattle.grs_base.specs.declared.resource.Row.{Row}
 use Rattle.grs_base.specs.declared.resource.SysId.{SysId}
 use Rattle.grs_base.specs.declared.resource.TaskId.{TaskId}
-use Rattle.grs_base.specs.declared.rnl.Which.TheVariants as which
-use Rattle.grs_node.specs.Node.{NodeState, take_mail, is_pending, prepare, star_call, may_send}
-use Rattle.grs_node.specs.Star.{StarPart, fixing_none, own_step, decide_own, took_mail, settle_step, begun, left_at}
-use Rattle.grs_node.specs.Star.{leave_by, first_held, settle_by, send_of}
+use Rattle.grs_node.specs.Node.{NodeState, take_mail, took_mail, is_pending, prepare, star_call, may_send}
+use Rattle.grs_node.specs.Star.{StarPart, fixing_none, own_step, decide_own, settle_step, begun, left_at, leave_by}
+use Rattle.grs_node.specs.Star.{first_held, settle_by, send_of}
 use Rattle.grs_node.specs.declared.prepared.Prepared.{Prepared}
-use Rattle.grs_node.specs.declared.prepared.Prepared.TheVariants.{Quiet, Call, Nothing}
-use Rattle.grs_node.specs.declared.star.Need.TheVariants.{Alone, Asks, Idle}
-use Rattle.grs_wire.specs.declared.deck.Choice.TheVariants as choices
+use Rattle.grs_node.specs.declared.prepared.Prepared.TheVariants.{Call, Nothing}
+use Rattle.grs_node.specs.declared.star.Need.TheVariants.{Asks, Idle}
+use Rattle.grs_wire.specs.Masks.{has}
 use Rattle.grs_wire.specs.declared.deck.Deck.{Deck}
 use Rattle.grs_wire.specs.declared.medium.Act.{Act}
-use Rattle.grs_wire.specs.declared.medium.Act.TheVariants as acts
-use Rattle.grs_wire.specs.declared.medium.Mail.TheVariants.{Request, Answered, Granted, Notice, Part}
-use Rattle.grs_wire.specs.declared.medium.Reply.TheVariants as replies
+use Rattle.grs_wire.specs.declared.medium.Mail.TheVariants.{Request, Answered, Granted}
 use Rattle.grs_wire.specs.declared.request.Answer.TheVariants.{Coded, Rows}
-use Rattle.grs_wire.specs.declared.request.Fixed.TheVariants as fixes
 use Rattle.grs_wire.specs.declared.request.Req.{Req}
 use Rattle.grs_wire.specs.declared.request.Want.{Want}
 use Rattle.grs_wire.specs.declared.request.Want.TheVariants.{Enq, Deq, Look}
 use Rattle.grs_wire.specs.declared.told.ToldLine.{ToldLine}
-use Rattle.grs_wire.specs.declared.told.ToldLine.TheVariants as told
-use Rattle.grs_wire.specs.declared.told.Verb.TheVariants as verbs
 use Rattle.star_client.specs.Client.{tell_answer_ranked, after_mail}
 use Rattle.task_state.specs.Replies.{tell_code, record_enq, after_code, replied, tell_line, tell_untold, tell_control}
 use Rattle.task_state.specs.Replies.{tell_all, tell_new, recalled, tell_rows, goes_on_looking, tell_answer}
@@ -41,9 +35,16 @@ use Rattle.task_state.specs.View.{TasksView, new_tasks, state_of, with_state, wi
 use Rattle.task_state.specs.View.{without_record, with_told, with_rank, with_rows, without_rows, telling}
 use Rattle.task_state.specs.declared.state.Asked.{Asked}
 use Rattle.task_state.specs.declared.state.Phase.{Phase}
-use Rattle.task_state.specs.declared.state.Phase.TheVariants as phases
 use Rattle.task_state.specs.declared.state.Rec.{Rec}
 use Rattle.task_state.specs.declared.state.TaskState.{TaskState}
+use Rattle.grs_base.specs.declared.rnl.Which.TheVariants as which
+use Rattle.grs_wire.specs.declared.deck.Choice.TheVariants as choices
+use Rattle.grs_wire.specs.declared.medium.Act.TheVariants as acts
+use Rattle.grs_wire.specs.declared.medium.Reply.TheVariants as replies
+use Rattle.grs_wire.specs.declared.request.Fixed.TheVariants as fixes
+use Rattle.grs_wire.specs.declared.told.ToldLine.TheVariants as told
+use Rattle.grs_wire.specs.declared.told.Verb.TheVariants as verbs
+use Rattle.task_state.specs.declared.state.Phase.TheVariants as phases
 
 abbrev system : ℕ → SysId
 system s = record { 0 = s }
@@ -82,6 +83,8 @@ at_fourth o interest held = record {
     entries =
         None ∷ None ∷ None ∷ None ∷ o ∷ None ∷ None ∷ None ∷ None ∷ None ∷ None ∷ None ∷ None ∷ None ∷ None ∷ None ∷ [];
   };
+  gathers = replicate 16 None;
+  owes = replicate 16 None;
   held = held;
   interest =
       false ∷ false ∷ false ∷ false ∷ interest ∷ false ∷ false ∷ false ∷ false ∷ false ∷ false ∷ false ∷ false ∷ false
@@ -124,99 +127,86 @@ abbrev listing : List Ranked → List Req → StarPart
 listing xs held = at_fourth (Some (record { next = 3; items = xs })) true held
 
 -- ---- requests of others
-held : take_mail deck tasks (managing []) (Request 4 (system 1) (asks (task 1 0) enq))
+held : take_mail deck 0 tasks (managing []) (Request 4 (system 1) (asks (task 1 0) enq))
     ≡ fixing_none tasks (managing (asks (task 1 0) enq ∷ []))
-unfolding took_mail
+unfolding has took_mail
 held = refl
 
 -- of another entry than that of the resource
-other_entry : take_mail deck tasks (managing []) (Request 5 (system 1) (asks (task 1 0) enq))
+other_entry : take_mail deck 0 tasks (managing []) (Request 5 (system 1) (asks (task 1 0) enq))
     ≡ fixing_none tasks (managing [])
 unfolding took_mail
 other_entry = refl
 
 -- of an entry that there isn't
-no_entry : take_mail deck tasks (managing []) (Request 16 (system 1) (asks (task 1 0) enq))
+no_entry : take_mail deck 0 tasks (managing []) (Request 16 (system 1) (asks (task 1 0) enq))
     ≡ fixing_none tasks (managing [])
 unfolding took_mail
 no_entry = refl
 
 -- of an entry that isn't managed
-unmanaged : take_mail deck tasks (at_fourth None false []) (Request 4 (system 1) (asks (task 1 0) enq))
+unmanaged : take_mail deck 0 tasks (at_fourth None false []) (Request 4 (system 1) (asks (task 1 0) enq))
     ≡ fixing_none tasks (at_fourth None false [])
 unfolding took_mail
 unmanaged = refl
 
 -- for a resource of one system alone, and for slices that there aren't
 own_resource :
-    take_mail deck tasks (managing [])
+    take_mail deck 0 tasks (managing [])
     (Request 4 (system 1) (asks (task 1 0) (Deq (System (system 1) (codes "A") (codes "B")) false)))
     ≡ fixing_none tasks (managing [])
 unfolding took_mail
 own_resource = refl
 
 own_step_resource :
-    take_mail deck tasks (managing [])
+    take_mail deck 0 tasks (managing [])
     (Request 4 (system 1) (asks (task 1 0) (Deq (Step (system 1) 0 (codes "A") (codes "B")) false)))
     ≡ fixing_none tasks (managing [])
 unfolding took_mail
 own_step_resource = refl
 
-no_slices : take_mail deck tasks (managing []) (Request 4 (system 1) (asks (task 1 0) (Look 68 1 All)))
+no_slices : take_mail deck 0 tasks (managing []) (Request 4 (system 1) (asks (task 1 0) (Look 68 1 All)))
     ≡ fixing_none tasks (managing [])
 unfolding took_mail
 no_slices = refl
 
 -- one slice of the entry may be looked at, and not two together, of which each is of an entry of its own
-one_slice : take_mail deck tasks (managing []) (Request 4 (system 1) (asks (task 1 0) (Look 52 1 All)))
+one_slice : take_mail deck 0 tasks (managing []) (Request 4 (system 1) (asks (task 1 0) (Look 52 1 All)))
     ≡ fixing_none tasks (managing (asks (task 1 0) (Look 52 1 All) ∷ []))
-unfolding took_mail
+unfolding has took_mail
 one_slice = refl
 
-two_slices : take_mail deck tasks (managing []) (Request 4 (system 1) (asks (task 1 0) (Look 52 2 All)))
+two_slices : take_mail deck 0 tasks (managing []) (Request 4 (system 1) (asks (task 1 0) (Look 52 2 All)))
     ≡ fixing_none tasks (managing [])
 unfolding took_mail
 two_slices = refl
 
 -- ---- names outside the deck
-no_task : take_mail deck tasks (managing []) (Request 4 (system 1) (asks (task 1 1) enq))
+no_task : take_mail deck 0 tasks (managing []) (Request 4 (system 1) (asks (task 1 1) enq))
     ≡ fixing_none tasks (managing [])
 no_task = refl
 
-no_system : take_mail deck tasks (managing []) (Request 4 (system 2) (asks (task 1 0) enq))
+no_system : take_mail deck 0 tasks (managing []) (Request 4 (system 2) (asks (task 1 0) enq))
     ≡ fixing_none tasks (managing [])
 no_system = refl
 
 other_job :
-    take_mail deck tasks (managing [])
+    take_mail deck 0 tasks (managing [])
     (Request 4 (system 1) (asks (record { system = system 1; job = 1; task = 0 }) enq))
     ≡ fixing_none tasks (managing [])
 other_job = refl
-
--- a notice and a part have no effect
-taken_notice :
-    take_mail deck tasks (managing [])
-    (Notice (system 1) (record { entry = 4; manager = system 0; mask = 1; epoch = 1 } ∷ []))
-    ≡ fixing_none tasks (managing [])
-taken_notice = refl
-
-taken_part :
-    take_mail deck tasks (managing [])
-    (Part 4 (system 1) (record { res = res; task = task 1 0; ctl = E; rank = 2; told = true } ∷ []))
-    ≡ fixing_none tasks (managing [])
-taken_part = refl
 
 -- a second task of system 0 that the deck lacks, be it that it has sent a request, or waits for control
 abbrev beyond : Phase → List Rec → Option Asked → TasksView
 beyond phase recs asked = of_system (in_phase phases.Ready [] None ∷ in_phase phase recs asked ∷ [])
 
 unknown_answer :
-    take_mail deck (beyond phases.Sent [] (outstanding enq)) (managing []) (Answered (task 0 1) (Coded C00) 2)
+    take_mail deck 0 (beyond phases.Sent [] (outstanding enq)) (managing []) (Answered (task 0 1) (Coded C00) 2)
     ≡ fixing_none (beyond phases.Sent [] (outstanding enq)) (managing [])
 unknown_answer = refl
 
 unknown_grant :
-    take_mail deck (beyond phases.HeldAnswer (rec_told false ∷ []) None) (managing []) (Granted (task 0 1) res)
+    take_mail deck 0 (beyond phases.HeldAnswer (rec_told false ∷ []) None) (managing []) (Granted (task 0 1) res)
     ≡ fixing_none (beyond phases.HeldAnswer (rec_told false ∷ []) None) (managing [])
 unknown_grant = refl
 
@@ -233,7 +223,7 @@ abbrev owned_by : TaskId → List Row
 owned_by t = record { res = res; elems = record { task = t; ctl = E } ∷ []; owners = 1 } ∷ []
 
 own_rows :
-    take_mail deck (one phases.Sent [] looking) (managing []) (Answered (task 0 0) (Rows (owned_by (task 1 0))) 0)
+    take_mail deck 0 (one phases.Sent [] looking) (managing []) (Answered (task 0 0) (Rows (owned_by (task 1 0))) 0)
     ≡ fixing_none
     (record (one phases.Ready [] None) {
       told = told.Shown (task 0 0) 1 verbs.Display C00 (owned_by (task 1 0)) ∷ [];
@@ -244,7 +234,7 @@ unfolding state_of with_state with_phase with_outstanding with_rows without_rows
 own_rows = refl
 
 unknown_row :
-    take_mail deck (one phases.Sent [] looking) (managing []) (Answered (task 0 0) (Rows (owned_by (task 1 1))) 0)
+    take_mail deck 0 (one phases.Sent [] looking) (managing []) (Answered (task 0 0) (Rows (owned_by (task 1 1))) 0)
     ≡ fixing_none (one phases.Sent [] looking) (managing [])
 unknown_row = refl
 
@@ -253,7 +243,7 @@ abbrev shared_by : Elem → Elem → Elem → List Row
 shared_by x y z = record { res = res; elems = x ∷ y ∷ z ∷ []; owners = 2 } ∷ []
 
 unknown_waiter :
-    take_mail deck (one phases.Sent [] looking) (managing [])
+    take_mail deck 0 (one phases.Sent [] looking) (managing [])
     (Answered (task 0 0)
     (Rows
     (shared_by (record { task = task 0 0; ctl = S }) (record { task = task 1 0; ctl = S })
@@ -271,14 +261,14 @@ owned_twice t = record {
 } ∷ []
 
 twice_in_row :
-    take_mail deck (one phases.Sent [] looking) (managing []) (Answered (task 0 0) (Rows (owned_twice (task 1 0))) 0)
+    take_mail deck 0 (one phases.Sent [] looking) (managing []) (Answered (task 0 0) (Rows (owned_twice (task 1 0))) 0)
     ≡ fixing_none (one phases.Sent [] looking) (managing [])
 unfolding state_of after_mail took_mail
 twice_in_row = refl
 
 -- ---- mail to tasks
 -- an answer and control reach a task of the deck and of this system
-own_answer : take_mail deck (one phases.Sent [] (outstanding enq)) (managing []) (Answered (task 0 0) (Coded C00) 2)
+own_answer : take_mail deck 0 (one phases.Sent [] (outstanding enq)) (managing []) (Answered (task 0 0) (Coded C00) 2)
     ≡ fixing_none
     (record (one phases.Ready (rec_told true ∷ []) None) { told = told.Coded (task 0 0) 1 0 verbs.Enq C00 ∷ [] })
     (managing [])
@@ -286,7 +276,7 @@ unfolding state_of with_state with_phase with_outstanding with_record with_rank 
     replied recalled tell_answer tell_answer_ranked after_mail took_mail
 own_answer = refl
 
-own_grant : take_mail deck (one phases.HeldAnswer (rec_told false ∷ []) None) (managing []) (Granted (task 0 0) res)
+own_grant : take_mail deck 0 (one phases.HeldAnswer (rec_told false ∷ []) None) (managing []) (Granted (task 0 0) res)
     ≡ fixing_none
     (record (one phases.Ready (rec_told true ∷ []) None) { told = told.Coded (task 0 0) 1 0 verbs.Enq C00 ∷ [] })
     (managing [])
@@ -294,12 +284,12 @@ unfolding state_of with_state with_phase with_told telling tell_line tell_untold
 own_grant = refl
 
 -- not one of the deck and of another system
-other_answer : take_mail deck (one phases.Sent [] (outstanding enq)) (managing []) (Answered (task 1 0) (Coded C00) 2)
+other_answer : take_mail deck 0 (one phases.Sent [] (outstanding enq)) (managing []) (Answered (task 1 0) (Coded C00) 2)
     ≡ fixing_none (one phases.Sent [] (outstanding enq)) (managing [])
 unfolding after_mail took_mail
 other_answer = refl
 
-other_grant : take_mail deck (one phases.HeldAnswer (rec_told false ∷ []) None) (managing []) (Granted (task 1 0) res)
+other_grant : take_mail deck 0 (one phases.HeldAnswer (rec_told false ∷ []) None) (managing []) (Granted (task 1 0) res)
     ≡ fixing_none (one phases.HeldAnswer (rec_told false ∷ []) None) (managing [])
 unfolding tell_control after_mail took_mail
 other_grant = refl
@@ -381,9 +371,9 @@ settles : settle_by (managing (asks (task 1 0) enq ∷ [])) (first_held (managin
     ≡ Asks (acts.Settle (system 1) (Answered (task 1 0) (Coded C00) 1))
 settles = refl
 
--- who manages the entry decides a request of its own alone, else it is sent
-decides : send_of (managing []) (task 0 0) (outstanding enq) ≡ Alone
-decides = refl
+-- a request is sent, also by who manages its entry
+sends_own : send_of (managing []) (task 0 0) (outstanding enq) ≡ Asks (acts.Submit 4 (asks (task 0 0) enq))
+sends_own = refl
 
 sends : send_of (at_fourth None false []) (task 0 0) (outstanding enq) ≡ Asks (acts.Submit 4 (asks (task 0 0) enq))
 sends = refl
@@ -413,6 +403,11 @@ left = refl
 begins : begun (at_fourth None false []) 4 ≡ managing []
 begins = refl
 
+-- who manages an entry keeps its lists
+goes_on_managing :
+    begun (listing (item (task 1 0) 1 true ∷ []) []) 4 ≡ listing (item (task 1 0) 1 true ∷ []) []
+goes_on_managing = refl
+
 -- ---- what a choice comes to
 abbrev node : TasksView → Option StarPart → NodeState
 node v o = record { tasks = v; own = []; shared = []; outbox = []; star = o; known = 0; done = 0 }
@@ -423,10 +418,11 @@ ready_to_send = one phases.ToSend [] (outstanding enq)
 abbrev calls : Act → Prepared
 calls act = Call (record { known = 0; act = act })
 
--- who manages the entry decides the request of its own task without a call, and any other system sends it
-sends_quietly : prepare deck (node ready_to_send (Some (managing []))) (choices.Send (task 0 0)) ≡ Quiet
+-- the request of a task is sent, also by who manages its entry
+submits_own : prepare deck (node ready_to_send (Some (managing []))) (choices.Send (task 0 0))
+    ≡ calls (acts.Submit 4 (asks (task 0 0) enq))
 unfolding state_of may_send star_call prepare
-sends_quietly = refl
+submits_own = refl
 
 submits : prepare deck (node ready_to_send (Some (at_fourth None false []))) (choices.Send (task 0 0))
     ≡ calls (acts.Submit 4 (asks (task 0 0) enq))
@@ -492,7 +488,7 @@ not_in_a_ring : (prepare deck (node ready_to_send None) (choices.Send (task 0 0)
 unfolding star_call prepare
 not_in_a_ring = (refl, refl, refl, refl, refl, refl)
 
--- no system sends a part
+-- no part is sent that isn't owed
 no_part : prepare deck (node ready_to_send (Some (managing []))) (choices.Part 4) ≡ Nothing
 unfolding star_call prepare
 no_part = refl

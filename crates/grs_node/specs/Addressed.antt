@@ -1,12 +1,15 @@
 -- To whom the calls of a system go: to systems of the deck, and to lock entries that there are.
-use Rattle.std.specs.Prelude.{◌≡◌, ◌<◌, ℕ, Bool, true, nat_lt, nat_le, length, not, All, Option, Some, None, ◌≤◌, ◌&&◌}
-use Rattle.std.specs.Prelude.{◌==◌, slice_get}
+use Rattle.std.specs.Prelude.{◌≡◌, ◌<◌, ℕ, Bool, true, nat_lt, nat_le, length, not, All, Option, Some, None, ◌≤◌}
+use Rattle.std.specs.Prelude.{◌&&◌, ◌==◌, slice_get}
 use Rattle.std.specs.List.{list_all}
+use Rattle.std.specs.Option.{option_map_or}
 use Rattle.contention_mgr.specs.Elements.{all_of}
 use Rattle.grs_base.specs.Limits.{most_systems, most_commands}
+use Rattle.grs_base.specs.declared.resource.SysId.{SysId}
 use Rattle.grs_base.specs.declared.resource.TaskId.{TaskId}
 use Rattle.grs_node.specs.Node.{NodeState, desk_of, desk_count}
 use Rattle.grs_base.specs.Limits.{most_additions}
+use Rattle.grs_node.specs.Removal.{IsOrderly}
 use Rattle.grs_node.specs.Star.{StarPart}
 use Rattle.grs_node.specs.declared.prepared.Prepared.{Prepared}
 use Rattle.grs_node.specs.declared.prepared.Prepared.TheVariants.{Quiet, Call, Nothing}
@@ -19,6 +22,9 @@ use Rattle.grs_wire.specs.declared.medium.Act.{Act}
 use Rattle.grs_wire.specs.declared.medium.Act.TheVariants as acts
 use Rattle.lock_structure.specs.Words.{word_fits}
 use Rattle.mode_migrate.specs.Migrate.{AreApart}
+use Rattle.star_client.specs.Owes.{OwesView}
+use Rattle.system_purge.specs.Gathers.{GathersView}
+use Rattle.system_purge.specs.declared.gathers.Gathering.{Gathering}
 
 -- Whether an act of the system of a number goes to a system of the deck and speaks of a lock entry that there is, where
 -- it does so, a Turn puts in no more than it may, a Switch has a word for each lock entry, which names systems of the
@@ -50,8 +56,25 @@ TargetFits choice = Unit {0}
 abbrev pub is_within : Deck → TaskId → Bool
 is_within deck t = nat_lt t.system.0 (length deck.systems)
 
+-- whether the records of parts are of systems of the deck, where an entry is gathered
+abbrev pub parts_within : Deck → Option Gathering → Bool
+parts_within deck None = true
+parts_within deck (Some g) = list_all (λ x. list_all (λ r. is_within deck r.task) x.records) g.parts
+
+-- whether it is a system of the deck to whom a part is owed, if one is
+abbrev pub is_owed_within : Deck → Option SysId → Bool
+is_owed_within deck to = option_map_or (λ s. nat_lt s.0 (length deck.systems)) to true
+
+-- What a system keeps of entries whose manager was removed: as many as the deck has; and whose records came, and to
+-- whom parts are owed, are systems of the deck.
+pub record GatheringFits (deck : Deck) (gathers : GathersView) (owes : OwesView) : Type 0 where
+  pub count : length gathers ≡ deck.entries
+  pub parts : list_all (parts_within deck) gathers ≡ true
+  pub owed : list_all (is_owed_within deck) owes ≡ true
+
 -- What the part in star mode of the system of a number keeps: its manager is of that system, there are as many lock
--- entries as the deck says, one at least, and elements and held requests are of systems of the deck.
+-- entries as the deck says, one at least, elements, held requests and what it keeps of entries whose manager was
+-- removed are of systems of the deck, and it is orderly.
 pub record PartFits (deck : Deck) (home : ℕ) (p : StarPart) : Type 0 where
   pub system : p.manager.system.0 ≡ home
   pub some : 0 < deck.entries
@@ -59,6 +82,8 @@ pub record PartFits (deck : Deck) (home : ℕ) (p : StarPart) : Type 0 where
   pub interest : length p.interest ≡ deck.entries
   pub elements : all_of (is_within deck) p.manager.entries ≡ true
   pub held : list_all (λ q. is_within deck q.task) p.held ≡ true
+  pub gathering : GatheringFits deck p.gathers p.owes
+  pub orderly : IsOrderly p
 
 abbrev pub AnyPartFits : Deck → ℕ → Option StarPart → Type 0
 AnyPartFits deck home None = Unit {0}

@@ -1,6 +1,6 @@
 -- What a system comes to in star mode by its table of the Systems resources: its part there, and its tasks, whose
 -- records get ranks and whose requests wait to be sent each by itself.
-use Rattle.std.specs.Prelude.{ℕ, ◌+◌, ◌-◌, Bool, ◌==◌, min, cond, List, [], ◌∷◌, map, Option, Some, None}
+use Rattle.std.specs.Prelude.{ℕ, ◌+◌, ◌-◌, Bool, ◌==◌, min, cond, List, [], ◌∷◌, map, replicate, Option, Some, None}
 use Rattle.std.specs.List.{list_any, range_with_len}
 use Rattle.std.specs.Option.{option_map}
 use Rattle.contention_mgr.specs.Loads.{loaded}
@@ -30,6 +30,8 @@ entry_by_table entries s t e = cond (managed_by_table entries s t e) (Some (load
 abbrev pub part_by_table : ℕ → SysId → State → StarPart
 part_by_table entries s t = record {
   manager = record { system = s; entries = map (entry_by_table entries s t) (range_with_len 0 entries) };
+  gathers = replicate entries None;
+  owes = replicate entries None;
   held = [];
   interest = map (interest_by_table entries s t) (range_with_len 0 entries);
 }
@@ -54,6 +56,8 @@ with_entry_by m entries managed ranked e =
 abbrev pub part_by_roles : ℕ → SysId → List ℕ → List ℕ → List RankedRow → StarPart
 part_by_roles entries s managed interest ranked = record {
   manager = record { system = s; entries = map (entry_by_roles entries managed ranked) (range_with_len 0 entries) };
+  gathers = replicate entries None;
+  owes = replicate entries None;
   held = [];
   interest = map (is_among interest) (range_with_len 0 entries);
 }

@@ -1,8 +1,8 @@
 -- A system, event by event: what each choice comes to, and what the system is afterwards. An event is prepared,
 -- makes at most one call of the medium, and is finished with the reply.
 use Rattle.std.specs.Prelude.{ℕ, zero, suc, ◌+◌, Bool, true, false, not, cond, ◌&&◌, ◌||◌, ◌==◌, ◌^◌, nat_le, nat_lt}
-use Rattle.std.specs.Prelude.{List, [], ◌∷◌, ◌++◌, length, map, take, drop, replicate, Option, Some, None, slice_get}
-use Rattle.std.specs.Prelude.{is_some, is_none}
+use Rattle.std.specs.Prelude.{List, [], ◌∷◌, ◌++◌, length, map, filter, take, drop, replicate, Option, Some, None}
+use Rattle.std.specs.Prelude.{slice_get, is_some, is_none}
 use Rattle.std.specs.List.{list_all, list_any}
 use Rattle.grs_base.specs.Limits.{most_additions}
 use Rattle.std.specs.Option.{option_map}
@@ -28,6 +28,7 @@ use Rattle.grs_wire.specs.declared.deck.Desk.{Desk}
 use Rattle.grs_wire.specs.declared.deck.Order.{Order}
 use Rattle.grs_wire.specs.declared.deck.Order.TheVariants as orders
 use Rattle.grs_wire.specs.declared.deck.SystemDef.{SystemDef}
+use Rattle.grs_wire.specs.declared.gather.Moved.{Moved}
 use Rattle.grs_wire.specs.declared.medium.Act.TheVariants as acts
 use Rattle.grs_wire.specs.declared.medium.Mail.{Mail}
 use Rattle.grs_wire.specs.declared.medium.Mail.TheVariants as mails
@@ -50,13 +51,16 @@ use Rattle.grs_wire.specs.declared.told.ToldLine.TheVariants as told
 use Rattle.mode_migrate.specs.Migrate.{table_words, ranked_by}
 use Rattle.grs_node.specs.Change.{part_by_table, with_ranks, one_by_one}
 use Rattle.grs_node.specs.Star.{StarPart, StarStep, first_part, to_tell, first_held, is_part_pending, send_of}
-use Rattle.grs_node.specs.Star.{settle_by, tell_by, leave_by, fixing_none, own_step, took_mail, send_step, settle_step}
-use Rattle.grs_node.specs.Star.{tell_step, leave_step}
+use Rattle.grs_node.specs.Star.{settle_by, tell_by, part_by, leave_by, owed_to, fixing_none, send_step, settle_step}
+use Rattle.grs_node.specs.Star.{tell_step, part_step, leave_step, with_held}
+use Rattle.grs_node.specs.Removal.{Standing, standing, lose_all, members, without_those, took_notice, took_part}
+use Rattle.grs_node.specs.Names.{names_of}
 use Rattle.grs_node.specs.declared.star.Need.{Need}
-use Rattle.grs_node.specs.declared.star.Need.TheVariants.{Alone, Asks, Idle}
+use Rattle.grs_node.specs.declared.star.Need.TheVariants.{Asks, Idle}
 use Rattle.grs_node.specs.declared.prepared.Prepared.{Prepared}
 use Rattle.grs_node.specs.declared.prepared.Prepared.TheVariants.{Quiet, Call, Nothing}
 use Rattle.ring_mode.specs.Ring.{Side, side_of, is_for_all, process_entry}
+use Rattle.star_client.specs.Client.{after_mail}
 use Rattle.system_purge.specs.Purge.{tell_freed}
 use Rattle.task_state.specs.Replies.{replied, tell_code, tell_new, tell_rows}
 use Rattle.task_state.specs.declared.state.Asked.{Asked}
@@ -236,8 +240,8 @@ abbrev pub is_to_send : Phase → Bool
 is_to_send phases.ToSend = true
 is_to_send _ = false
 
--- whether in star mode something is pending: a request that waits to be sent, one that is held, or an owner of another
--- system who is still to be told
+-- whether in star mode something is pending: a request that waits to be sent, one that is held, an owner of another
+-- system who is still to be told, an entry that is gathered, or a part that is owed
 abbrev pub is_star_pending : TasksView → Option StarPart → Bool
 is_star_pending v None = false
 is_star_pending v (Some p) = list_any (λ x. is_to_send x.phase) v.tasks || is_part_pending p
@@ -269,7 +273,6 @@ turn_call n (Some p) = Nothing
 
 -- what an event of star mode comes to by what it needs
 abbrev pub prepared_by : ℕ → Need → Prepared
-prepared_by known Alone = Quiet
 prepared_by known (Asks act) = Call (record { known = known; act = act })
 prepared_by known Idle = Nothing
 
@@ -279,6 +282,8 @@ star_need deck n p (choices.Send t) = cond (may_send deck n t) (send_of p t (sta
 star_need deck n p choices.Take = Asks acts.Take
 star_need deck n p choices.Settle = settle_by p (first_held p)
 star_need deck n p (choices.Tell e) = tell_by (to_tell p e)
+star_need deck n p (choices.Part e) =
+    part_by (names_of deck n.tasks.system) n.known p n.tasks e (owed_to p e)
 star_need deck n p (choices.Leave e) = leave_by p n.tasks e
 star_need deck n p _ = Idle
 
@@ -319,15 +324,9 @@ prepare deck n choice = star_call deck n n.star choice
 abbrev pub with_star : NodeState → StarStep → Step
 with_star n s = record { node = record n { tasks = s.tasks; star = Some s.part }; fixed = s.fixed }
 
--- a manager decides the request of its own task that waits to be sent
-abbrev pub send_own : NodeState → TaskId → Option StarPart → Step
-send_own n t None = only n
-send_own n t (Some p) = with_star n (own_step n.tasks p t (state_of n.tasks t).outstanding)
-
 -- a choice that is done without a call
 unfoldable pub finish_quiet : Deck → NodeState → Choice → Step
 finish_quiet deck n (choices.Task t) = task_step deck.limit n t (lines_of deck t)
-finish_quiet deck n (choices.Send t) = send_own n t n.star
 finish_quiet deck n _ = only n
 
 -- a system with this part for the ring
@@ -373,10 +372,24 @@ change_to_star deck n = record n {
   star = Some (part_by_table deck.entries (record { 0 = n.tasks.system }) n.shared);
 }
 
+-- a system in star mode loses these removed systems
+abbrev pub losing_in : Deck → NodeState → Option StarPart → List SysId → NodeState
+losing_in deck n None ss = n
+losing_in deck n (Some p) ss =
+    let x = lose_all (names_of deck n.tasks.system) (standing n.tasks p) ss in
+    record n { tasks = x.tasks; star = Some x.part }
+
+unfoldable pub losing : Deck → NodeState → List SysId → NodeState
+losing deck n ss = losing_in deck n n.star ss
+
+-- The system changes to star mode, and then loses the systems that it knows to be removed.
+abbrev pub changed : Deck → NodeState → NodeState
+changed deck n = losing deck (change_to_star deck n) (members n.known)
+
 -- a step, behind which the system changes to star mode where it is to, unless it has
 abbrev pub changed_if : Deck → Bool → Step → Step
 changed_if deck closed s =
-    cond (closed && is_none s.node.star) (record { node = change_to_star deck s.node; fixed = s.fixed }) s
+    cond (closed && is_none s.node.star) (record { node = changed deck s.node; fixed = s.fixed }) s
 
 -- A Turn at the message: the entries that were given are processed, and the first requests of the outbox are put in.
 -- Where the message is closed the system then changes to star mode.
@@ -390,29 +403,27 @@ desk_told n said = record n { tasks = telling n.tasks (told.Desk (n.done + 1) sa
 -- The complex changed to star mode by the system's desk line, and the system with it. One that is in star mode did so
 -- before.
 unfoldable pub switched : Deck → NodeState → NodeState
-switched deck n = cond (is_none n.star) (change_to_star deck (desk_told n saids.StarDone)) n
+switched deck n = cond (is_none n.star) (changed deck (desk_told n saids.StarDone)) n
 
 -- The systems that a system knows to be removed, where it is told this set of them. A set with a system outside the
 -- deck has no effect.
 abbrev pub known_from : Deck → ℕ → ℕ → ℕ
 known_from deck known set = cond (nat_lt set (2 ^ length deck.systems)) set known
 
--- The systems that a system knows to be removed, where by this choice it removed one more.
-abbrev pub known_with : ℕ → Choice → ℕ
-known_with known (choices.Purge target) = with_also known target.0
-known_with known choice = known
+-- A system is told which systems are removed. In star mode it loses those of which it didn't know.
+unfoldable pub stale : Deck → NodeState → ℕ → NodeState
+stale deck n set =
+    let known = known_from deck n.known set in
+    losing deck (record n { known = known }) (members (without_those n.known known))
 
--- what was removed by this choice
-abbrev pub removal_by : Choice → List Fixed
-removal_by (choices.Purge target) = fixes.Purged target ∷ []
-removal_by choice = []
-
--- A system was removed by the system's desk line: the removal is fixed, and the system knows of it.
-unfoldable pub purged : NodeState → Choice → Step
-purged n choice = record {
-  node = record (desk_told n saids.VaryDone) { known = known_with n.known choice };
-  fixed = removal_by choice;
+-- A system was removed by the system's desk line: the removal is fixed, and the system knows of it. In star mode it
+-- loses the removed one.
+unfoldable pub purged : Deck → NodeState → Choice → Step
+purged deck n (choices.Purge target) = record {
+  node = losing deck (record (desk_told n saids.VaryDone) { known = with_also n.known target.0 }) (target ∷ []);
+  fixed = fixes.Purged target ∷ [];
 }
+purged deck n choice = only (desk_told n saids.VaryDone)
 
 -- whether the tasks in the lists of these rows are of the deck
 abbrev pub has_deck_tasks : Deck → Row → Bool
@@ -423,43 +434,64 @@ abbrev pub names_of_deck : Deck → Answer → Bool
 names_of_deck deck (Coded code) = true
 names_of_deck deck (Rows rows) = list_all (has_deck_tasks deck) rows
 
--- Whether the tasks and systems that a mail names are of the deck. A notice or a part has no effect: no system sends
--- one.
+-- Whether the tasks and systems that a mail names are of the deck; of a notice the removed system, and of a part the
+-- sender and the entry.
 abbrev pub is_for_deck : Deck → Mail → Bool
 is_for_deck deck (mails.Request e from q) = nat_lt from.0 (length deck.systems) && is_of_deck deck q.task
 is_for_deck deck (mails.Answered t answer rank) = is_of_deck deck t && names_of_deck deck answer
 is_for_deck deck (mails.Granted t r) = is_of_deck deck t
-is_for_deck deck (mails.Notice target moved) = false
-is_for_deck deck (mails.Part e from records) = false
+is_for_deck deck (mails.Notice target moved) = nat_lt target.0 (length deck.systems)
+is_for_deck deck (mails.Part e from records) = nat_lt e deck.entries && nat_lt from.0 (length deck.systems)
 
--- A mail was taken. One that names what isn't of the deck has no effect.
-abbrev pub take_mail : Deck → TasksView → StarPart → Mail → StarStep
-take_mail deck v p mail = cond (is_for_deck deck mail) (took_mail v p mail) (fixing_none v p)
+-- Whether an item of a notice speaks of an entry that there is, and of systems of the deck alone.
+abbrev pub is_item_of : Deck → Moved → Bool
+is_item_of deck m =
+    nat_lt m.entry deck.entries
+    && (nat_lt m.manager.0 (length deck.systems) && nat_lt m.mask (2 ^ length deck.systems))
 
-abbrev pub take_step : Deck → TasksView → StarPart → Reply → StarStep
-take_step deck v p (replies.Taken mail) = take_mail deck v p mail
-take_step deck v p reply = fixing_none v p
+abbrev pub fixing_nothing : Standing → StarStep
+fixing_nothing x = fixing_none x.tasks x.part
+
+-- A mail was taken, at a system that knows this set of systems to be removed. The items of a notice, and the records of
+-- a part, that name what isn't of the deck have no effect.
+unfoldable pub took_mail : Deck → ℕ → TasksView → StarPart → Mail → StarStep
+took_mail deck known v p (mails.Request e from q) = fixing_none v (with_held known p e q)
+took_mail deck known v p (mails.Notice target moved) =
+    fixing_nothing (took_notice known (names_of deck v.system) (standing v p) (filter (is_item_of deck) moved))
+took_mail deck known v p (mails.Part e from records) =
+    fixing_nothing
+    (took_part known (names_of deck v.system) (standing v p) e from (filter (λ r. is_of_deck deck r.task) records))
+took_mail deck known v p mail = fixing_none (after_mail v mail) p
+
+-- One that names what isn't of the deck has no effect.
+abbrev pub take_mail : Deck → ℕ → TasksView → StarPart → Mail → StarStep
+take_mail deck known v p mail = cond (is_for_deck deck mail) (took_mail deck known v p mail) (fixing_none v p)
+
+abbrev pub take_step : Deck → ℕ → TasksView → StarPart → Reply → StarStep
+take_step deck known v p (replies.Taken mail) = take_mail deck known v p mail
+take_step deck known v p reply = fixing_none v p
 
 -- what the reply to a call of star mode comes to
-abbrev pub star_step : Deck → TasksView → StarPart → Choice → Reply → StarStep
-star_step deck v p (choices.Send t) reply = send_step v p t reply
-star_step deck v p choices.Take reply = take_step deck v p reply
-star_step deck v p choices.Settle reply = settle_step v p reply
-star_step deck v p (choices.Tell e) reply = tell_step v p e reply
-star_step deck v p (choices.Leave e) reply = leave_step v p e reply
-star_step deck v p choice reply = fixing_none v p
+abbrev pub star_step : Deck → ℕ → TasksView → StarPart → Choice → Reply → StarStep
+star_step deck known v p (choices.Send t) reply = send_step v p t reply
+star_step deck known v p choices.Take reply = take_step deck known v p reply
+star_step deck known v p choices.Settle reply = settle_step v p reply
+star_step deck known v p (choices.Tell e) reply = tell_step v p e reply
+star_step deck known v p (choices.Part e) reply = part_step v p e reply
+star_step deck known v p (choices.Leave e) reply = leave_step v p e reply
+star_step deck known v p choice reply = fixing_none v p
 
 unfoldable pub finish_star : Deck → NodeState → Option StarPart → Choice → Reply → Step
 finish_star deck n None choice reply = only n
-finish_star deck n (Some p) choice reply = with_star n (star_step deck n.tasks p choice reply)
+finish_star deck n (Some p) choice reply = with_star n (star_step deck n.known n.tasks p choice reply)
 
 -- The reply to a call. Those that say nothing new change nothing.
 unfoldable pub finish_call : Deck → NodeState → Choice → Reply → Step
 finish_call deck n choice (replies.Turned entries taken closed) = turned deck n entries taken closed
-finish_call deck n choice (replies.Stale set) = only (record n { known = known_from deck n.known set })
+finish_call deck n choice (replies.Stale set) = only (stale deck n set)
 finish_call deck n choice replies.Switched = only (switched deck n)
 finish_call deck n choice replies.Already = only (desk_told n saids.StarAlready)
-finish_call deck n choice replies.Purged = purged n choice
+finish_call deck n choice replies.Purged = purged deck n choice
 finish_call deck n choice replies.NoSuch = only (desk_told n saids.VaryNoSuch)
 finish_call deck n choice replies.InStar = only (desk_told n saids.VaryInStar)
 finish_call deck n choice reply = finish_star deck n n.star choice reply

@@ -6,6 +6,7 @@ ghost use Rattle.contention_mgr.specs.Manager.{managed_at};
 ghost use Rattle.grs_base.specs.Limits.{most_commands};
 ghost use Rattle.grs_node.specs.Change as change;
 ghost use Rattle.grs_node.specs.Log.{stepped};
+ghost use Rattle.grs_node.specs.Names.{names_of};
 ghost use Rattle.grs_node.specs.Node as steps;
 ghost use Rattle.grs_node.specs.Node.{are_of_system};
 ghost use Rattle.grs_wire.specs.declared.request.Fixed.{Fixed};
@@ -20,8 +21,10 @@ use grs_wire::{Deck, Req, Said, Want};
 use mode_migrate::{Roles, part_of, roles_of};
 use qel_store::LinkedQueues;
 use queue_table::Table;
+use star_client::Owes;
 use std::alloc::Global;
 use std::collections::VecDeque;
+use system_purge::Gathers;
 use task_state::{Asked, Showing, Tasks};
 
 /// Whether a lock entry is one of these.
@@ -99,6 +102,8 @@ impl StarPart {
     {
         Ok(StarPart {
             manager: manager_by(alloc, system, entries, roles)?,
+            gathers: Gathers::new(alloc, entries)?,
+            owes: Owes::new(alloc, entries)?,
             held: VecDeque::new(alloc),
             interest: flags_of(alloc, &roles.interest, entries)?,
         })
@@ -257,20 +262,35 @@ impl NodeState {
         Ok(())
     }
 
+    /// The system changes to star mode, and then loses the systems that it knows to be removed.
+    fn change(&mut self, alloc: Global, deck: &Deck, names: &[TaskId]) -> Result<(), NoMemory>
+        requires entries { deck.now.entries ≢ 0 }
+        requires apart { AreApart self.old.shared }
+        requires names { names.now ≡ names_of deck.now self.old.tasks.system }
+        ensures step { OnOk result (self.new ≡ steps.changed deck.now self.old) }
+        ensures system { self.new.tasks.system ≡ self.old.tasks.system }
+    {
+        self.change_to_star(alloc, deck)?;
+        let known = self.known;
+        self.lose(alloc, names, known)
+    }
+
     /// The system changes to star mode behind a Turn at a closed message, unless it has.
     pub(crate) fn change_if(
         &mut self,
         alloc: Global,
         deck: &Deck,
+        names: &[TaskId],
         closed: bool,
     ) -> Result<(), NoMemory>
         requires entries { deck.now.entries ≢ 0 }
         requires apart { AreApart self.old.shared }
+        requires names { names.now ≡ names_of deck.now self.old.tasks.system }
         ensures step { OnOk result ((fixed : List Fixed) → stepped self.new fixed ≡ steps.changed_if deck.now closed (stepped self.old fixed)) }
         ensures system { self.new.tasks.system ≡ self.old.tasks.system }
     {
         if closed && self.star.is_none() {
-            self.change_to_star(alloc, deck)
+            self.change(alloc, deck, names)
         } else {
             Ok(())
         }
@@ -278,10 +298,16 @@ impl NodeState {
 
     /// The complex changed to star mode by the next command of the system's desk, and the system with it, unless it has.
     #[tactic(auto, unfolding(crate::specs::Node::switched, crate::specs::Node::desk_told))]
-    pub(crate) fn switched(&mut self, alloc: Global, deck: &Deck) -> Result<(), NoMemory>
+    pub(crate) fn switched(
+        &mut self,
+        alloc: Global,
+        deck: &Deck,
+        names: &[TaskId],
+    ) -> Result<(), NoMemory>
         requires entries { deck.now.entries ≢ 0 }
         requires apart { AreApart self.old.shared }
         requires desk { self.old.done < most_commands }
+        requires names { names.now ≡ names_of deck.now self.old.tasks.system }
         ensures step { OnOk result (self.new ≡ steps.switched deck.now self.old) }
         ensures system { self.new.tasks.system ≡ self.old.tasks.system }
     {
@@ -289,6 +315,6 @@ impl NodeState {
             return Ok(());
         }
         self.desk_told(Said::StarDone)?;
-        self.change_to_star(alloc, deck)
+        self.change(alloc, deck, names)
     }
 }

@@ -1,9 +1,12 @@
 //! What a choice of a system comes to. Nothing here changes anything.
-ghost use Rattle.std.specs.Prelude.{◌≡◌, ◌≢◌, ◌&&◌, is_some, take, IfOk};
-ghost use Rattle.std.specs.List.{list_any};
+ghost use Rattle.std.specs.Prelude.{◌≡◌, ◌≢◌, ◌&&◌, true, is_some, take, IfOk, IfSome};
+ghost use Rattle.std.specs.List.{list_all, list_any};
 ghost use Rattle.std.specs.Option.{option_copied};
 ghost use Rattle.grs_base.specs.Limits.{most_additions};
+ghost use Rattle.grs_node.specs.Names.{names_of};
 ghost use Rattle.grs_node.specs.Node as steps;
+ghost use Rattle.grs_node.specs.Removal.{IsOrderly};
+ghost use Rattle.grs_node.specs.Star.{is_owed_named};
 ghost use Rattle.grs_legal.specs.Asks.{lines_in, scripts_of};
 ghost use Rattle.task_state.specs.View.{is_task, state_of};
 
@@ -46,8 +49,8 @@ fn any_goes_on(tasks: &[TaskState]) -> bool
 }
 
 impl NodeState {
-    /// Whether in star mode something is pending: a request that waits to be sent, one that is held, or an owner of
-    /// another system who is still to be told.
+    /// Whether in star mode something is pending: a request that waits to be sent, one that is held, an owner of another
+    /// system who is still to be told, an entry that is gathered, or a part that is owed.
     fn is_star_pending(&self) -> bool
         ensures { result ≡ steps.is_star_pending self.now.tasks self.now.star }
     {
@@ -113,9 +116,13 @@ impl NodeState {
         &self,
         alloc: Global,
         deck: &Deck,
+        names: &[TaskId],
         part: &StarPart,
         choice: Choice,
     ) -> Result<Need, NoMemory>
+        requires names { names.now ≡ names_of deck.now self.now.tasks.system }
+        requires orderly { IsOrderly part.now }
+        requires owed { list_all is_owed_named part.now.owes ≡ true }
         ensures { IfOk result (λ need. need ≡ steps.star_need deck.now self.now part.now choice) }
     {
         match choice {
@@ -125,11 +132,11 @@ impl NodeState {
             Choice::Take => Ok(Need::Asks(Act::Take)),
             Choice::Settle => part.settle(),
             Choice::Tell(entry) => part.tell(entry),
+            Choice::Part(entry) => part.part(alloc, &self.tasks, names, self.known, entry),
             Choice::Leave(entry) => Ok(part.leave(&self.tasks, entry)),
             Choice::Task(_)
             | Choice::Turn
             | Choice::Send(_)
-            | Choice::Part(_)
             | Choice::Switch
             | Choice::Purge(_)
             | Choice::Rest => Ok(Need::Idle),
@@ -138,14 +145,22 @@ impl NodeState {
 
     /// What an event of star mode comes to. It has nothing to do in a ring.
     #[tactic(auto, unfolding(crate::specs::Node::star_call))]
-    fn prepare_star(&self, alloc: Global, deck: &Deck, choice: Choice) -> Result<Prepared, NoMemory>
+    fn prepare_star(
+        &self,
+        alloc: Global,
+        deck: &Deck,
+        names: &[TaskId],
+        choice: Choice,
+    ) -> Result<Prepared, NoMemory>
+        requires names { names.now ≡ names_of deck.now self.now.tasks.system }
+        requires orderly { IfSome self.now.star IsOrderly }
+        requires owed { IfSome self.now.star (λ p. list_all is_owed_named p.owes ≡ true) }
         ensures { IfOk result (λ prepared. prepared ≡ steps.star_call deck.now self.now self.now.star choice) }
     {
         let Some(part) = &self.star else {
             return Ok(Prepared::Nothing);
         };
-        match self.star_need(alloc, deck, part, choice)? {
-            Need::Alone => Ok(Prepared::Quiet),
+        match self.star_need(alloc, deck, names, part, choice)? {
             Need::Asks(act) => Ok(Prepared::Call(Call {
                 known: self.known,
                 act,
@@ -161,8 +176,12 @@ impl NodeState {
         alloc: Global,
         deck: &Deck,
         scripts: &[Script<'_>],
+        names: &[TaskId],
         choice: Choice,
     ) -> Result<Prepared, NoMemory>
+        requires names { names.now ≡ names_of deck.now self.now.tasks.system }
+        requires orderly { IfSome self.now.star IsOrderly }
+        requires owed { IfSome self.now.star (λ p. list_all is_owed_named p.owes ≡ true) }
         requires scripts { scripts.now ≡ scripts_of deck.now self.now.tasks.system }
         requires entries { deck.now.entries ≢ 0 }
         ensures { IfOk result (λ prepared. prepared ≡ steps.prepare deck.now self.now choice) }
@@ -182,7 +201,7 @@ impl NodeState {
             | Choice::Settle
             | Choice::Tell(_)
             | Choice::Part(_)
-            | Choice::Leave(_) => self.prepare_star(alloc, deck, choice),
+            | Choice::Leave(_) => self.prepare_star(alloc, deck, names, choice),
         }
     }
 }

@@ -1,16 +1,19 @@
 //! The commands of a system's desk: which one is next, what it asks of the medium, and that it is done.
-ghost use Rattle.std.specs.Prelude.{◌≡◌, ◌≢◌, ◌<◌, ◌∷◌, [], replicate, slice_get, IfOk, OnOk};
+ghost use Rattle.std.specs.Prelude.{◌≡◌, ◌≢◌, ◌<◌, ◌∷◌, [], length, replicate, slice_get, IfOk, IfSome, OnOk};
 ghost use Rattle.std.specs.Option.{option_map};
-ghost use Rattle.grs_base.specs.Limits.{most_commands};
+ghost use Rattle.grs_base.specs.Limits.{most_commands, most_systems};
+ghost use Rattle.grs_wire.specs.declared.deck.Deck.{Deck as DeckValue};
 ghost use Rattle.grs_wire.specs.declared.request.Fixed.TheVariants as fixes;
 ghost use Rattle.grs_node.specs.Addressed.{TargetFits};
 ghost use Rattle.grs_node.specs.Log.{stepped};
+ghost use Rattle.grs_node.specs.Removal.{IsOrderly};
+ghost use Rattle.grs_node.specs.Names.{names_of};
 ghost use Rattle.grs_node.specs.Node as steps;
 
 use super::prepared::Prepared;
 use super::scripts::system_at;
 use super::state::NodeState;
-use grs_base::{List, NoMemory, SysId};
+use grs_base::{List, NoMemory, SysId, TaskId};
 use grs_wire::masks::with_system;
 use grs_wire::{Act, Call, Choice, Deck, Fixed, Order, Said, ToldLine};
 use mode_migrate::words_of;
@@ -92,21 +95,46 @@ impl NodeState {
         }
     }
 
-    /// A system was removed by the next command, which is done: the removal is fixed, and the system knows of it.
+    /// A system was removed by the next command, which is done: the removal is fixed, and the system knows of it. In star
+    /// mode it loses the removed one.
     #[tactic(auto, unfolding(crate::specs::Node::desk_told, crate::specs::Node::purged))]
-    pub(crate) fn purged(&mut self, alloc: Global, choice: Choice) -> Result<List<Fixed>, NoMemory>
+    pub(crate) fn purged(
+        &mut self,
+        alloc: Global,
+        deck: &Deck,
+        names: &[TaskId],
+        choice: Choice,
+    ) -> Result<List<Fixed>, NoMemory>
         requires desk { self.old.done < most_commands }
         requires target { TargetFits choice }
-        ensures step { IfOk result (λ fixed. stepped self.new fixed ≡ steps.purged self.old choice) }
+        requires names { names.now ≡ names_of deck.now self.old.tasks.system }
+        requires orderly { IfSome self.old.star IsOrderly }
+        ensures step { IfOk result (λ fixed. stepped self.new fixed ≡ steps.purged deck.now self.old choice) }
         ensures system { self.new.tasks.system ≡ self.old.tasks.system }
     {
         self.desk_told(Said::VaryDone)?;
         match choice {
             Choice::Purge(target) => {
                 self.known = with_system(self.known, target);
+                self.lose_one(alloc, names, target)?;
                 purged_alone(alloc, target)
             }
             _ => Ok(List::new(alloc)),
+        }
+    }
+
+    /// In star mode the system loses a removed one.
+    #[tactic(auto, unfolding(crate::specs::Node::losing))]
+    fn lose_one(&mut self, alloc: Global, names: &[TaskId], target: SysId) -> Result<(), NoMemory>
+        requires target { target.0 < most_systems }
+        requires orderly { IfSome self.old.star IsOrderly }
+        ensures step { (deck : DeckValue) → names.now ≡ names_of deck self.old.tasks.system → OnOk result (self.new ≡ steps.losing deck self.old (target ∷ [])) }
+        ensures system { self.new.tasks.system ≡ self.old.tasks.system }
+        ensures count { length self.new.tasks.tasks ≡ length self.old.tasks.tasks }
+    {
+        match &mut self.star {
+            None => Ok(()),
+            Some(part) => part.lose_one(alloc, &mut self.tasks, names, target),
         }
     }
 

@@ -9,6 +9,7 @@ pub mod laws;
 mod lines;
 mod node;
 mod prepared;
+mod removal;
 mod replies;
 mod scripts;
 mod star;

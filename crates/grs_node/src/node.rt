@@ -17,7 +17,7 @@ ghost use Rattle.grs_node.specs.declared.prepared.Prepared.TheVariants.{Quiet, C
 
 use super::lines::end_by;
 use super::prepared::Prepared;
-use super::scripts::{Script, scripts_of, sizes_of};
+use super::scripts::{Script, names_of, scripts_of, sizes_of};
 use super::state::NodeState;
 use grs_base::{List, NoMemory, SysId, TaskId, copy_all};
 use grs_wire::{Choice, Deck, Fixed, NodeLog, Reply, Req, RingEntry, StepDone, TaskEnd, ToldLine};
@@ -31,6 +31,7 @@ pub struct Node<'d> {
     deck: &'d Deck,
     resolver: Resolver<'d>,
     scripts: List<Script<'d>>,
+    names: List<TaskId>,
     state: NodeState,
     log: NodeLog,
     alloc: Global,
@@ -41,12 +42,13 @@ impl<'d> Model for Node<'d> {
     ghost use Rattle.grs_legal.specs.Asks.{scripts_of};
     ghost use Rattle.grs_node.specs.Addressed.{NodeFits};
     ghost use Rattle.grs_node.specs.Log.{NodeView};
+    ghost use Rattle.grs_node.specs.Names.{names_of};
 
     ghost Value = { NodeView };
 
     ghost view = { λ a. record { deck = a.deck.now; node = a.state; log = a.log.steps } };
 
-    ghost invariant = { λ a. (a.resolver ≡ a.deck.now.lists) × (a.scripts ≡ scripts_of a.deck.now a.state.tasks.system) × NodeFits a.deck.now a.state };
+    ghost invariant = { λ a. (a.resolver ≡ a.deck.now.lists) × (a.scripts ≡ scripts_of a.deck.now a.state.tasks.system) × (a.names ≡ names_of a.deck.now a.state.tasks.system) × NodeFits a.deck.now a.state };
 }
 
 /// The lines from a place on.
@@ -90,12 +92,14 @@ impl<'d> Node<'d> {
     {
         let resolver = Resolver::build(alloc, &deck.lists)?;
         let scripts = scripts_of(alloc, deck, system)?;
+        let names = names_of(alloc, system, scripts.as_slice())?;
         let jobs = sizes_of(alloc, deck, system)?;
         let state = NodeState::new(alloc, deck, system, jobs.as_slice())?;
         Ok(Node {
             deck,
             resolver,
             scripts,
+            names,
             state,
             log: NodeLog {
                 steps: List::new(alloc),
@@ -112,8 +116,13 @@ impl<'d> Node<'d> {
         ensures addressed { IfOk result (λ prepared. is_addressed self.old.deck self.old.node.tasks.system prepared ≡ true) }
         ensures same { self.new ≡ self.old }
     {
-        self.state
-            .prepare(self.alloc, self.deck, self.scripts.as_slice(), *choice)
+        self.state.prepare(
+            self.alloc,
+            self.deck,
+            self.scripts.as_slice(),
+            self.names.as_slice(),
+            *choice,
+        )
     }
 
     /// The set of the systems that the system knows to be removed, as its Turn says. None exactly in star mode, where a
@@ -206,7 +215,10 @@ impl<'d> Node<'d> {
     {
         let alloc = self.alloc;
         let deck = self.deck;
-        match self.state.finish_call(alloc, deck, choice, reply) {
+        match self
+            .state
+            .finish_call(alloc, deck, self.names.as_slice(), choice, reply)
+        {
             Ok(fixed) => Ok(fixed),
             Err(refused) => {
                 self.state.give_up(alloc);
@@ -232,10 +244,15 @@ impl<'d> Node<'d> {
     {
         let alloc = self.alloc;
         let deck = self.deck;
-        match self
-            .state
-            .turned_among(alloc, deck, entries, system, taken, closed)
-        {
+        match self.state.turned_among(
+            alloc,
+            deck,
+            self.names.as_slice(),
+            entries,
+            system,
+            taken,
+            closed,
+        ) {
             Ok(fixed) => Ok(fixed),
             Err(refused) => {
                 self.state.give_up(alloc);
@@ -303,6 +320,13 @@ impl<'d> Node<'d> {
         ensures deck { self.new.deck ≡ self.old.deck }
     {
         self.log.steps.pop()
+    }
+
+    /// The set of the systems that the system knows to be removed.
+    pub fn known(&self) -> u32
+        ensures { result ≡ self.now.node.known }
+    {
+        self.state.known
     }
 
     /// The number of the system.

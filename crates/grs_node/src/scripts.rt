@@ -4,6 +4,7 @@ ghost use Rattle.grs_base.specs.Limits.{most_lines, most_tasks};
 ghost use Rattle.grs_wire.specs.Decks.{IsBounded};
 ghost use Rattle.grs_legal.specs.Asks as asks;
 ghost use Rattle.grs_legal.specs.Asks.{lines_in, scripts_in, scripts_from};
+ghost use Rattle.grs_node.specs.Names.{names_from};
 ghost use Rattle.grs_node.specs.Node.{is_of_deck};
 
 use grs_base::{Line, List, NoMemory, SysId, TaskId};
@@ -110,6 +111,33 @@ pub(crate) fn sizes_of(alloc: Global, deck: &Deck, system: SysId) -> Result<Vec<
         None => Ok(Vec::new(alloc)),
         Some(def) => sizes_of_jobs(alloc, def.jobs.as_slice()),
     }
+}
+
+/// The number of a task or of a job. There is no memory for more than 65,536.
+pub(crate) fn number_of(place: usize) -> Result<u16, NoMemory>
+    ensures { IfOk result (λ number. number ≡ place) }
+{
+    match u16::try_from(place) {
+        Ok(number) => Ok(number),
+        Err(_) => Err(NoMemory),
+    }
+}
+
+/// How the tasks of a system are named, which have these scripts.
+pub(crate) fn names_of(
+    alloc: Global,
+    system: SysId,
+    scripts: &[Script<'_>],
+) -> Result<List<TaskId>, NoMemory>
+    ensures { IfOk result (λ all. all ≡ names_from system.0 0 scripts.now) }
+{
+    let mut names = List::with_room(alloc, scripts.len())?;
+    for (place, script) in scripts.iter().enumerate() {
+        let job = number_of(script.job)?;
+        let task = number_of(place)?;
+        names.push(TaskId { system, job, task })?;
+    }
+    Ok(names)
 }
 
 /// The lines of a task among the scripts of its system.

@@ -1,37 +1,41 @@
 //! A system's part in star mode: the lock entries that it manages, the requests of other systems that it has still to
 //! settle, and the entries in which it has interest. Here stands what an event of star mode asks of the medium; nothing
 //! here changes anything.
-ghost use Rattle.std.specs.Prelude.{◌≡◌, ◌≢◌, ◌<◌, ◌&&◌, false, length, replicate, IfOk};
-ghost use Rattle.std.specs.List.{list_any};
+ghost use Rattle.std.specs.Prelude.{◌≡◌, ◌≢◌, ◌<◌, ◌&&◌, true, false, length, replicate, IfOk};
+ghost use Rattle.std.specs.List.{list_all, list_any, position};
 ghost use Rattle.std.specs.Option.{option_copied};
 ghost use Rattle.lock_structure.specs.Entries.{entry_of_res, is_entry};
 ghost use Rattle.grs_node.specs.Node.{is_to_send};
+ghost use Rattle.grs_node.specs.Removal.{IsOrderly};
 ghost use Rattle.grs_node.specs.Star as star;
 
 use contention_mgr::Manager;
 use grs_base::{NoMemory, Res, SysId, TaskId};
+use grs_wire::masks::has_system;
 use grs_wire::{Act, Mail, Req};
+use star_client::Owes;
 use std::alloc::Global;
 use std::collections::VecDeque;
 use std::marker::Model;
+use system_purge::{Gathers, part_of};
 use task_state::{Asked, Phase, Records, TaskState, Tasks};
 
 /// What an event of star mode needs.
 #[derive(Drop)]
 pub enum Need {
-    /// Nothing of the medium.
-    Alone,
     /// This of the medium.
     Asks(Act),
-    /// Nothing at all: there is nothing to do.
+    /// Nothing: there is nothing to do.
     Idle,
 }
 
-/// A system's part in star mode. `held` are requests of entries that it manages, in the order in which they were taken
-/// from the inbox; `interest` has a flag for each lock entry.
+/// A system's part in star mode. `held` are requests of entries that it manages or gathers, in the order in which they
+/// were taken from the inbox; `interest` has a flag for each lock entry.
 #[derive(Drop)]
 pub(crate) struct StarPart {
     pub(crate) manager: Manager,
+    pub(crate) gathers: Gathers,
+    pub(crate) owes: Owes,
     pub(crate) held: VecDeque<Req>,
     pub(crate) interest: Vec<bool>,
 }
@@ -41,7 +45,7 @@ impl Model for StarPart {
 
     ghost Value = { star.StarPart };
 
-    ghost view = { λ a. record { manager = a.manager; held = a.held.items; interest = a.interest.items } };
+    ghost view = { λ a. record { manager = a.manager; gathers = a.gathers; owes = a.owes; held = a.held.items; interest = a.interest.items } };
 }
 
 /// So many flags that aren't set.
@@ -97,6 +101,8 @@ impl StarPart {
     {
         Ok(StarPart {
             manager: Manager::new(alloc, system, entries)?,
+            gathers: Gathers::new(alloc, entries)?,
+            owes: Owes::new(alloc, entries)?,
             held: VecDeque::new(alloc),
             interest: no_flags(alloc, entries)?,
         })
@@ -129,7 +135,7 @@ impl StarPart {
     }
 
     /// Whether a request that isn't answered yet is of an entry.
-    fn asks_in(&self, entry: u32, asked: Option<&Asked>) -> bool
+    pub(crate) fn asks_in(&self, entry: u32, asked: Option<&Asked>) -> bool
         ensures { result ≡ star.asks_in self.now entry (option_copied asked.entry) }
     {
         match asked {
@@ -179,6 +185,13 @@ impl StarPart {
         self.manager.is_empty(entry) && !(self.manager.manages(entry) && self.any_held_of(entry))
     }
 
+    /// Whether an entry is being gathered, by the system itself, or by another one to whom it owes its part.
+    fn is_being_gathered(&self, entry: u32) -> bool
+        ensures { result ≡ star.is_being_gathered self.now entry }
+    {
+        self.gathers.has(entry) || self.owes.to(entry).is_some()
+    }
+
     /// Whether a system of these tasks may give up its interest in an entry. Its tasks are looked at last, since there are
     /// many.
     #[tactic(auto, using(crate::proofs::Flags::leaves))]
@@ -187,17 +200,23 @@ impl StarPart {
     {
         self.has_interest(entry)
             && self.is_done_with(entry)
+            && !self.is_being_gathered(entry)
             && !self.any_busy_in(entry, tasks.all())
     }
 
-    /// Whether something is pending: a request that is held, or an owner of another system who is still to be told.
+    /// Whether something is pending: a request that is held, an owner of another system who is still to be told, an entry
+    /// that is gathered, or a part that is owed.
     pub(crate) fn is_pending(&self) -> bool
         ensures { result ≡ star.is_part_pending self.now }
     {
-        !self.held.is_empty() || self.manager.any_untold(self.manager.system())
+        !self.held.is_empty()
+            || self.manager.any_untold(self.manager.system())
+            || self.gathers.any()
+            || self.owes.any()
     }
 
-    /// A task's request is sent to the manager of its entry, who may be the system itself.
+    /// A task's request is sent to the manager of its entry, who may be the system itself, unless the system gathers the
+    /// entry.
     pub(crate) fn send(
         &self,
         alloc: Global,
@@ -211,7 +230,7 @@ impl StarPart {
         };
         match self.manager.entry_wanted(&asked.req.want) {
             None => Ok(Need::Idle),
-            Some(entry) if self.manager.manages(entry) => Ok(Need::Alone),
+            Some(entry) if self.gathers.has(entry) => Ok(Need::Idle),
             Some(entry) => {
                 let req = request_of(alloc, task, asked)?;
                 Ok(Need::Asks(Act::Submit { entry, req }))
@@ -219,41 +238,52 @@ impl StarPart {
         }
     }
 
-    /// The request that was held first.
+    /// Whether a request that is held waits no longer for the lists of its entry.
+    fn may_settle(&self, req: &Req) -> bool
+        ensures { result ≡ star.may_settle self.now req.now }
+    {
+        match self.manager.entry_wanted(&req.want) {
+            Some(entry) => !self.gathers.has(entry),
+            None => true,
+        }
+    }
+
+    /// The place of the first request that is held of an entry that isn't gathered.
+    pub(crate) fn first_place(&self) -> Option<usize>
+        ensures { result ≡ position (star.may_settle self.now) self.now.held }
+    {
+        self.held.iter().position(|req| self.may_settle(req))
+    }
+
+    /// That request.
+    #[tactic(auto, using(crate::proofs::Settled::firsts))]
     fn first_held(&self) -> Option<&Req>
         ensures { option_copied result ≡ star.first_held self.now }
     {
-        self.held.front()
-    }
-
-    /// Whether it is of an entry that the system manages.
-    pub(crate) fn serves_first(&self) -> bool
-        ensures { result ≡ star.serves_any self.now (star.first_held self.now) }
-    {
-        match self.first_held() {
-            Some(req) => self.manager.serves(&req.want),
-            None => false,
+        match self.first_place() {
+            Some(place) => self.held.get(place),
+            None => None,
         }
     }
 
     /// It is answered by the lists of its entry.
+    #[tactic(auto, using(crate::proofs::Settled::first_is_served))]
     pub(crate) fn settle(&self) -> Result<Need, NoMemory>
+        requires { IsOrderly self.now }
         ensures { IfOk result (λ need. need ≡ star.settle_by self.now (star.first_held self.now)) }
     {
-        match self.first_held() {
-            Some(req) if self.manager.serves(&req.want) => {
-                let (answer, rank) = self.manager.decide(req)?;
-                Ok(Need::Asks(Act::Settle {
-                    to: req.task.system,
-                    mail: Mail::Answered {
-                        task: req.task,
-                        answer,
-                        rank,
-                    },
-                }))
-            }
-            _ => Ok(Need::Idle),
-        }
+        let Some(req) = self.first_held() else {
+            return Ok(Need::Idle);
+        };
+        let (answer, rank) = self.manager.decide(req)?;
+        Ok(Need::Asks(Act::Settle {
+            to: req.task.system,
+            mail: Mail::Answered {
+                task: req.task,
+                answer,
+                rank,
+            },
+        }))
     }
 
     /// The owner of another system who is to be told first that it owns a resource of an entry, with the resource.
@@ -273,6 +303,37 @@ impl StarPart {
                 to: task.system,
                 mail: Mail::Granted { task, res },
             })),
+        }
+    }
+
+    /// The part of an entry goes to the manager to whom it is owed, unless that one is known to be removed. The tasks have
+    /// these names.
+    #[tactic(auto, using(crate::proofs::Owed::named))]
+    pub(crate) fn part(
+        &self,
+        alloc: Global,
+        tasks: &Tasks,
+        names: &[TaskId],
+        known: u32,
+        entry: u32,
+    ) -> Result<Need, NoMemory>
+        requires { list_all star.is_owed_named self.now.owes ≡ true }
+        ensures { IfOk result (λ need. need ≡ star.part_by names.now known self.now tasks.now entry (star.owed_to self.now entry)) }
+    {
+        match self.owes.to(entry) {
+            Some(to) if !has_system(known, to) => {
+                let from = self.manager.system();
+                let records = part_of(alloc, tasks, names, self.manager.entries(), entry)?;
+                Ok(Need::Asks(Act::Tell {
+                    to,
+                    mail: Mail::Part {
+                        entry,
+                        from,
+                        records,
+                    },
+                }))
+            }
+            Some(_) | None => Ok(Need::Idle),
         }
     }
 

@@ -1,10 +1,13 @@
 //! What the events of star mode come to: what a system decides as a manager, and what the replies to its calls do to its
 //! tasks and its part.
-ghost use Rattle.std.specs.Prelude.{◌≡◌, ◌≢◌, ◌<◌, ◌==◌, [], Some, true, false, length, drop, IfOk, IfSome, IfNone, OnOk};
+ghost use Rattle.std.specs.Prelude.{◌≡◌, ◌≢◌, ◌<◌, ◌≤◌, ◌==◌, ℕ, [], Some, true, false, length, filter, IfOk, IfSome, IfNone, OnOk};
 ghost use Rattle.std.specs.List.{list_all};
 ghost use Rattle.std.specs.Option.{option_copied};
 ghost use Rattle.contention_mgr.specs.Manager.{after_request, items_of, managed_at};
+ghost use Rattle.grs_base.specs.Limits.{most_systems};
+ghost use Rattle.grs_node.specs.Names.{names_of};
 ghost use Rattle.grs_node.specs.Node as steps;
+ghost use Rattle.grs_node.specs.Removal.{IsOrderly};
 ghost use Rattle.grs_node.specs.Star as star;
 ghost use Rattle.grs_node.specs.Star.{starred};
 ghost use Rattle.grs_wire.specs.declared.deck.Choice.TheVariants.{Send, Take};
@@ -19,7 +22,8 @@ use super::star::{StarPart, request_of};
 use super::state::asked_alone;
 use contention_mgr::Manager;
 use grs_base::{List, NoMemory, Row, TaskId};
-use grs_wire::{Answer, Choice, Deck, Fixed, Mail, Reply, Req};
+use grs_wire::masks::has_system;
+use grs_wire::{Answer, Choice, Deck, Fixed, Mail, Moved, PartRec, Reply, Req};
 use queue_table::Outcome;
 use ring_mode::res_of;
 use star_client::{on_mail, tell_answer_ranked};
@@ -51,7 +55,8 @@ fn names_of_deck(deck: &Deck, answer: &Answer) -> bool
     }
 }
 
-/// Whether the tasks and systems that a mail names are of the deck.
+/// Whether the tasks and systems that a mail names are of the deck; of a notice the removed system, and of a part the
+/// sender and the entry.
 fn is_for_deck(deck: &Deck, mail: &Mail) -> bool
     ensures { result ≡ steps.is_for_deck deck.now mail.now }
 {
@@ -63,8 +68,40 @@ fn is_for_deck(deck: &Deck, mail: &Mail) -> bool
             is_of_deck(deck, *task) && names_of_deck(deck, answer)
         }
         Mail::Granted { task, .. } => is_of_deck(deck, *task),
-        Mail::Notice { .. } | Mail::Part { .. } => false,
+        Mail::Notice { target, .. } => (target.0 as usize) < deck.systems.len(),
+        Mail::Part { entry, from, .. } => {
+            *entry < deck.entries && (from.0 as usize) < deck.systems.len()
+        }
     }
+}
+
+/// Whether an item of a notice speaks of an entry that there is, and of systems of the deck alone.
+fn is_item_of(deck: &Deck, item: &Moved) -> bool
+    requires { length deck.now.systems ≤ most_systems }
+    ensures { result ≡ steps.is_item_of deck.now item.now }
+{
+    item.entry < deck.entries
+        && (item.manager.0 as usize) < deck.systems.len()
+        && item.mask < 1 << deck.systems.len()
+}
+
+/// Items of a notice without those that name what isn't of the deck.
+fn items_of_deck(deck: &Deck, moved: List<Moved>) -> List<Moved>
+    requires { length deck.now.systems ≤ most_systems }
+    ensures { result ≡ filter (steps.is_item_of deck.now) moved }
+{
+    let mut items = moved.into_vec();
+    items.retain(|item| is_item_of(deck, item));
+    List::from_vec(items)
+}
+
+/// Records of a part without those of tasks that aren't of the deck.
+fn records_of_deck(deck: &Deck, records: List<PartRec>) -> List<PartRec>
+    ensures { result ≡ filter (λ r. steps.is_of_deck deck.now r.task) records }
+{
+    let mut items = records.into_vec();
+    items.retain(|rec| is_of_deck(deck, rec.task));
+    List::from_vec(items)
 }
 
 /// What the system decided on a request of its own task as the manager of its entry is told: the asker's answer first, then
@@ -88,6 +125,17 @@ fn tell_ranked(
     } = outcome;
     tell_answer_ranked(alloc, tasks, req.task, answer, rank)?;
     tell_new(tasks, res_of(&req.want), owners.as_slice())
+}
+
+/// The system manages an entry from now on. The lists of one that it didn't manage are empty.
+fn manage(manager: &mut Manager, entry: u32) -> Result<(), NoMemory>
+    requires { entry < length manager.old.entries }
+    ensures { OnOk result (manager.new ≡ star.managing manager.old entry) }
+{
+    if manager.manages(entry) {
+        return Ok(());
+    }
+    manager.begin(entry)
 }
 
 /// The system manages an entry no longer.
@@ -122,13 +170,12 @@ impl StarPart {
         }
     }
 
-    /// The system manages an entry from now on, with empty lists.
+    /// The system manages an entry from now on, and has interest in it. The lists of one that it didn't manage are empty.
     fn begin(&mut self, entry: u32) -> Result<(), NoMemory>
         requires below { entry < length self.old.manager.entries }
-        requires free { star.manages self.old entry ≡ false }
         ensures { OnOk result (self.new ≡ star.begun self.old entry) }
     {
-        self.manager.begin(entry)?;
+        manage(&mut self.manager, entry)?;
         self.set_interest(entry, true);
         Ok(())
     }
@@ -170,7 +217,7 @@ impl StarPart {
         asked_alone(alloc, req)
     }
 
-    /// Nobody managed the entry of a task's request: the system does from now on, and decides it.
+    /// The system manages the entry of a task's request from now on, if it didn't before, and decides it.
     #[tactic(auto, using(crate::proofs::Calls::begins))]
     fn begin_own(
         &mut self,
@@ -179,7 +226,6 @@ impl StarPart {
         task: TaskId,
     ) -> Result<List<Fixed>, NoMemory>
         requires task { is_task tasks.old task ≡ true }
-        requires free { star.manages_asked self.old (star.entry_asked self.old (state_of tasks.old task).outstanding) ≡ false }
         ensures step { IfOk result (λ fixed. starred tasks.new self.new fixed ≡ star.begin_at tasks.old self.old task (state_of tasks.old task).outstanding (star.entry_asked self.old (state_of tasks.old task).outstanding)) }
         ensures system { tasks.new.system ≡ tasks.old.system }
         ensures count { length tasks.new.tasks ≡ length tasks.old.tasks }
@@ -230,11 +276,24 @@ impl StarPart {
         }
     }
 
-    /// A request of another system is held last, where it is of this entry and the system manages it.
-    fn hold(&mut self, entry: u32, req: Req) -> Result<(), NoMemory>
-        ensures { OnOk result (self.new ≡ star.with_held self.old entry req) }
+    /// Whether a request of another system is to be held: it is of this entry, which the system manages or gathers, and its
+    /// system isn't known to be removed.
+    fn is_held_for(&self, known: u32, entry: u32, req: &Req) -> bool
+        requires { req.now.task.system.0 < most_systems }
+        ensures { result ≡ star.is_held_for known self.now entry req.now }
     {
-        if !(self.is_req_of(entry, &req) && self.manager.manages(entry)) {
+        self.is_req_of(entry, req)
+            && (self.manager.manages(entry) || self.gathers.has(entry))
+            && !has_system(known, req.task.system)
+    }
+
+    /// A request of another system is held last, where it is of this entry and the system manages or gathers it. One of a
+    /// system that is known to be removed is dropped.
+    fn hold(&mut self, known: u32, entry: u32, req: Req) -> Result<(), NoMemory>
+        requires { req.task.system.0 < most_systems }
+        ensures { OnOk result (self.new ≡ star.with_held known self.old entry req) }
+    {
+        if !self.is_held_for(known, entry, &req) {
             return Ok(());
         }
         match self.held.push_back(req) {
@@ -243,15 +302,40 @@ impl StarPart {
         }
     }
 
-    /// A mail was taken from the inbox.
-    #[tactic(auto, unfolding(crate::specs::Star::took_mail, star_client::specs::Client::after_mail))]
-    fn took(&mut self, alloc: Global, tasks: &mut Tasks, mail: Mail) -> Result<(), NoMemory>
-        ensures step { OnOk result (starred tasks.new self.new [] ≡ star.took_mail tasks.old self.old mail) }
+    /// A mail was taken from the inbox, at a system that knows this set of systems to be removed. Its tasks have these names.
+    /// The items of a notice, and the records of a part, that name what isn't of the deck have no effect.
+    #[tactic(auto, using(crate::proofs::Fits::senders_fit), unfolding(crate::specs::Node::took_mail, star_client::specs::Client::after_mail))]
+    fn took(
+        &mut self,
+        alloc: Global,
+        deck: &Deck,
+        tasks: &mut Tasks,
+        names: &[TaskId],
+        known: u32,
+        mail: Mail,
+    ) -> Result<(), NoMemory>
+        requires names { names.now ≡ names_of deck.now tasks.old.system }
+        requires orderly { IsOrderly self.old }
+        requires few { length deck.now.systems ≤ most_systems }
+        requires mail { steps.is_for_deck deck.now mail ≡ true }
+        ensures step { OnOk result (starred tasks.new self.new [] ≡ steps.took_mail deck.now known tasks.old self.old mail) }
         ensures system { tasks.new.system ≡ tasks.old.system }
         ensures count { length tasks.new.tasks ≡ length tasks.old.tasks }
     {
         match mail {
-            Mail::Request { entry, req, .. } => self.hold(entry, req),
+            Mail::Request { entry, req, .. } => self.hold(known, entry, req),
+            Mail::Notice { moved, .. } => {
+                let items = items_of_deck(deck, moved);
+                self.took_notice(alloc, tasks, names, known, items.as_slice())
+            }
+            Mail::Part {
+                entry,
+                from,
+                records,
+            } => {
+                let records = records_of_deck(deck, records);
+                self.took_part(alloc, tasks, names, known, entry, from, records)
+            }
             mail => on_mail(alloc, tasks, mail),
         }
     }
@@ -262,14 +346,19 @@ impl StarPart {
         alloc: Global,
         deck: &Deck,
         tasks: &mut Tasks,
+        names: &[TaskId],
+        known: u32,
         mail: Mail,
     ) -> Result<(), NoMemory>
-        ensures step { OnOk result (starred tasks.new self.new [] ≡ steps.take_mail deck.now tasks.old self.old mail) }
+        requires names { names.now ≡ names_of deck.now tasks.old.system }
+        requires orderly { IsOrderly self.old }
+        requires few { length deck.now.systems ≤ most_systems }
+        ensures step { OnOk result (starred tasks.new self.new [] ≡ steps.take_mail deck.now known tasks.old self.old mail) }
         ensures system { tasks.new.system ≡ tasks.old.system }
         ensures count { length tasks.new.tasks ≡ length tasks.old.tasks }
     {
         if is_for_deck(deck, &mail) {
-            self.took(alloc, tasks, mail)
+            self.took(alloc, deck, tasks, names, known, mail)
         } else {
             Ok(())
         }
@@ -281,44 +370,48 @@ impl StarPart {
         alloc: Global,
         deck: &Deck,
         tasks: &mut Tasks,
+        names: &[TaskId],
+        known: u32,
         reply: Reply,
     ) -> Result<List<Fixed>, NoMemory>
-        ensures step { IfOk result (λ fixed. starred tasks.new self.new fixed ≡ steps.take_step deck.now tasks.old self.old reply) }
+        requires names { names.now ≡ names_of deck.now tasks.old.system }
+        requires orderly { IsOrderly self.old }
+        requires few { length deck.now.systems ≤ most_systems }
+        ensures step { IfOk result (λ fixed. starred tasks.new self.new fixed ≡ steps.take_step deck.now known tasks.old self.old reply) }
         ensures system { tasks.new.system ≡ tasks.old.system }
         ensures count { length tasks.new.tasks ≡ length tasks.old.tasks }
     {
         match reply {
             Reply::Taken { mail } => {
-                self.take(alloc, deck, tasks, mail)?;
+                self.take(alloc, deck, tasks, names, known, mail)?;
                 Ok(List::new(alloc))
             }
             _ => Ok(List::new(alloc)),
         }
     }
 
-    /// Takes the request out that was held first, if it is of an entry that the system manages.
-    fn pop_served(&mut self) -> Option<Req>
-        ensures first { IfSome result (λ req. star.first_held self.old ≡ Some req) }
-        ensures served { IfSome result (λ req. star.serves self.old req ≡ true) }
-        ensures rest { IfSome result (λ _. self.new ≡ record self.old { held = drop 1 self.old.held }) }
-        ensures none { IfNone result (star.serves_any self.old (star.first_held self.old) ≡ false) }
+    /// Takes the first request out that is held of an entry that isn't gathered.
+    #[tactic(auto, using(crate::proofs::Settled::firsts))]
+    fn pop_first(&mut self) -> Option<Req>
+        ensures first { result ≡ star.first_held self.old }
+        ensures rest { IfSome result (λ _. self.new ≡ record self.old { held = star.besides_first (star.may_settle self.old) self.old.held }) }
         ensures same { IfNone result (self.new ≡ self.old) }
     {
-        if self.serves_first() {
-            self.held.pop_front()
-        } else {
-            None
+        match self.first_place() {
+            Some(place) => self.held.remove(place),
+            None => None,
         }
     }
 
-    /// The request that was held first was settled: control for the own tasks that became owners.
-    #[tactic(auto, using(crate::proofs::Settled::settles))]
+    /// It was settled: control for the own tasks that became owners.
+    #[tactic(auto, using(crate::proofs::Settled::first_is_served))]
     fn settled(&mut self, alloc: Global, tasks: &mut Tasks) -> Result<List<Fixed>, NoMemory>
+        requires { IsOrderly self.old }
         ensures step { IfOk result (λ fixed. starred tasks.new self.new fixed ≡ star.settled_by tasks.old self.old (star.first_held self.old)) }
         ensures system { tasks.new.system ≡ tasks.old.system }
         ensures count { length tasks.new.tasks ≡ length tasks.old.tasks }
     {
-        let Some(req) = self.pop_served() else {
+        let Some(req) = self.pop_first() else {
             return Ok(List::new(alloc));
         };
         let outcome = self.manager.settle(&req)?;
@@ -354,6 +447,7 @@ impl StarPart {
         tasks: &mut Tasks,
         reply: &Reply,
     ) -> Result<List<Fixed>, NoMemory>
+        requires { IsOrderly self.old }
         ensures step { IfOk result (λ fixed. starred tasks.new self.new fixed ≡ star.settle_step tasks.old self.old reply.now) }
         ensures system { tasks.new.system ≡ tasks.old.system }
         ensures count { length tasks.new.tasks ≡ length tasks.old.tasks }
@@ -371,6 +465,15 @@ impl StarPart {
         match reply {
             Reply::Told => self.told(entry),
             _ => Ok(()),
+        }
+    }
+
+    /// What the reply to a Tell that sends a part comes to.
+    fn finish_part(&mut self, tasks: &Tasks, entry: u32, reply: &Reply)
+        ensures { starred tasks.now self.new [] ≡ star.part_step tasks.now self.old entry reply.now }
+    {
+        if let Reply::Told = reply {
+            self.owes.set(entry, None);
         }
     }
 
@@ -394,7 +497,8 @@ impl StarPart {
     ) -> Result<List<Fixed>, NoMemory>
         requires call { star.was_prepared tasks.old self.old choice ≡ true }
         requires other { choice ≢ Take }
-        ensures step { (deck : DeckValue) → IfOk result (λ fixed. starred tasks.new self.new fixed ≡ steps.star_step deck tasks.old self.old choice reply.now) }
+        requires orderly { IsOrderly self.old }
+        ensures step { (deck : DeckValue) (known : ℕ) → IfOk result (λ fixed. starred tasks.new self.new fixed ≡ steps.star_step deck known tasks.old self.old choice reply.now) }
         ensures system { tasks.new.system ≡ tasks.old.system }
         ensures count { length tasks.new.tasks ≡ length tasks.old.tasks }
     {
@@ -405,6 +509,10 @@ impl StarPart {
                 self.finish_tell(tasks, entry, reply)?;
                 Ok(List::new(alloc))
             }
+            Choice::Part(entry) => {
+                self.finish_part(tasks, entry, reply);
+                Ok(List::new(alloc))
+            }
             Choice::Leave(entry) => {
                 self.finish_leave(tasks, entry, reply);
                 Ok(List::new(alloc))
@@ -412,29 +520,34 @@ impl StarPart {
             Choice::Task(_)
             | Choice::Turn
             | Choice::Take
-            | Choice::Part(_)
             | Choice::Switch
             | Choice::Purge(_)
             | Choice::Rest => Ok(List::new(alloc)),
         }
     }
 
-    /// What the reply to a call of star mode comes to. Those that say nothing new change nothing.
+    /// What the reply to a call of star mode comes to, at a system that knows this set of systems to be removed. Those that
+    /// say nothing new change nothing.
     pub(crate) fn finish(
         &mut self,
         alloc: Global,
         deck: &Deck,
         tasks: &mut Tasks,
+        names: &[TaskId],
+        known: u32,
         choice: Choice,
         reply: Reply,
     ) -> Result<List<Fixed>, NoMemory>
-        requires { star.was_prepared tasks.old self.old choice ≡ true }
-        ensures step { IfOk result (λ fixed. starred tasks.new self.new fixed ≡ steps.star_step deck.now tasks.old self.old choice reply) }
+        requires call { star.was_prepared tasks.old self.old choice ≡ true }
+        requires names { names.now ≡ names_of deck.now tasks.old.system }
+        requires orderly { IsOrderly self.old }
+        requires few { length deck.now.systems ≤ most_systems }
+        ensures step { IfOk result (λ fixed. starred tasks.new self.new fixed ≡ steps.star_step deck.now known tasks.old self.old choice reply) }
         ensures system { tasks.new.system ≡ tasks.old.system }
         ensures count { length tasks.new.tasks ≡ length tasks.old.tasks }
     {
         match choice {
-            Choice::Take => self.finish_take(alloc, deck, tasks, reply),
+            Choice::Take => self.finish_take(alloc, deck, tasks, names, known, reply),
             choice => self.finish_by(alloc, tasks, choice, &reply),
         }
     }

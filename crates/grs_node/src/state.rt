@@ -10,7 +10,6 @@ ghost use Rattle.grs_wire.specs.declared.request.Fixed.TheVariants as fixes;
 ghost use Rattle.grs_node.specs.Node as steps;
 ghost use Rattle.grs_node.specs.Node.{are_of_system};
 ghost use Rattle.grs_node.specs.Log.{stepped};
-ghost use Rattle.grs_node.specs.Star.{manages_if_asked};
 ghost use Rattle.task_state.specs.Replies as replies;
 
 use super::lines::meaning_at;
@@ -461,21 +460,8 @@ impl NodeState {
         }
     }
 
-    /// A manager decides the request of its own task that waits to be sent.
-    fn send_own(&mut self, alloc: Global, task: TaskId) -> Result<List<Fixed>, NoMemory>
-        requires task { is_task self.old.tasks task ≡ true }
-        requires decides { IfSome self.old.star (λ p. manages_if_asked p (state_of self.old.tasks task).outstanding ≡ true) }
-        ensures step { IfOk result (λ fixed. stepped self.new fixed ≡ steps.send_own self.old task self.old.star) }
-        ensures system { self.new.tasks.system ≡ self.old.tasks.system }
-    {
-        match &mut self.star {
-            None => Ok(List::new(alloc)),
-            Some(part) => part.decide_own(alloc, &mut self.tasks, task),
-        }
-    }
-
     /// A choice that is done without a call of the medium.
-    #[tactic(auto, using(crate::proofs::Deck::of_system, crate::proofs::Calls::quiet_sends), unfolding(crate::specs::Node::finish_quiet))]
+    #[tactic(auto, using(crate::proofs::Deck::of_system), unfolding(crate::specs::Node::finish_quiet))]
     pub(crate) fn finish_quiet(
         &mut self,
         alloc: Global,
@@ -495,8 +481,8 @@ impl NodeState {
                 let lines = lines_among(scripts, task);
                 self.task_step(alloc, resolver, task, lines, deck.limit)
             }
-            Choice::Send(task) => self.send_own(alloc, task),
             Choice::Turn
+            | Choice::Send(_)
             | Choice::Take
             | Choice::Settle
             | Choice::Tell(_)

@@ -1,10 +1,13 @@
 //! A system's part of a turn: it reads the entries that it hasn't seen, and its requests are put in.
 ghost use Rattle.std.specs.Prelude.{◌≡◌, ◌≢◌, ◌<◌, ◌≤◌, true, take, drop, length, map, slice_get, IfOk, IfSome, OnOk};
 ghost use Rattle.grs_base.specs.Limits.{most_systems, most_commands};
+ghost use Rattle.grs_wire.specs.declared.deck.Deck.{Deck as DeckValue};
 ghost use Rattle.grs_wire.specs.declared.medium.RingBody.TheVariants.{Request};
 ghost use Rattle.grs_wire.specs.declared.request.Fixed.TheVariants as fixes;
 ghost use Rattle.grs_wire.specs.Unseen.{unseen};
 ghost use Rattle.grs_node.specs.Addressed.{TargetFits};
+ghost use Rattle.grs_node.specs.Removal.{IsOrderly, members};
+ghost use Rattle.grs_node.specs.Names.{names_of};
 ghost use Rattle.grs_node.specs.Node as steps;
 ghost use Rattle.grs_node.specs.Node.{are_of_system};
 ghost use Rattle.grs_node.specs.Finish.{may_come};
@@ -12,9 +15,10 @@ ghost use Rattle.grs_node.specs.Log.{stepped};
 ghost use Rattle.grs_node.specs.Star.{was_prepared};
 ghost use Rattle.mode_migrate.specs.Migrate.{AreApart};
 
+use super::removal::without_those;
 use super::scripts::is_of_deck;
 use super::state::NodeState;
-use grs_base::{List, NoMemory, SysId};
+use grs_base::{List, NoMemory, SysId, TaskId};
 use grs_wire::masks::has_system;
 use grs_wire::{Choice, Deck, Fixed, Reply, Req, RingBody, RingEntry, Said};
 use ring_mode::on_request;
@@ -165,6 +169,46 @@ impl NodeState {
         all_asked(alloc, first)
     }
 
+    /// In star mode the system loses the removed systems of this set.
+    #[tactic(auto, unfolding(crate::specs::Node::losing))]
+    pub(crate) fn lose(
+        &mut self,
+        alloc: Global,
+        names: &[TaskId],
+        systems: u32,
+    ) -> Result<(), NoMemory>
+        requires { IfSome self.old.star IsOrderly }
+        ensures step { (deck : DeckValue) → names.now ≡ names_of deck self.old.tasks.system → OnOk result (self.new ≡ steps.losing deck self.old (members systems)) }
+        ensures system { self.new.tasks.system ≡ self.old.tasks.system }
+        ensures count { length self.new.tasks.tasks ≡ length self.old.tasks.tasks }
+    {
+        match &mut self.star {
+            None => Ok(()),
+            Some(part) => part.lose_all(alloc, &mut self.tasks, names, systems),
+        }
+    }
+
+    /// The system is told which systems are removed. In star mode it loses those of which it didn't know.
+    #[tactic(auto, unfolding(crate::specs::Node::stale))]
+    fn stale(
+        &mut self,
+        alloc: Global,
+        deck: &Deck,
+        names: &[TaskId],
+        set: u32,
+    ) -> Result<(), NoMemory>
+        requires few { length deck.now.systems ≤ most_systems }
+        requires names { names.now ≡ names_of deck.now self.old.tasks.system }
+        requires orderly { IfSome self.old.star IsOrderly }
+        ensures step { OnOk result (self.new ≡ steps.stale deck.now self.old set) }
+        ensures system { self.new.tasks.system ≡ self.old.tasks.system }
+    {
+        let known = known_from(deck, self.known, set);
+        let more = without_those(self.known, known);
+        self.known = known;
+        self.lose(alloc, names, more)
+    }
+
     /// What a Turn at the message comes to, of which these entries were given. Where the message is closed the system
     /// changes to star mode.
     #[tactic(auto, unfolding(crate::specs::Node::turned))]
@@ -172,18 +216,20 @@ impl NodeState {
         &mut self,
         alloc: Global,
         deck: &Deck,
+        names: &[TaskId],
         entries: &[RingEntry],
         taken: u32,
         closed: bool,
     ) -> Result<List<Fixed>, NoMemory>
         requires entries { deck.now.entries ≢ 0 }
         requires apart { AreApart self.old.shared }
+        requires names { names.now ≡ names_of deck.now self.old.tasks.system }
         ensures step { IfOk result (λ fixed. stepped self.new fixed ≡ steps.turned deck.now self.old entries.now taken closed) }
         ensures system { self.new.tasks.system ≡ self.old.tasks.system }
     {
         self.read_entries(alloc, deck, entries)?;
         let fixed = self.put_in(alloc, taken)?;
-        self.change_if(alloc, deck, closed)?;
+        self.change_if(alloc, deck, names, closed)?;
         Ok(fixed)
     }
 
@@ -193,6 +239,7 @@ impl NodeState {
         &mut self,
         alloc: Global,
         deck: &Deck,
+        names: &[TaskId],
         entries: &[RingEntry],
         system: SysId,
         taken: u32,
@@ -201,12 +248,13 @@ impl NodeState {
         requires system { system.0 < most_systems }
         requires entries { deck.now.entries ≢ 0 }
         requires apart { AreApart self.old.shared }
+        requires names { names.now ≡ names_of deck.now self.old.tasks.system }
         ensures step { IfOk result (λ fixed. stepped self.new fixed ≡ steps.turned deck.now self.old (unseen system entries.now) taken closed) }
         ensures system { self.new.tasks.system ≡ self.old.tasks.system }
     {
         self.read_unseen(alloc, deck, entries, system)?;
         let fixed = self.put_in(alloc, taken)?;
-        self.change_if(alloc, deck, closed)?;
+        self.change_if(alloc, deck, names, closed)?;
         Ok(fixed)
     }
 
@@ -216,16 +264,30 @@ impl NodeState {
         &mut self,
         alloc: Global,
         deck: &Deck,
+        names: &[TaskId],
         choice: Choice,
         reply: Reply,
     ) -> Result<List<Fixed>, NoMemory>
-        requires { IfSome self.old.star (λ p. was_prepared self.old.tasks p choice ≡ true) }
+        requires call { IfSome self.old.star (λ p. was_prepared self.old.tasks p choice ≡ true) }
+        requires names { names.now ≡ names_of deck.now self.old.tasks.system }
+        requires orderly { IfSome self.old.star IsOrderly }
+        requires few { length deck.now.systems ≤ most_systems }
         ensures step { IfOk result (λ fixed. stepped self.new fixed ≡ steps.finish_star deck.now self.old self.old.star choice reply) }
         ensures system { self.new.tasks.system ≡ self.old.tasks.system }
     {
         match &mut self.star {
             None => Ok(List::new(alloc)),
-            Some(part) => part.finish(alloc, deck, &mut self.tasks, choice, reply),
+            Some(part) => {
+                part.finish(
+                    alloc,
+                    deck,
+                    &mut self.tasks,
+                    names,
+                    self.known,
+                    choice,
+                    reply,
+                )
+            }
         }
     }
 
@@ -235,6 +297,7 @@ impl NodeState {
         &mut self,
         alloc: Global,
         deck: &Deck,
+        names: &[TaskId],
         choice: Choice,
         reply: Reply,
     ) -> Result<List<Fixed>, NoMemory>
@@ -244,6 +307,8 @@ impl NodeState {
         requires desk { steps.desk_count (slice_get deck.now.systems self.old.tasks.system) ≤ most_commands }
         requires target { TargetFits choice }
         requires apart { AreApart self.old.shared }
+        requires names { names.now ≡ names_of deck.now self.old.tasks.system }
+        requires orderly { IfSome self.old.star IsOrderly }
         ensures step { IfOk result (λ fixed. stepped self.new fixed ≡ steps.finish_call deck.now self.old choice reply) }
         ensures system { self.new.tasks.system ≡ self.old.tasks.system }
     {
@@ -252,20 +317,20 @@ impl NodeState {
                 entries,
                 taken,
                 closed,
-            } => self.turned(alloc, deck, entries.as_slice(), taken, closed),
+            } => self.turned(alloc, deck, names, entries.as_slice(), taken, closed),
             Reply::Stale { set } => {
-                self.known = known_from(deck, self.known, set);
+                self.stale(alloc, deck, names, set)?;
                 Ok(List::new(alloc))
             }
             Reply::Switched => {
-                self.switched(alloc, deck)?;
+                self.switched(alloc, deck, names)?;
                 Ok(List::new(alloc))
             }
             Reply::Already => {
                 self.desk_told(Said::StarAlready)?;
                 Ok(List::new(alloc))
             }
-            Reply::Purged => self.purged(alloc, choice),
+            Reply::Purged => self.purged(alloc, deck, names, choice),
             Reply::NoSuch => {
                 self.desk_told(Said::VaryNoSuch)?;
                 Ok(List::new(alloc))
@@ -274,7 +339,7 @@ impl NodeState {
                 self.desk_told(Said::VaryInStar)?;
                 Ok(List::new(alloc))
             }
-            reply => self.finish_star(alloc, deck, choice, reply),
+            reply => self.finish_star(alloc, deck, names, choice, reply),
         }
     }
 }

@@ -1,6 +1,6 @@
 -- A deck's own events are read by nothing in a run, nor by what is said of one.
-use Rattle.std.proofs.Common.{◌≡◌, ℕ, ◌+◌, Bool, cond, List, [], ◌∷◌, length, Option, None, Some, refl, ap, ◌∙◌}
-use Rattle.std.specs.Prelude.{slice_get}
+use Rattle.std.proofs.Common.{◌≡◌, ℕ, ◌+◌, Bool, cond, ◌&&◌, List, [], ◌∷◌, length, Option, None, Some, refl, ap, ◌∙◌}
+use Rattle.std.specs.Prelude.{is_none, slice_get}
 use Rattle.grs_base.specs.declared.resource.SysId.{SysId}
 use Rattle.grs_medium.specs.Apply.{medium_after, reply_to}
 use Rattle.grs_medium.specs.Medium.{MediumState, first_medium}
@@ -8,10 +8,12 @@ use Rattle.grs_node.specs.Node.{NodeState, Step, change_to_star, changed_if, fin
 use Rattle.grs_node.specs.Node.{finish_star, first_node, is_for_deck, is_pending, may_go, may_send, only, prepare}
 use Rattle.grs_node.specs.Node.{put_in, read_entries, read_entry, star_call, star_step, switched, take_mail, take_step}
 use Rattle.grs_node.specs.Node.{turned, with_star}
-use Rattle.grs_node.specs.Star.{StarPart, StarStep, fixing_none, took_mail}
+use Rattle.grs_node.specs.Node.{changed, desk_told, known_from, losing, losing_in, purged, stale, took_mail}
+use Rattle.grs_node.specs.Removal.{members, without_those}
+use Rattle.grs_node.specs.Star.{StarPart, StarStep, fixing_none}
 use Rattle.grs_node.specs.declared.prepared.Prepared.{Prepared}
 use Rattle.grs_node.specs.declared.prepared.Prepared.TheVariants.{Quiet, Call, Nothing}
-use Rattle.grs_wire.specs.Masks.{has}
+use Rattle.grs_wire.specs.Masks.{has, with_also}
 use Rattle.grs_wire.specs.declared.deck.Choice.{Choice}
 use Rattle.grs_wire.specs.declared.deck.Choice.TheVariants as choices
 use Rattle.grs_wire.specs.declared.deck.Deck.{Deck}
@@ -24,7 +26,8 @@ use Rattle.grs_wire.specs.declared.medium.Reply.TheVariants as replies
 use Rattle.grs_wire.specs.declared.medium.RingBody.{RingBody}
 use Rattle.grs_wire.specs.declared.medium.RingBody.TheVariants as bodies
 use Rattle.grs_wire.specs.declared.medium.RingEntry.{RingEntry}
-use Rattle.grs_wire.specs.declared.request.Answer.{Answer}
+use Rattle.grs_wire.specs.declared.request.Fixed.TheVariants.{Purged}
+use Rattle.grs_wire.specs.declared.told.Said.TheVariants as saids
 use Rattle.grs_wire.specs.declared.request.Answer.TheVariants.{Coded, Rows}
 use Rattle.task_state.specs.View.{TasksView}
 use Rattle.grs_top.specs.Schedules.{unscheduled}
@@ -92,15 +95,59 @@ read_entries-bare deck n (e ∷ es) =
     read_entries-bare deck (read_entry (unscheduled deck) n e.body) es
     ∙ ap (λ (m : NodeState). read_entries deck m es) (read_entry-bare deck n e.body)
 
+-- ---- the loss of systems, also behind the change to star mode
+losing-bare : (deck : Deck) (n : NodeState) (ss : List SysId) → losing (unscheduled deck) n ss ≡ losing deck n ss
+unfolding losing
+losing-bare deck n ss = go n.star
+  where
+    go : (o : Option StarPart) → losing_in (unscheduled deck) n o ss ≡ losing_in deck n o ss
+    go None = refl
+    go (Some p) = refl
+
+stale-bare : (deck : Deck) (n : NodeState) (set : ℕ) → stale (unscheduled deck) n set ≡ stale deck n set
+unfolding stale
+stale-bare deck n set =
+    let known : ℕ = known_from deck n.known set in
+    losing-bare deck (record n { known = known }) (members (without_those n.known known))
+
+changed-bare : (deck : Deck) (n : NodeState) → changed (unscheduled deck) n ≡ changed deck n
+unfolding change_to_star
+changed-bare deck n = losing-bare deck (change_to_star deck n) (members n.known)
+
+changed_if-bare : (deck : Deck) (closed : Bool) (s : Step)
+    → changed_if (unscheduled deck) closed s ≡ changed_if deck closed s
+changed_if-bare deck closed s =
+    ap (λ (m : NodeState). cond (closed && is_none s.node.star) (record { node = m; fixed = s.fixed }) s)
+    (changed-bare deck s.node)
+
 turned-bare : (deck : Deck) (n : NodeState) (es : List RingEntry) (taken : ℕ) (closed : Bool)
     → turned (unscheduled deck) n es taken closed ≡ turned deck n es taken closed
-unfolding turned change_to_star
+unfolding turned
 turned-bare deck n es taken closed =
-    ap (λ (m : NodeState). changed_if deck closed (put_in m taken)) (read_entries-bare deck n es)
+    changed_if-bare deck closed (put_in (read_entries (unscheduled deck) n es) taken)
+    ∙ ap (λ (m : NodeState). changed_if deck closed (put_in m taken)) (read_entries-bare deck n es)
 
 switched-bare : (deck : Deck) (n : NodeState) → switched (unscheduled deck) n ≡ switched deck n
-unfolding switched change_to_star
-switched-bare deck n = refl
+unfolding switched
+switched-bare deck n =
+    ap (λ (m : NodeState). cond (is_none n.star) m n) (changed-bare deck (desk_told n saids.StarDone))
+
+purged-bare : (deck : Deck) (n : NodeState) (choice : Choice)
+    → purged (unscheduled deck) n choice ≡ purged deck n choice
+unfolding purged
+purged-bare deck n (choices.Purge target) =
+    ap (λ (m : NodeState). let x : Step = record { node = m; fixed = Purged target ∷ [] } in x)
+    (losing-bare deck (record (desk_told n saids.VaryDone) { known = with_also n.known target.0 }) (target ∷ []))
+purged-bare deck n (choices.Task t) = refl
+purged-bare deck n choices.Turn = refl
+purged-bare deck n (choices.Send t) = refl
+purged-bare deck n choices.Take = refl
+purged-bare deck n choices.Settle = refl
+purged-bare deck n (choices.Tell e) = refl
+purged-bare deck n (choices.Part e) = refl
+purged-bare deck n (choices.Leave e) = refl
+purged-bare deck n choices.Switch = refl
+purged-bare deck n choices.Rest = refl
 
 -- ---- mail
 for_deck-bare : (deck : Deck) (mail : Mail) → is_for_deck (unscheduled deck) mail ≡ is_for_deck deck mail
@@ -111,65 +158,76 @@ for_deck-bare deck (mails.Granted t r) = refl
 for_deck-bare deck (mails.Notice target moved) = refl
 for_deck-bare deck (mails.Part e from records) = refl
 
-take_step-bare : (deck : Deck) (v : TasksView) (p : StarPart) (reply : Reply)
-    → take_step (unscheduled deck) v p reply ≡ take_step deck v p reply
-take_step-bare deck v p (replies.Turned es taken closed) = refl
-take_step-bare deck v p (replies.NotYours h) = refl
-take_step-bare deck v p (replies.Behind f) = refl
-take_step-bare deck v p replies.Switched = refl
-take_step-bare deck v p replies.Already = refl
-take_step-bare deck v p replies.Sole = refl
-take_step-bare deck v p replies.Sent = refl
-take_step-bare deck v p (replies.Taken mail) = by_test (for_deck-bare deck mail)
+took-bare : (deck : Deck) (known : ℕ) (v : TasksView) (p : StarPart) (mail : Mail)
+    → took_mail (unscheduled deck) known v p mail ≡ took_mail deck known v p mail
+unfolding took_mail
+took-bare deck known v p (mails.Request e from q) = refl
+took-bare deck known v p (mails.Answered t answer rank) = refl
+took-bare deck known v p (mails.Granted t r) = refl
+took-bare deck known v p (mails.Notice target moved) = refl
+took-bare deck known v p (mails.Part e from records) = refl
+
+take_step-bare : (deck : Deck) (known : ℕ) (v : TasksView) (p : StarPart) (reply : Reply)
+    → take_step (unscheduled deck) known v p reply ≡ take_step deck known v p reply
+take_step-bare deck known v p (replies.Turned es taken closed) = refl
+take_step-bare deck known v p (replies.NotYours h) = refl
+take_step-bare deck known v p (replies.Behind f) = refl
+take_step-bare deck known v p replies.Switched = refl
+take_step-bare deck known v p replies.Already = refl
+take_step-bare deck known v p replies.Sole = refl
+take_step-bare deck known v p replies.Sent = refl
+take_step-bare deck known v p (replies.Taken mail) = by_test (for_deck-bare deck mail)
   where
     by_test : is_for_deck (unscheduled deck) mail ≡ is_for_deck deck mail
-        → take_mail (unscheduled deck) v p mail ≡ take_mail deck v p mail
-    by_test h = ap (λ (b : Bool). cond b (took_mail v p mail) (fixing_none v p)) h
-take_step-bare deck v p replies.Empty = refl
-take_step-bare deck v p replies.Settled = refl
-take_step-bare deck v p replies.Told = refl
-take_step-bare deck v p replies.Left = refl
-take_step-bare deck v p (replies.Kept m) = refl
-take_step-bare deck v p replies.Yours = refl
-take_step-bare deck v p replies.Old = refl
-take_step-bare deck v p replies.Purged = refl
-take_step-bare deck v p replies.NoSuch = refl
-take_step-bare deck v p replies.InStar = refl
-take_step-bare deck v p replies.Resting = refl
-take_step-bare deck v p replies.Over = refl
-take_step-bare deck v p (replies.Stale s) = refl
-take_step-bare deck v p replies.Removed = refl
+        → take_mail (unscheduled deck) known v p mail ≡ take_mail deck known v p mail
+    by_test h =
+        ap (λ (b : Bool). cond b (took_mail (unscheduled deck) known v p mail) (fixing_none v p)) h
+        ∙ ap (λ (s : StarStep). cond (is_for_deck deck mail) s (fixing_none v p)) (took-bare deck known v p mail)
+take_step-bare deck known v p replies.Empty = refl
+take_step-bare deck known v p replies.Settled = refl
+take_step-bare deck known v p replies.Told = refl
+take_step-bare deck known v p replies.Left = refl
+take_step-bare deck known v p (replies.Kept m) = refl
+take_step-bare deck known v p replies.Yours = refl
+take_step-bare deck known v p replies.Old = refl
+take_step-bare deck known v p replies.Purged = refl
+take_step-bare deck known v p replies.NoSuch = refl
+take_step-bare deck known v p replies.InStar = refl
+take_step-bare deck known v p replies.Resting = refl
+take_step-bare deck known v p replies.Over = refl
+take_step-bare deck known v p (replies.Stale s) = refl
+take_step-bare deck known v p replies.Removed = refl
 
-star_step-bare : (deck : Deck) (v : TasksView) (p : StarPart) (choice : Choice) (reply : Reply)
-    → star_step (unscheduled deck) v p choice reply ≡ star_step deck v p choice reply
-star_step-bare deck v p (choices.Task t) reply = refl
-star_step-bare deck v p choices.Turn reply = refl
-star_step-bare deck v p (choices.Send t) reply = refl
-star_step-bare deck v p choices.Take reply = take_step-bare deck v p reply
-star_step-bare deck v p choices.Settle reply = refl
-star_step-bare deck v p (choices.Tell e) reply = refl
-star_step-bare deck v p (choices.Part e) reply = refl
-star_step-bare deck v p (choices.Leave e) reply = refl
-star_step-bare deck v p choices.Switch reply = refl
-star_step-bare deck v p (choices.Purge s) reply = refl
-star_step-bare deck v p choices.Rest reply = refl
+star_step-bare : (deck : Deck) (known : ℕ) (v : TasksView) (p : StarPart) (choice : Choice) (reply : Reply)
+    → star_step (unscheduled deck) known v p choice reply ≡ star_step deck known v p choice reply
+star_step-bare deck known v p (choices.Task t) reply = refl
+star_step-bare deck known v p choices.Turn reply = refl
+star_step-bare deck known v p (choices.Send t) reply = refl
+star_step-bare deck known v p choices.Take reply = take_step-bare deck known v p reply
+star_step-bare deck known v p choices.Settle reply = refl
+star_step-bare deck known v p (choices.Tell e) reply = refl
+star_step-bare deck known v p (choices.Part e) reply = refl
+star_step-bare deck known v p (choices.Leave e) reply = refl
+star_step-bare deck known v p choices.Switch reply = refl
+star_step-bare deck known v p (choices.Purge s) reply = refl
+star_step-bare deck known v p choices.Rest reply = refl
 
 finish_star-bare : (deck : Deck) (n : NodeState) (o : Option StarPart) (choice : Choice) (reply : Reply)
     → finish_star (unscheduled deck) n o choice reply ≡ finish_star deck n o choice reply
 unfolding finish_star
 finish_star-bare deck n None choice reply = refl
 finish_star-bare deck n (Some p) choice reply =
-    ap (λ (s : StarStep). with_star n s) (star_step-bare deck n.tasks p choice reply)
+    ap (λ (s : StarStep). with_star n s) (star_step-bare deck n.known n.tasks p choice reply)
 
 -- ---- a reply
 finish_call-bare : (deck : Deck) (n : NodeState) (choice : Choice) (reply : Reply)
     → finish_call (unscheduled deck) n choice reply ≡ finish_call deck n choice reply
 unfolding finish_call
 finish_call-bare deck n choice (replies.Turned es taken closed) = turned-bare deck n es taken closed
-finish_call-bare deck n choice (replies.Stale s) = refl
+finish_call-bare deck n choice (replies.Stale s) = ap (λ (m : NodeState). only m) (stale-bare deck n s)
 finish_call-bare deck n choice replies.Switched = ap (λ (m : NodeState). only m) (switched-bare deck n)
 finish_call-bare deck n choice replies.Already = refl
-finish_call-bare deck n choice replies.Purged = refl
+finish_call-bare deck n choice replies.Purged = purged-bare deck n choice
 finish_call-bare deck n choice replies.NoSuch = refl
 finish_call-bare deck n choice replies.InStar = refl
 finish_call-bare deck n choice (replies.NotYours h) = finish_star-bare deck n n.star choice (replies.NotYours h)

@@ -35,6 +35,7 @@ use Rattle.grs_wire.specs.History.{replay}
 use Rattle.grs_wire.specs.declared.seen.Seen.{Seen}
 use Rattle.grs_wire.specs.declared.seen.TaskEnd.{TaskEnd}
 use Rattle.grs_workers.specs.Beside.{RanBeside, AllLast}
+use Rattle.grs_world.specs.InStar.{NoneInStar}
 use Rattle.grs_world.specs.Agree.{Sound}
 use Rattle.grs_world.specs.AtRest.{RestsInTheEnd}
 use Rattle.grs_world.specs.Decks.{may_be_star, FitsStar}
@@ -48,7 +49,7 @@ use Rattle.grs_top.specs.Commands.{InputOf, SpellsInput, IsFaultOf, IsTextOf}
 use Rattle.grs_top.specs.Due.{fault_line, IsDue}
 use Rattle.grs_top.specs.Schedules.{unscheduled}
 use Rattle.grs_top.specs.StopWords.{StopValue}
-use Rattle.grs_top.specs.Texts.{IsReported, IsRunToRest, IsToldOf, IsAnalyzed, AreNoticed}
+use Rattle.grs_top.specs.Texts.{IsReported, IsRunToRest, IsAnalyzed, AreNoticed}
 use Rattle.grs_top.specs.Seen.{seen_of_run, report_of, ending}
 use Rattle.grs_top.specs.Tasks.{ends_at}
 use Rattle.grs_top.specs.declared.due.Due.{Due}
@@ -139,7 +140,8 @@ pub stopped_due :
 stopped_due x text deck s lent name n (Ok due) spelled same is are found done =
     let named : system_place deck.systems x.name ≡ Some s.0 =
     ap (λ (ds : List SystemDef). system_place ds x.name) (sym same) ∙ ap (system_place lent) (sym is) ∙ sym found in
-    let reported : IsReported (unscheduled deck) (stopped (unscheduled deck) s x.events deck.events) due.out due.status =
+    let reported :
+    IsReported (unscheduled deck) (stopped (unscheduled deck) s x.events deck.events) due.out due.status =
     subst (λ (k : ℕ). IsReported (unscheduled deck) (stopped (unscheduled deck) s k deck.events) due.out due.status) are
     done in
     inr (
@@ -153,15 +155,17 @@ stopped_due x text deck s lent name n (Err e) spelled same is are found done = t
 
 -- ---- the report of a run, by what is seen of it
 
--- what holds of every run of a deck that keeps its bounds and whose desks order what they may
+-- what holds of every run that removes no system in star mode, of a deck that keeps its bounds and whose desks order
+-- what they may
 abbrev OfRuns : (DeckValue → List Event → Type 0) → Type 0
 OfRuns P =
     (deck : DeckValue) → (may_be_star deck ≡ true → FitsStar deck) → AreOrders (length deck.systems) 0 deck.systems
-    → (es : List Event) → P deck es
+    → (es : List Event) → NoneInStar deck es → P deck es
 
-of_deck : (P : DeckValue → List Event → Type 0) → OfRuns P → (d : DeckValue) → IsDeck d → (es : List Event) → P d es
-of_deck P holds d whole es =
-    holds d (λ star. record { few = whole.fits.few; entries = whole.entries }) whole.orders es
+of_deck : (P : DeckValue → List Event → Type 0) → OfRuns P → (d : DeckValue) → IsDeck d → (es : List Event)
+    → NoneInStar d es → P d es
+of_deck P holds d whole es none =
+    holds d (λ star. record { few = whole.fits.few; entries = whole.entries }) whole.orders es none
 
 pub replay_due : {E : Type 0} (d : DeckValue) (es : List Event) (seen : Seen) (r : Result Due E) → IsDeck d
     → OfRuns Sound → OfRuns PassedIsTold → ((deck : DeckValue) (es : List Event) → RemovedTellNothing deck es)
@@ -180,17 +184,12 @@ replay_due d es seen (Ok due) whole sound passed silent is out status = record {
 replay_due d es seen (Err e) whole sound passed silent is out status = tt
 
 -- ---- other texts of a run, by its history and the end of each task
-told_of :
-    (text : List HistEntry → List ℕ) (d : DeckValue) (es : List Event) (hs : List HistEntry)
-    (ended lent : List (TaskId × TaskEnd)) (out : List ℕ) (status : Status) → IsDeck d → OfRuns Sound → hs ≡ hist d es
-    → ended ≡ ends_at (run d es).medium.removed (run d es).nodes (tasks_of d) → lent ≡ ended → out ≡ text hs
-    → status ≡ (if all_ended lent then Done else Waits) → IsToldOf d es (text (hist d es)) out status
+ends_so : (d : DeckValue) (es : List Event) (ended lent : List (TaskId × TaskEnd)) (status : Status)
+    → ended ≡ ends_at (run d es).medium.removed (run d es).nodes (tasks_of d) → lent ≡ ended
+    → status ≡ (if all_ended lent then Done else Waits) → status ≡ ending d es
 unfolding ending seen_of_run
-told_of text d es hs ended lent out status whole sound is stand same written ends = record {
-  whole = written ∙ ap text is;
-  ends = ends ∙ ap (λ (x : List (TaskId × TaskEnd)). if all_ended x then Done else Waits) (same ∙ stand);
-  sound = of_deck Sound sound d whole es;
-}
+ends_so d es ended lent status stand same ends =
+    ends ∙ ap (λ (x : List (TaskId × TaskEnd)). if all_ended x then Done else Waits) (same ∙ stand)
 
 pub analyzed_of :
     (d : DeckValue) (es : List Event) (hs slice : List HistEntry) (rows : List Row)
@@ -198,10 +197,13 @@ pub analyzed_of :
     → ended ≡ ends_at (run d es).medium.removed (run d es).nodes (tasks_of d) → slice ≡ hs → lent ≡ ended
     → rows ≡ rows_of (replay d.limit slice) → out ≡ analysis_text d rows
     → status ≡ (if all_ended lent then Done else Waits) → IsAnalyzed d es out status
-analyzed_of d es hs slice rows ended lent out status whole sound is stand shared same left written =
-    told_of (λ (xs : List HistEntry). analysis_text d (rows_of (replay d.limit xs))) d es hs ended lent out status whole
-    sound is stand same
-    (written ∙ ap (analysis_text d) (left ∙ ap (λ (xs : List HistEntry). rows_of (replay d.limit xs)) shared))
+analyzed_of d es hs slice rows ended lent out status whole sound is stand shared same left written ends = record {
+  whole =
+      written
+      ∙ ap (analysis_text d) (left ∙ ap (λ (xs : List HistEntry). rows_of (replay d.limit xs)) (shared ∙ is));
+  ends = ends_so d es ended lent status stand same ends;
+  sound = of_deck Sound sound d whole es;
+}
 
 pub noticed_of :
     (d : DeckValue) (es : List Event) (hs slice : List HistEntry) (ended lent : List (TaskId × TaskEnd)) (out : List ℕ)
@@ -209,10 +211,13 @@ pub noticed_of :
     → ended ≡ ends_at (run d es).medium.removed (run d es).nodes (tasks_of d) → slice ≡ hs → lent ≡ ended
     → (Legal d slice → out ≡ notices_text d (notices d.limit slice))
     → status ≡ (if all_ended lent then Done else Waits) → AreNoticed d es out status
-noticed_of d es hs slice ended lent out status whole sound is stand shared same written =
-    let legal : Legal d slice = subst (Legal d) (sym (shared ∙ is)) (of_deck Sound sound d whole es).legal in
-    told_of (λ (xs : List HistEntry). notices_text d (notices d.limit xs)) d es hs ended lent out status whole sound is
-    stand same (written legal ∙ ap (λ (xs : List HistEntry). notices_text d (notices d.limit xs)) shared)
+noticed_of d es hs slice ended lent out status whole sound is stand shared same written ends = record {
+  whole = λ none.
+      written (subst (Legal d) (sym (shared ∙ is)) (of_deck Sound sound d whole es none).legal)
+      ∙ ap (λ (xs : List HistEntry). notices_text d (notices d.limit xs)) (shared ∙ is);
+  ends = ends_so d es ended lent status stand same ends;
+  sound = of_deck Sound sound d whole es;
+}
 
 -- the lists that a history leaves may be analyzed
 pub rows_apart : (limit : ℕ) (hs : List HistEntry) (rows : List Row) → ListsAreApart → rows ≡ rows_of (replay limit hs)
@@ -225,7 +230,8 @@ pub run_due :
     → IsDeck d
     → OfRuns Sound → OfRuns PassedIsTold → ((deck : DeckValue) (es : List Event) → RemovedTellNothing deck es)
     → MergedRuns → MergedRests
-    → ((deck : DeckValue) → IsBounded deck → (es : List Event) → RestsInTheEnd deck es) → RanBeside d m journal vs
+    → ((deck : DeckValue) → IsBounded deck → (es : List Event) → NoneInStar deck es → RestsInTheEnd deck es)
+    → RanBeside d m journal vs
     → AllLast d journal → slice ≡ journal → seen.events ≡ (merged_steps slice (logs_of vs)).events
     → seen ≡ seen_of_run d seen.events
     → IfOk r (λ due. due.out ≡ report d seen)
@@ -248,6 +254,7 @@ run_due d m journal slice vs seen (Ok due) whole sound passed silent runs rests 
         silent = silent d seen.events;
       };
       rest = rest;
-      nothing_lost = kept d (bounded d whole) seen.events rest;
+      nothing_lost = λ none. kept d (bounded d whole) seen.events none rest;
     }
-run_due d m journal slice vs seen (Err e) whole sound passed silent runs rests kept ran last lent made is out status = tt
+run_due d m journal slice vs seen (Err e) whole sound passed silent runs rests kept ran last lent made is out status =
+    tt

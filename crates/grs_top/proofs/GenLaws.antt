@@ -8,6 +8,7 @@ use Rattle.grs_io.specs.Faults.{last_count, HasRisen}
 use Rattle.grs_wire.specs.Decks.{AreOrders, IsDeck}
 use Rattle.grs_wire.specs.declared.deck.Deck.{Deck}
 use Rattle.grs_wire.specs.declared.deck.Event.{Event}
+use Rattle.grs_world.specs.InStar.{NoneInStar}
 use Rattle.grs_world.specs.Agree.{Sound}
 use Rattle.grs_world.specs.Decks.{may_be_star, FitsStar}
 use Rattle.grs_world.specs.Running.{at_rest}
@@ -87,7 +88,7 @@ all-made deck (suc left) last r es count made =
 
 pub generated : ((n : ℕ) → IsSize n → IsDeck (deck_of n))
     → ((deck : Deck) → (may_be_star deck ≡ true → FitsStar deck) → AreOrders (length deck.systems) 0 deck.systems
-    → (es : List Event) → Sound deck es)
+    → (es : List Event) → NoneInStar deck es → Sound deck es)
     → GeneratedRuns
 unfolding rounds_of Ends
 generated is_deck sound n size = go (deck_of n) (is_deck n size)

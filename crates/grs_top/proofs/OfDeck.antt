@@ -1,7 +1,7 @@
 -- What has something to do is of the deck: its task stands in its system, its lock entry is one that there is, and who is
 -- to be removed is another system.
 use Rattle.std.proofs.Common.{◌≡◌, ◌≢◌, ◌<◌, ◌+◌, ◌⊎◌, ℕ, zero, suc, Bool, true, false, cond, List, [], ◌∷◌, ◌++◌, length}
-use Rattle.std.proofs.Common.{map, take, Option, Some, None, refl, ap, sym, ◌∙◌, subst, arith, inl, inr}
+use Rattle.std.proofs.Common.{take, Option, Some, None, refl, ap, sym, ◌∙◌, subst, arith, inl, inr}
 use Rattle.std.specs.Prelude.{◌==◌, ◌&&◌, is_some, nat_lt, slice_get, slice_index_or, unwrap_or}
 use Rattle.std.specs.Option.{option_map}
 use Rattle.std.proofs.lemmas.Bool.{and_parts, eqb-true}
@@ -18,7 +18,8 @@ use Rattle.grs_node.proofs.Calls.{target-of}
 use Rattle.grs_node.proofs.Fits.{orders-at}
 use Rattle.grs_node.specs.Node.{NodeState, goes_on, is_of_deck, is_to_send, may_go, may_send, next_order, prepare}
 use Rattle.grs_node.specs.Node.{prepared_by, purge_call, star_call}
-use Rattle.grs_node.specs.Star.{StarPart, has_interest, may_leave, send_of, tell_by, to_tell}
+use Rattle.grs_node.specs.Names.{names_of}
+use Rattle.grs_node.specs.Star.{StarPart, has_interest, may_leave, owed_to, part_by, send_of, tell_by, to_tell}
 use Rattle.grs_node.specs.declared.prepared.Prepared.TheVariants.{Quiet, Call, Nothing}
 use Rattle.grs_node.specs.declared.star.Need.TheVariants.{Asks, Idle}
 use Rattle.grs_wire.specs.Decks.{IsChoiceOf, IsDeck, IsTaskOf, task_count}
@@ -57,6 +58,13 @@ flag_within : (flags : List Bool) (i : ℕ) → slice_index_or flags i false ≡
 flag_within [] i set = absurd cc
 flag_within (b ∷ bs) zero set = omega arith
 flag_within (b ∷ bs) (suc i) set = let more = flag_within bs i set in omega (arith, more)
+
+-- so does whom a part is owed to
+owed_within : (os : List (Option SysId)) (i : ℕ) (to : SysId) → unwrap_or (slice_get os i) None ≡ Some to
+    → i < length os
+owed_within [] i to owed = absurd cc
+owed_within (o ∷ os) zero to owed = omega arith
+owed_within (o ∷ os) (suc i) to owed = let more = owed_within os i to owed in omega (arith, more)
 
 -- ---- where a task stands
 -- Where a script stands among those of jobs, of which the first has this number: its job has a place among them, and
@@ -175,100 +183,108 @@ own_task deck n t goes h =
 module _ (deck : Deck) (whole : IsDeck deck) (n : NodeState) (id : SysId) (s : SystemDef)
     (home : n.tasks.system ≡ id.0) (found : slice_get deck.systems id.0 ≡ Some s)
     (sized : (p : StarPart) → n.star ≡ Some p
-    → (length p.manager.entries ≡ deck.entries) × (length p.interest ≡ deck.entries)) where
-  goes_there : (t : TaskId) → may_go deck n t ≡ true → IsTaskOf s id t
-  unfolding may_go
-  goes_there t h =
-      let own = own_task deck n t (goes_on (state_of n.tasks t).phase) h in
-      task_of_deck deck t id s own.1 (sym own.0 ∙ home) found
+    → (length p.manager.entries ≡ deck.entries) × (length p.interest ≡ deck.entries) × (length p.owes ≡ deck.entries))
+  where
+    goes_there : (t : TaskId) → may_go deck n t ≡ true → IsTaskOf s id t
+    unfolding may_go
+    goes_there t h =
+        let own = own_task deck n t (goes_on (state_of n.tasks t).phase) h in
+        task_of_deck deck t id s own.1 (sym own.0 ∙ home) found
 
-  sends_there : (t : TaskId) → may_send deck n t ≡ true → IsTaskOf s id t
-  unfolding may_send
-  sends_there t h =
-      let own = own_task deck n t (is_to_send (state_of n.tasks t).phase) h in
-      task_of_deck deck t id s own.1 (sym own.0 ∙ home) found
+    sends_there : (t : TaskId) → may_send deck n t ≡ true → IsTaskOf s id t
+    unfolding may_send
+    sends_there t h =
+        let own = own_task deck n t (is_to_send (state_of n.tasks t).phase) h in
+        task_of_deck deck t id s own.1 (sym own.0 ∙ home) found
 
-  -- a request is sent
-  send_there : (t : TaskId) (o : Option StarPart) → star_call deck n o (choices.Send t) ≢ Nothing → IsTaskOf s id t
-  unfolding star_call
-  send_there t None h = absurd (h refl)
-  send_there t (Some p) h = go (may_send deck n t) refl h
-    where
-      go : (b : Bool) → may_send deck n t ≡ b
-          → prepared_by n.known (cond b (send_of p t (state_of n.tasks t).outstanding) Idle) ≢ Nothing → IsTaskOf s id t
-      go true e k = sends_there t e
-      go false e k = absurd (k refl)
+    -- a request is sent
+    send_there : (t : TaskId) (o : Option StarPart) → star_call deck n o (choices.Send t) ≢ Nothing → IsTaskOf s id t
+    unfolding star_call
+    send_there t None h = absurd (h refl)
+    send_there t (Some p) h = go (may_send deck n t) refl h
+      where
+        go : (b : Bool) → may_send deck n t ≡ b
+            → prepared_by n.known (cond b (send_of p t (state_of n.tasks t).outstanding) Idle) ≢ Nothing → IsTaskOf s id t
+        go true e k = sends_there t e
+        go false e k = absurd (k refl)
 
-  -- an owner is told by a manager of the entry
-  managed_below : (p : StarPart) (e : ℕ) → length p.manager.entries ≡ deck.entries
-      → prepared_by n.known (tell_by (to_tell p e)) ≢ Nothing → e < deck.entries
-  managed_below p e count h = go (slice_get p.manager.entries e) refl
-    where
-      none : slice_get p.manager.entries e ≡ None → to_tell p e ≡ None
-      none at =
-          ap (λ (o : Option (Option Managed)).
-          option_map owner_of (first_untold p.manager.system.0 (items_of (unwrap_or o None)))) at
+    -- an owner is told by a manager of the entry
+    managed_below : (p : StarPart) (e : ℕ) → length p.manager.entries ≡ deck.entries
+        → prepared_by n.known (tell_by (to_tell p e)) ≢ Nothing → e < deck.entries
+    managed_below p e count h = go (slice_get p.manager.entries e) refl
+      where
+        none : slice_get p.manager.entries e ≡ None → to_tell p e ≡ None
+        none at =
+            ap (λ (o : Option (Option Managed)).
+            option_map owner_of (first_untold p.manager.system.0 (items_of (unwrap_or o None)))) at
 
-      go : (o : Option (Option Managed)) → slice_get p.manager.entries e ≡ o → e < deck.entries
-      go None at = absurd (h (ap (λ (x : Option (TaskId × Res)). prepared_by n.known (tell_by x)) (none at)))
-      go (Some m) at = let within = slice_get_within p.manager.entries e m at in omega (arith, within, count)
+        go : (o : Option (Option Managed)) → slice_get p.manager.entries e ≡ o → e < deck.entries
+        go None at = absurd (h (ap (λ (x : Option (TaskId × Res)). prepared_by n.known (tell_by x)) (none at)))
+        go (Some m) at = let within = slice_get_within p.manager.entries e m at in omega (arith, within, count)
 
-  tell_there : (e : ℕ) (o : Option StarPart) → n.star ≡ o → star_call deck n o (choices.Tell e) ≢ Nothing
-      → e < deck.entries
-  unfolding star_call
-  tell_there e None is h = absurd (h refl)
-  tell_there e (Some p) is h = managed_below p e (sized p is).0 h
+    tell_there : (e : ℕ) (o : Option StarPart) → n.star ≡ o → star_call deck n o (choices.Tell e) ≢ Nothing
+        → e < deck.entries
+    unfolding star_call
+    tell_there e None is h = absurd (h refl)
+    tell_there e (Some p) is h = managed_below p e (sized p is).0 h
 
-  -- interest is left that there is
-  leave_there : (e : ℕ) (o : Option StarPart) → n.star ≡ o → star_call deck n o (choices.Leave e) ≢ Nothing
-      → e < deck.entries
-  unfolding star_call
-  leave_there e None is h = absurd (h refl)
-  leave_there e (Some p) is h = go (may_leave p n.tasks e) refl h
-    where
-      go : (b : Bool) → may_leave p n.tasks e ≡ b
-          → prepared_by n.known (cond b (Asks (acts.Leave e)) Idle) ≢ Nothing → e < deck.entries
-      go true m k =
-          let within = flag_within p.interest e (and_parts (has_interest p e) _ m).0 in
-          omega (arith, within, (sized p is).1)
-      go false m k = absurd (k refl)
+    -- interest is left that there is
+    leave_there : (e : ℕ) (o : Option StarPart) → n.star ≡ o → star_call deck n o (choices.Leave e) ≢ Nothing
+        → e < deck.entries
+    unfolding star_call
+    leave_there e None is h = absurd (h refl)
+    leave_there e (Some p) is h = go (may_leave p n.tasks e) refl h
+      where
+        go : (b : Bool) → may_leave p n.tasks e ≡ b
+            → prepared_by n.known (cond b (Asks (acts.Leave e)) Idle) ≢ Nothing → e < deck.entries
+        go true m k =
+            let within = flag_within p.interest e (and_parts (has_interest p e) _ m).0 in
+            omega (arith, within, (sized p is).1)
+        go false m k = absurd (k refl)
 
-  -- a part is never sent
-  part_there : (e : ℕ) (o : Option StarPart) → star_call deck n o (choices.Part e) ≢ Nothing → e < deck.entries
-  unfolding star_call
-  part_there e None h = absurd (h refl)
-  part_there e (Some p) h = absurd (h refl)
+    -- a part is sent that is owed
+    part_there : (e : ℕ) (o : Option StarPart) → n.star ≡ o → star_call deck n o (choices.Part e) ≢ Nothing
+        → e < deck.entries
+    unfolding star_call
+    part_there e None is h = absurd (h refl)
+    part_there e (Some p) is h = go (owed_to p e) refl h
+      where
+        go : (to : Option SysId) → owed_to p e ≡ to
+            → prepared_by n.known (part_by (names_of deck n.tasks.system) n.known p n.tasks e to) ≢ Nothing
+            → e < deck.entries
+        go None at k = absurd (k refl)
+        go (Some to) at k = let within = owed_within p.owes e to at in omega (arith, within, (sized p is).2)
 
-  -- a removal is what the desk commands
-  purge_there : (target : SysId) (o : Option Order) → next_order deck n ≡ o → purge_call n target o ≢ Nothing
-      → (target.0 < length deck.systems) × (target.0 ≢ id.0)
-  purge_there target None is h = absurd (h refl)
-  purge_there target (Some orders.Star) is h = absurd (h refl)
-  purge_there target (Some (orders.Vary named)) is h = go (named.0 == target.0) refl h
-    where
-      go : (b : Bool) → (named.0 == target.0) ≡ b
-          → cond b (Call (record { known = n.known; act = acts.Purge target })) Nothing ≢ Nothing
-          → (target.0 < length deck.systems) × (target.0 ≢ id.0)
-      go false e k = absurd (k refl)
-      go true e k =
-          let same : named.0 ≡ target.0 = eqb-true named.0 target.0 e in
-          let fit =
-          target-of deck n named (length deck.systems)
-          (orders-at (length deck.systems) deck.systems n.tasks.system whole.orders) is in (
-            subst (λ (k : ℕ). k < length deck.systems) same fit.0,
-            λ own. fit.1 (same ∙ own ∙ sym home),
-          )
+    -- a removal is what the desk commands
+    purge_there : (target : SysId) (o : Option Order) → next_order deck n ≡ o → purge_call n target o ≢ Nothing
+        → (target.0 < length deck.systems) × (target.0 ≢ id.0)
+    purge_there target None is h = absurd (h refl)
+    purge_there target (Some orders.Star) is h = absurd (h refl)
+    purge_there target (Some (orders.Vary named)) is h = go (named.0 == target.0) refl h
+      where
+        go : (b : Bool) → (named.0 == target.0) ≡ b
+            → cond b (Call (record { known = n.known; act = acts.Purge target })) Nothing ≢ Nothing
+            → (target.0 < length deck.systems) × (target.0 ≢ id.0)
+        go false e k = absurd (k refl)
+        go true e k =
+            let same : named.0 ≡ target.0 = eqb-true named.0 target.0 e in
+            let fit =
+            target-of deck n named (length deck.systems)
+            (orders-at (length deck.systems) deck.systems n.tasks.system whole.orders) is in (
+              subst (λ (k : ℕ). k < length deck.systems) same fit.0,
+              λ own. fit.1 (same ∙ own ∙ sym home),
+            )
 
-  pub does_its : (c : Choice) → prepare deck n c ≢ Nothing → IsChoiceOf deck.systems deck.entries s id c
-  unfolding prepare
-  does_its (choices.Task t) h = goes_there t (some_quiet (may_go deck n t) h)
-  does_its choices.Turn h = tt
-  does_its (choices.Send t) h = send_there t n.star h
-  does_its choices.Take h = tt
-  does_its choices.Settle h = tt
-  does_its (choices.Tell e) h = tell_there e n.star refl h
-  does_its (choices.Part e) h = part_there e n.star h
-  does_its (choices.Leave e) h = leave_there e n.star refl h
-  does_its choices.Switch h = tt
-  does_its (choices.Purge target) h = purge_there target (next_order deck n) refl h
-  does_its choices.Rest h = tt
+    pub does_its : (c : Choice) → prepare deck n c ≢ Nothing → IsChoiceOf deck.systems deck.entries s id c
+    unfolding prepare
+    does_its (choices.Task t) h = goes_there t (some_quiet (may_go deck n t) h)
+    does_its choices.Turn h = tt
+    does_its (choices.Send t) h = send_there t n.star h
+    does_its choices.Take h = tt
+    does_its choices.Settle h = tt
+    does_its (choices.Tell e) h = tell_there e n.star refl h
+    does_its (choices.Part e) h = part_there e n.star refl h
+    does_its (choices.Leave e) h = leave_there e n.star refl h
+    does_its choices.Switch h = tt
+    does_its (choices.Purge target) h = purge_there target (next_order deck n) refl h
+    does_its choices.Rest h = tt

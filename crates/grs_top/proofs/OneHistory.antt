@@ -1,5 +1,6 @@
 -- A run that is sound is shown by a report that shows one history.
-use Rattle.std.proofs.Common.{◌≡◌, ◌≤◌, ℕ, zero, suc, ◌+◌, ◌-◌, ◌*◌, List, [], ◌∷◌, ◌++◌, length, take, drop, refl, ap, sym, ◌∙◌, subst, arith, inl, inr, get_or}
+use Rattle.std.proofs.Common.{◌≡◌, ◌≤◌, ℕ, zero, suc, ◌+◌, ◌-◌, ◌*◌, List, [], ◌∷◌, ◌++◌, length, take, drop, refl, ap}
+use Rattle.std.proofs.Common.{sym, ◌∙◌, subst, arith, inl, inr, get_or}
 use Rattle.std.proofs.Common.{append-nil, append_assoc, take-append-drop, length-append}
 use Rattle.std.proofs.Math.Seq.{take-append_seam, take-length, drop-length, drop-append_seam}
 use Rattle.std.proofs.lemmas.Bool.{and_parts, and_from, eq-eqb}
@@ -15,12 +16,12 @@ use Rattle.grs_wire.specs.declared.deck.Event.{Event}
 use Rattle.grs_wire.specs.declared.request.Fixed.{Fixed}
 use Rattle.grs_wire.specs.declared.told.Told.{Told}
 use Rattle.grs_world.specs.Agree.{Moment, Agrees, moment, AgreeAt, AllAgree, Sound, RemovalsTold, is_event_of}
+use Rattle.grs_world.specs.InStar.{NoneInStar}
 use Rattle.grs_world.specs.Removing.{is_by_live, RemovedTellNothing}
 use Rattle.grs_world.specs.World.{World, happens, placed, fixed_by, run_from, run, first_world, told}
 use Rattle.grs_world.specs.Stopped.{cut, turn_of, left_behind, next_of, lap_from, live_count, lap, goes_lap, stopped}
 use Rattle.grs_world.proofs.run.Each.{each_event}
 use Rattle.grs_top.specs.Seen.{seen_of_run, report_of}
-use Rattle.grs_top.specs.Due.{IsAnswered}
 use Rattle.grs_top.proofs.Unread.{unread}
 use Rattle.grs_top.specs.Schedules.{unscheduled}
 use Rattle.grs_top.specs.Texts.{IsReported}
@@ -186,9 +187,9 @@ module _ (deck : Deck) (es : List Event) where
   }
 
 reported_shows : (deck : Deck) (es : List Event) (out : List ℕ) (status : Status) → IsReported deck es out status
-    → ShowsOneHistory deck es out
-reported_shows deck es out status r =
-    subst (ShowsOneHistory deck es) (sym r.whole) (shows deck es r.sound r.silent)
+    → NoneInStar deck es → ShowsOneHistory deck es out
+reported_shows deck es out status r none =
+    subst (ShowsOneHistory deck es) (sym r.whole) (shows deck es (r.sound none) r.silent)
 
 -- A lap has Turns alone,
 lap_turns : (deck : Deck) (most left : ℕ) (w : World) (at : Option SysId)
@@ -217,28 +218,28 @@ only_turns deck s n es =
 
 -- A deck without its schedule shows what the deck does.
 pub report_shows : (deck : Deck) (es : List Event) (out : List ℕ) (status : Status)
-    → IsReported (unscheduled deck) es out status → ShowsOneHistory deck es out
-report_shows deck es out status r =
-    ((unread deck es).shows out).0 (reported_shows (unscheduled deck) es out status r)
+    → IsReported (unscheduled deck) es out status → NoneInStar (unscheduled deck) es → ShowsOneHistory deck es out
+report_shows deck es out status r none =
+    ((unread deck es).shows out).0 (reported_shows (unscheduled deck) es out status r none)
 
 pub answers_show_histories : AnswersShowHistories
-answers_show_histories Lists text out status a = tt
-answers_show_histories Analyze text out status a = tt
-answers_show_histories Notices text out status a = tt
-answers_show_histories Latch text out status a = tt
-answers_show_histories Audit text out status a = tt
-answers_show_histories Replay text out status a =
-    (a.input, a.spelled, report_shows a.input a.input.events out status a.is_text)
-answers_show_histories Run text out status a = (
+answers_show_histories Lists text out status a none = tt
+answers_show_histories Analyze text out status a none = tt
+answers_show_histories Notices text out status a none = tt
+answers_show_histories Latch text out status a none = tt
+answers_show_histories Audit text out status a none = tt
+answers_show_histories Replay text out status a none =
+    (a.input, a.spelled, report_shows a.input a.input.events out status a.is_text none)
+answers_show_histories Run text out status a none = (
   a.input,
   a.spelled,
-  (a.is_text.events, report_shows a.input a.is_text.events out status a.is_text.reported),
+  (a.is_text.events, report_shows a.input a.is_text.events out status a.is_text.reported none),
 )
-answers_show_histories (Stop x) text out status a =
+answers_show_histories (Stop x) text out status a none =
     let s : SysId = a.is_text.system in
     let es : List Event = stopped (unscheduled a.input) s x.events a.input.events in
     let lap = only_turns (unscheduled a.input) s x.events a.input.events in
-    let shown = report_shows a.input es out status a.is_text.reported in (
+    let shown = report_shows a.input es out status a.is_text.reported none in (
       a.input,
       a.spelled.spelled,
       (s, a.is_text.named, (lap.0, subst (λ (fs : List Event). ShowsOneHistory a.input fs out) lap.1 shown)),

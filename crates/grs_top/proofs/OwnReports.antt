@@ -1,5 +1,6 @@
 -- A deck with its own report behind it is answered Yes.
-use Rattle.std.proofs.Common.{◌≡◌, ◌<◌, ◌≤◌, ◌^◌, ℕ, true, List, ◌++◌, length, refl, ap, sym, subst, ◌∙◌, arith, length-append}
+use Rattle.std.proofs.Common.{◌≡◌, ◌<◌, ◌≤◌, ◌^◌, ℕ, true, List, ◌++◌, length, refl, ap, sym, subst, ◌∙◌, arith}
+use Rattle.std.proofs.Common.{length-append}
 use Rattle.std.specs.Prelude.{All}
 use Rattle.grs_audit.proofs.OwnHalves.{own-halves}
 use Rattle.grs_audit.proofs.ReportLaws.{report-begins}
@@ -19,7 +20,7 @@ use Rattle.grs_top.proofs.OneHistory.{report_shows}
 use Rattle.grs_top.proofs.StoppedOf.{stopped_of_deck}
 use Rattle.grs_top.specs.Due.{IsAnswered}
 use Rattle.grs_top.specs.OneHistory.{ShowsOneHistory}
-use Rattle.grs_top.specs.OwnReports.{Reports, IsWithoutReport, OwnReportsAreYes}
+use Rattle.grs_top.specs.OwnReports.{IsWithoutReport, OwnReportsAreYes}
 use Rattle.grs_top.specs.Schedules.{unscheduled, DoersAreOfDeck}
 use Rattle.grs_top.specs.declared.status.Status.TheVariants.{Done}
 use Rattle.grs_top.specs.declared.words.Command.TheVariants.{Replay, Run, Lists, Analyze, Notices, Latch, Stop, Audit}
@@ -63,22 +64,24 @@ module _
             omega (arith, both, same, short)
 
     pub own_reports_are_yes : OwnReportsAreYes
-    own_reports_are_yes Replay text out status own a without short =
+    own_reports_are_yes Replay text out status own a none without short =
         shown_yes a.input a.input.events text out a.spelled
-        (report_shows a.input a.input.events out status a.is_text) (read text a.input a.spelled).events without short
-    own_reports_are_yes Run text out status own a without short =
+        (report_shows a.input a.input.events out status a.is_text none) (read text a.input a.spelled).events without
+        short
+    own_reports_are_yes Run text out status own a none without short =
         shown_yes a.input a.is_text.events text out a.spelled
-        (report_shows a.input a.is_text.events out status a.is_text.reported)
-        (doers (unscheduled a.input) a.is_text.events (bare_deck a.input (read text a.input a.spelled)) a.is_text.all_do)
+        (report_shows a.input a.is_text.events out status a.is_text.reported none)
+        (doers (unscheduled a.input) a.is_text.events (bare_deck a.input (read text a.input a.spelled))
+        a.is_text.all_do)
         without short
-    own_reports_are_yes (Stop x) text out status own a without short =
+    own_reports_are_yes (Stop x) text out status own a none without short =
         let whole : IsDeck a.input = read text a.input a.spelled.spelled in
         let es : List Event = stopped (unscheduled a.input) a.is_text.system x.events a.input.events in
-        shown_yes a.input es text out a.spelled.spelled (report_shows a.input es out status a.is_text.reported)
+        shown_yes a.input es text out a.spelled.spelled (report_shows a.input es out status a.is_text.reported none)
         (stopped_of_deck (unscheduled a.input) (bare_deck a.input whole) a.is_text.system x.events a.input.events
         whole.events) without short
-    own_reports_are_yes Lists text out status own a without short = absurd own
-    own_reports_are_yes Analyze text out status own a without short = absurd own
-    own_reports_are_yes Notices text out status own a without short = absurd own
-    own_reports_are_yes Latch text out status own a without short = absurd own
-    own_reports_are_yes Audit text out status own a without short = absurd own
+    own_reports_are_yes Lists text out status own a none without short = absurd own
+    own_reports_are_yes Analyze text out status own a none without short = absurd own
+    own_reports_are_yes Notices text out status own a none without short = absurd own
+    own_reports_are_yes Latch text out status own a none without short = absurd own
+    own_reports_are_yes Audit text out status own a none without short = absurd own

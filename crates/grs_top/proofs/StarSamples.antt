@@ -8,7 +8,8 @@ use Rattle.grs_base.specs.declared.resource.Ret.TheVariants.{RetNone, RetEcb}
 use Rattle.grs_medium.specs.Apply.{row, apply, submit_row, take_row, mail_row}
 use Rattle.grs_node.specs.Node.{post, ask, wait, take_line, ready_step, phase_step, may_go, may_send, star_call}
 use Rattle.grs_node.specs.Node.{prepare, finish_quiet, finish_star, finish_call, finish, first_node}
-use Rattle.grs_node.specs.Star.{decide_own, took_mail}
+use Rattle.grs_node.specs.Star.{decide_own}
+use Rattle.grs_node.specs.Node.{took_mail}
 use Rattle.grs_wire.specs.LockWords.{manager, lock_word, submitted}
 use Rattle.grs_wire.specs.Masks.{has, without, with_also}
 use Rattle.grs_wire.specs.declared.deck.Deck.{Deck}

@@ -2,5 +2,6 @@
 pub mod Pending
 pub mod Flags
 pub mod Idle
+pub mod Informed
 pub mod Ended
 pub mod Merged

@@ -6,6 +6,7 @@ pub mod Tasks
 pub mod Seen
 pub mod Beside
 pub mod Schedules
+pub mod Spared
 pub mod Texts
 pub mod Stops
 pub mod Commands

@@ -1,6 +1,7 @@
--- What a report says by itself, of no machine that makes a run: it shows one history, which is legal, and each line that it
--- tells agrees with that history as it was by the line's event.
-use Rattle.std.specs.Prelude.{◌≡◌, ◌≤◌, ℕ, ◌+◌, ◌-◌, Bool, true, not, List, [], ◌++◌, length, map, take, drop, slice_get, Some}
+-- What a report says by itself, of no machine that makes a run: it shows one history, which is legal, and each line
+-- that it tells agrees with that history as it was by the line's event.
+use Rattle.std.specs.Prelude.{◌≡◌, ◌≤◌, ℕ, ◌+◌, ◌-◌, Bool, true, not, List, [], ◌++◌, length, map, take, drop}
+use Rattle.std.specs.Prelude.{slice_get, Some}
 use Rattle.std.specs.List.{list_all, list_any}
 use Rattle.grs_base.specs.Rows.{rows_of}
 use Rattle.grs_base.specs.declared.resource.SysId.{SysId}
@@ -17,6 +18,7 @@ use Rattle.grs_wire.specs.declared.told.Told.{Told}
 use Rattle.grs_world.specs.Agree.{Moment, AgreeAt, RemovalsTold, is_event_of, is_of_event}
 use Rattle.grs_world.specs.Stopped.{cut, turn_of}
 use Rattle.grs_top.specs.Due.{IsAnswered}
+use Rattle.grs_top.specs.Spared.{IsSpared}
 use Rattle.grs_top.specs.declared.status.Status.{Status}
 use Rattle.grs_top.specs.declared.words.Command.{Command}
 use Rattle.grs_top.specs.declared.words.Command.TheVariants.{Replay, Run, Lists, Analyze, Notices, Latch, Stop, Audit}
@@ -47,8 +49,8 @@ pub record ShowsOneHistory (deck : Deck) (es : List Event) (text : List ℕ) : T
   pub seen : Seen
   pub text_is : text ≡ report deck seen
   pub events : seen.events ≡ es
-  -- The history is that of things fixed one after the other, each answered by the plain list of its resource; so many of
-  -- them by the first events, all of them by all events.
+  -- The history is that of things fixed one after the other, each answered by the plain list of its resource; so many
+  -- of them by the first events, all of them by all events.
   pub fixed : List (SysId × Fixed)
   pub fronts : ℕ → ℕ
   pub history : seen.hist ≡ answered fixed
@@ -68,9 +70,9 @@ pub record ShowsOneHistory (deck : Deck) (es : List Event) (text : List ℕ) : T
   -- and the lists that are shown are those that the history leaves.
   pub queues : seen.queues ≡ rows_of (replay deck.limit seen.hist)
 
--- A text that is answered by the report of a run is answered by one that shows one history of the deck that it spells: by the
--- deck's events; by those that were made; or by those that are left without what the system which stops would do behind its
--- first so many, and behind them Turns alone.
+-- A text that is answered by the report of a run is answered by one that shows one history of the deck that it spells:
+-- by the deck's events; by those that were made; or by those that are left without what the system which stops would do
+-- behind its first so many, and behind them Turns alone.
 abbrev pub ShowsHistory : Command → List ℕ → List ℕ → Type 0
 ShowsHistory Lists text out = Unit {0}
 ShowsHistory Analyze text out = Unit {0}
@@ -84,6 +86,8 @@ ShowsHistory (Stop x) text out =
     (deck : Deck) × SpellsDeck text deck × ((s : SysId) × (system_place deck.systems x.name ≡ Some s.0)
     × ((turns : List SysId) × ShowsOneHistory deck (cut s x.events deck.events ++ map turn_of turns) out))
 
+-- So it is of runs that remove no system in star mode.
 abbrev pub AnswersShowHistories : Type 0
-AnswersShowHistories = (c : Command) (text out : List ℕ) (status : Status) → IsAnswered c text out status
-    → ShowsHistory c text out
+AnswersShowHistories =
+    (c : Command) (text out : List ℕ) (status : Status) (a : IsAnswered c text out status)
+    → IsSpared c text out status a → ShowsHistory c text out

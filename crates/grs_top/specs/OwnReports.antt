@@ -4,6 +4,7 @@ use Rattle.grs_audit.specs.Halves.{most_audited_bytes, report_at}
 use Rattle.grs_audit.specs.Text.{verdict_text}
 use Rattle.grs_audit.specs.declared.verdict.Verdict.TheVariants.{Yes}
 use Rattle.grs_top.specs.Due.{IsAnswered}
+use Rattle.grs_top.specs.Spared.{IsSpared}
 use Rattle.grs_top.specs.declared.status.Status.{Status}
 use Rattle.grs_top.specs.declared.status.Status.TheVariants.{Done}
 use Rattle.grs_top.specs.declared.words.Command.{Command}
@@ -22,9 +23,10 @@ pub record IsWithoutReport (text : List ℕ) : Type 0 where
   pub ends : text ≡ before ++ 10 ∷ []
   pub none : report_at true text ≡ length text
 
--- Such a text of a deck, with what `replay`, `run` or `stop` is to write for it behind it, is to be answered Yes, where both
--- aren't too long together.
+-- Such a text of a deck, with what `replay`, `run` or `stop` is to write for it behind it, is to be answered Yes, where
+-- both aren't too long together, and the run removes no system in star mode.
 abbrev pub OwnReportsAreYes : Type 0
 OwnReportsAreYes =
-    (c : Command) (text out : List ℕ) (status : Status) → Reports c → IsAnswered c text out status → IsWithoutReport text
+    (c : Command) (text out : List ℕ) (status : Status) → Reports c → (a : IsAnswered c text out status)
+    → IsSpared c text out status a → IsWithoutReport text
     → length (text ++ out) ≤ most_audited_bytes → IsAnswered Audit (text ++ out) (verdict_text Yes) Done

@@ -1,13 +1,15 @@
 -- The laws of masks that the rest cites. No other file opens a mask.
 use Rattle.std.proofs.Common.{ℕ, zero, suc, ◌≡◌, ◌≢◌, true, false, not, eqb, ◌^◌, ◌+◌, ◌*◌, ◌%◌, ◌<◌, min, max}
 use Rattle.std.proofs.Common.{zero-mul, one-mul, pow_pos, bit_and, bit_or, w32, sym, ◌∙◌, refl, arith, eqb-true, ne_eqb}
+use Rattle.std.proofs.Common.{◌≤◌, Bool, cond, subst}
 use Rattle.std.specs.Int.{bit_at, bit_not}
 use Rattle.std.proofs.lemmas.Nat.Bits.{bit_at_and, bit_at_xor, bit_at_or, bit_at-pow_same, bit_at-pow_other, bit_at-lt}
 use Rattle.std.proofs.lemmas.Nat.Bits.{bit_at-zero, and_pow, same_from_bits, bit_at_clear_same, bit_at_clear_other}
 use Rattle.std.proofs.lemmas.Nat.Bits.{bit_at_above}
 use Rattle.std.proofs.lemmas.Nat.{and_le_l, one_shl, or_lt, pow_below, xor_lt}
 use native.Mathlib.Decide.{dec_lt, ℕ_discrete}
-use Rattle.grs_wire.specs.Masks.{has, without, with_also}
+use Rattle.std.specs.Prelude.{◌&&◌}
+use Rattle.grs_wire.specs.Masks.{has, without, with_also, without_all}
 
 twice_gone : (b : ℕ) → b < 2 → (b + min b 1) % 2 ≡ 0
 twice_gone b h = omega arith
@@ -113,3 +115,47 @@ unfolding without
 without-lt m s h = xor_lt 8 m (bit_and m (2 ^ s)) h (omega (arith, and_le_l m (2 ^ s)))
 
 pub ruleset small_sets = (with_also-lt, without-lt)
+
+-- ---- a set without the systems of another one
+above-stay : (n m f s : ℕ) → n ≤ s → has (without_all n m f) s ≡ has f s
+above-stay zero m f s h = refl
+above-stay (suc n) m f s h = go (has m n) (above-stay n m f s (omega (arith, h)))
+  where
+    go : (b : Bool) → has (without_all n m f) s ≡ has f s
+        → has (cond b (without (without_all n m f) n) (without_all n m f)) s ≡ has f s
+    go true rest = has-without_other (without_all n m f) n s (λ e. omega (arith, h, e)) ∙ rest
+    go false rest = rest
+
+both-ways : (a b : Bool) → b ≡ true → false ≡ (a && not b)
+both-ways true b e = rw e refl
+both-ways false b e = refl
+
+stays-in : (a b : Bool) → b ≡ false → a ≡ (a && not b)
+stays-in true b e = rw e refl
+stays-in false b e = refl
+
+last-same : (n m f : ℕ) → has (without_all (suc n) m f) n ≡ (has f n && not (has m n))
+last-same n m f = go (has m n) refl (above-stay n m f n (omega arith))
+  where
+    go : (b : Bool) → has m n ≡ b → has (without_all n m f) n ≡ has f n
+        → has (cond b (without (without_all n m f) n) (without_all n m f)) n ≡ (has f n && not (has m n))
+    go true e above = has-without_same (without_all n m f) n ∙ both-ways (has f n) (has m n) e
+    go false e above = above ∙ stays-in (has f n) (has m n) e
+
+last-other : (n m f s : ℕ) → s ≢ n → has (without_all n m f) s ≡ (has f s && not (has m s))
+    → has (without_all (suc n) m f) s ≡ (has f s && not (has m s))
+last-other n m f s ne below = go (has m n)
+  where
+    go : (b : Bool)
+        → has (cond b (without (without_all n m f) n) (without_all n m f)) s ≡ (has f s && not (has m s))
+    go true = has-without_other (without_all n m f) n s ne ∙ below
+    go false = below
+
+pub has-without_all : (n m f s : ℕ) → s < n → has (without_all n m f) s ≡ (has f s && not (has m s))
+has-without_all zero m f s h = absurd (omega (arith, h))
+has-without_all (suc n) m f s h = go (ℕ_discrete s n) (has-without_all n m f s)
+  where
+    go : Dec (s ≡ n) → (s < n → has (without_all n m f) s ≡ (has f s && not (has m s)))
+        → has (without_all (suc n) m f) s ≡ (has f s && not (has m s))
+    go (yes same) below = subst (λ (k : ℕ). has (without_all (suc n) m f) k ≡ (has f k && not (has m k))) (sym same) (last-same n m f)
+    go (no ne) below = last-other n m f s ne (below (omega (arith, h, ne)))

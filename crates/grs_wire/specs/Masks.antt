@@ -34,6 +34,11 @@ abbrev pub without_others : ℕ → ℕ → ℕ → ℕ
 without_others zero m f = f
 without_others (suc n) m f = cond (has m n) (without_others n m f) (without (without_others n m f) n)
 
+-- the set f without the systems below n that are in the set m
+abbrev pub without_all : ℕ → ℕ → ℕ → ℕ
+without_all zero m f = f
+without_all (suc n) m f = cond (has m n) (without (without_all n m f) n) (without_all n m f)
+
 -- whether each system below n that isn't in the set m passes the test
 abbrev pub all_others : ℕ → ℕ → (ℕ → Bool) → Bool
 all_others zero m test = true

@@ -31,7 +31,6 @@ is_of_act (acts.Leave entry) replies.Left = true
 is_of_act (acts.Leave entry) (replies.Kept mask) = true
 is_of_act (acts.Leave entry) replies.Yours = true
 is_of_act (acts.Leave entry) replies.Old = true
-is_of_act (acts.Purge target) replies.InStar = true
 is_of_act (acts.Purge target) replies.NoSuch = true
 is_of_act (acts.Purge target) replies.Purged = true
 is_of_act acts.Rest replies.Resting = true

@@ -7,11 +7,12 @@ use Rattle.std.proofs.Math.Dec.{eqb-suc-zero}
 use Rattle.std.proofs.lemmas.Bool.{true≢false}
 use Rattle.grs_base.specs.declared.resource.SysId.{SysId}
 use Rattle.grs_bus.specs.Journal.{is_acted_on, is_entered}
-use Rattle.grs_medium.specs.Apply.{turn_row, switch_ring, switch_row, submit_on, submit_row, take_from, take_row}
-use Rattle.grs_medium.specs.Apply.{leave_row, is_live, without_system, purge_row, resting, rest_row, row, apply}
-use Rattle.grs_medium.specs.Apply.{reply_to, row_changes, changes}
+use Rattle.grs_medium.specs.Apply.{turn_row, switch_ring, switch_row, is_noticed, manages, submit_on, submit_row}
+use Rattle.grs_medium.specs.Apply.{take_from, take_row, leave_row, is_live, without_target, purge_row, resting}
+use Rattle.grs_medium.specs.Apply.{rest_row}
+use Rattle.grs_medium.specs.Apply.{row, apply, reply_to, row_changes, changes}
 use Rattle.grs_medium.specs.Inboxes.{is_empty}
-use Rattle.grs_medium.specs.Medium.{MediumState, inbox, word, all_rest, medium_at_end}
+use Rattle.grs_medium.specs.Medium.{MediumState, awake, inbox, word, all_rest, medium_at_end}
 use Rattle.grs_wire.specs.Replies.{leaves_all}
 use Rattle.grs_wire.specs.LockWords.{is_kept, interest, manager, is_manager, leave_reply, leave_changes}
 use Rattle.grs_wire.specs.Masks.{has}
@@ -21,10 +22,10 @@ use Rattle.grs_wire.specs.declared.medium.Act.TheVariants as acts
 use Rattle.grs_wire.specs.declared.medium.Call.{Call}
 use Rattle.grs_wire.specs.declared.medium.Mail.{Mail}
 use Rattle.grs_wire.specs.declared.medium.Reply.{Reply}
-use Rattle.grs_wire.specs.declared.medium.Reply.TheVariants.{Turned, NotYours, Taken, Already, Left, Kept, Purged}
-use Rattle.grs_wire.specs.declared.medium.Reply.TheVariants.{NoSuch, InStar, Resting, Over, Stale, Removed}
+use Rattle.grs_wire.specs.declared.medium.Reply.TheVariants.{Turned, NotYours, Taken, Already, Left, Kept, Yours}
+use Rattle.grs_wire.specs.declared.medium.Reply.TheVariants.{Old, Purged, NoSuch, Resting, Over, Stale, Removed}
 use Rattle.grs_wire.specs.declared.request.Req.{Req}
-use Rattle.lock_structure.specs.Words.{route, route_by}
+use Rattle.lock_structure.specs.Words.{route, route_by, left_words}
 use Rattle.lock_structure.specs.declared.word.Route.TheVariants as routes
 use Rattle.rsa_message.specs.Message.{Message, stands_at, any_unseen, first_number, moves, turn_reply, turn_changes}
 
@@ -101,7 +102,7 @@ submit_left_out : (m : MediumState) (c : SysId) (e : ℕ) (q : Req)
     → entered (row_changes m c (acts.Submit e q)) (submit_row m c e q).0 ≡ false
     → leaves_all (submit_row m c e q).0 ≡ true
 unfolding row_changes submit_row route
-submit_left_out m c e q h = by_manager (manager (word m e)) h
+submit_left_out m c e q h = by_notice (is_noticed m c e) (manages m c e) h
   where
     by_same : (s : SysId) (b : Bool) → entered (not b) (submit_on m c e q (cond b routes.Sole (routes.To s))).0 ≡ false
         → leaves_all (submit_on m c e q (cond b routes.Sole (routes.To s))).0 ≡ true
@@ -112,6 +113,19 @@ submit_left_out m c e q h = by_manager (manager (word m e)) h
         → leaves_all (submit_on m c e q (route_by o c)).0 ≡ true
     by_manager None h = cc
     by_manager (Some s) h = by_same s (s.0 == c.0) h
+
+    by_notice : (b own : Bool)
+        → entered (not b && not (manages m c e))
+        (cond {A = Reply × MediumState} b (cond own Yours Old, m)
+        (submit_on m c e q (route_by (manager (word m e)) c))).0
+        ≡ false
+        → leaves_all
+        (cond {A = Reply × MediumState} b (cond own Yours Old, m)
+        (submit_on m c e q (route_by (manager (word m e)) c))).0
+        ≡ true
+    by_notice true true h = refl
+    by_notice true false h = refl
+    by_notice false own h = by_manager (manager (word m e)) h
 
 take_left_out : (m : MediumState) (c : SysId) → entered (row_changes m c acts.Take) (take_row m c).0 ≡ false
     → leaves_all (take_row m c).0 ≡ true
@@ -128,29 +142,40 @@ take_left_out m c h = by_mail (inbox m c.0) h
 leave_left_out : (m : MediumState) (c : SysId) (e : ℕ)
     → entered (row_changes m c (acts.Leave e)) (leave_row m c e).0 ≡ false → leaves_all (leave_row m c e).0 ≡ true
 unfolding row_changes leave_row leave_reply
-leave_left_out m c e h = by_kept (is_kept (word m e) c) (leave_changes (word m e) c) h
+leave_left_out m c e h = by_notice (is_noticed m c e) (manages m c e) h
   where
+    left : MediumState
+    left = cond (leave_changes (word m e) c) (record m { words = left_words m.words e c; rest = awake m c }) m
+
     by_kept : (b changed : Bool) → entered changed (cond b (Kept (interest (word m e))) Left) ≡ false
         → leaves_all (cond b (Kept (interest (word m e))) Left) ≡ true
     by_kept true changed h = refl
     by_kept false true h = cc
     by_kept false false h = cc
 
+    by_notice : (b own : Bool)
+        → entered (not b && leave_changes (word m e) c)
+        (cond {A = Reply × MediumState} b (cond own Yours Old, m)
+        (cond (is_kept (word m e) c) (Kept (interest (word m e))) Left, left)).0
+        ≡ false
+        → leaves_all
+        (cond {A = Reply × MediumState} b (cond own Yours Old, m)
+        (cond (is_kept (word m e) c) (Kept (interest (word m e))) Left, left)).0
+        ≡ true
+    by_notice true true h = refl
+    by_notice true false h = refl
+    by_notice false own h = by_kept (is_kept (word m e) c) (leave_changes (word m e) c) h
+
 purge_left_out : (m : MediumState) (c t : SysId) → entered (row_changes m c (acts.Purge t)) (purge_row m c t).0 ≡ false
     → leaves_all (purge_row m c t).0 ≡ true
 unfolding row_changes purge_row
-purge_left_out m c t h = by_mode m.star (is_live m t) h
+purge_left_out m c t h = by_living (is_live m t) h
   where
-    by_mode : (b d : Bool)
-        → entered (not b && d)
-        (cond {A = Reply × MediumState} b (InStar, m) (cond d (Purged, without_system m c t) (NoSuch, m))).0
-        ≡ false
-        → leaves_all (cond {A = Reply × MediumState} b (InStar, m)
-        (cond d (Purged, without_system m c t) (NoSuch, m))).0
-        ≡ true
-    by_mode true d h = cc
-    by_mode false true h = cc
-    by_mode false false h = cc
+    by_living : (b : Bool)
+        → entered b (cond {A = Reply × MediumState} b (Purged, without_target m c t) (NoSuch, m)).0 ≡ false
+        → leaves_all (cond {A = Reply × MediumState} b (Purged, without_target m c t) (NoSuch, m)).0 ≡ true
+    by_living true h = cc
+    by_living false h = cc
 
 rest_left_out : (m : MediumState) (c : SysId) → leaves_all (rest_row m c).0 ≡ true
 unfolding rest_row

@@ -126,10 +126,11 @@ fn add_ready(ready: &mut VecDeque<TaskId>, task: TaskId) -> Result<(), NoMemory>
     }
 }
 
-/// Adds that owners are told in each of so many lock entries.
+/// Adds that owners are told in each of so many lock entries, and that the part of each is sent that is owed.
 fn add_entries(tries: &mut List<Choice>, entries: u32) -> Result<(), NoMemory> {
     for entry in 0..entries {
         tries.push(Choice::Tell(entry))?;
+        tries.push(Choice::Part(entry))?;
     }
     Ok(())
 }
@@ -196,7 +197,7 @@ fn turn_or_take(node: &mut Node<'_>) -> Result<(Choice, Prepared), NoMemory>
 
 impl Lap {
     /// The choices of a system of a deck: its tasks go on, its desk commands; and in star mode its requests are sent, settled
-    /// and told, and its interest in lock entries is given up.
+    /// and told, its parts are sent, and its interest in lock entries is given up.
     pub(crate) fn new(alloc: Global, deck: &Deck, system: SysId) -> Result<Lap, NoMemory> {
         let mut tries = List::new(alloc);
         let mut later = List::new(alloc);
@@ -261,16 +262,11 @@ impl Lap {
         }
     }
 
-    /// The event that was picked last changed the system, so that each choice may have something to do. It fixed or told something,
-    /// or didn't.
+    /// The event that was picked last changed the system, so that each choice may have something to do: also a rest, since one that
+    /// changes it was answered Stale, behind which the system may have owners to tell. It fixed or told something, or didn't.
     fn changed(&mut self, got_on: bool) {
         match self.last {
-            Last::Rest => {
-                self.last = Last::Nothing;
-                self.ask_if_stale();
-                return;
-            }
-            Last::Turn => self.busy = self.busy || got_on || self.brought,
+            Last::Turn | Last::Rest => self.busy = self.busy || got_on || self.brought,
             Last::Nothing | Last::Choice | Last::Leave | Last::Look => self.busy = true,
         }
         self.at_rest = false;
@@ -342,9 +338,13 @@ impl Lap {
         Ok(())
     }
 
-    /// What the last call was replied.
+    /// What the last call was replied. Where a lock entry has another manager than the system knows, the mail that says so lies in its
+    /// inbox, so that a look is due.
     pub(crate) fn replied(&mut self, reply: &Reply) {
         self.stale = matches!(reply, Reply::Stale { set: _ });
+        if matches!(reply, Reply::Yours | Reply::Old) {
+            self.ask();
+        }
         self.brought = match reply {
             Reply::Turned {
                 entries,

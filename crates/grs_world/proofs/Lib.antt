@@ -7,3 +7,4 @@ pub mod star
 pub mod move
 pub mod rest
 pub mod lap
+pub mod gather

@@ -32,6 +32,7 @@ pub mod Switching
 pub mod StarRun
 pub mod StarEnd
 pub mod Full
+pub mod Sized
 pub mod KeptUp
 pub mod Units
 pub mod Passing

@@ -1,7 +1,10 @@
 -- The run: what the systems and the message come to together.
 pub mod Each
+pub mod Spared
+pub mod Lost
 pub mod Came
 pub mod Chosen
+pub mod Knowing
 pub mod Waits
 pub mod Laps
 pub mod GoesOn

@@ -9,4 +9,5 @@ pub mod SwitchSamples
 pub mod RestSamples
 pub mod RankSamples
 pub mod RemovalSamples
+pub mod InStarSamples
 pub mod StopSamples

@@ -1,5 +1,8 @@
 -- The run in star mode.
 pub mod Under
+pub mod Calm
+pub mod Plain
+pub mod Usual
 pub mod Boxes
 pub mod Members
 pub mod Roles

@@ -14,7 +14,7 @@ use Rattle.grs_wire.specs.declared.history.HistEntry.{HistEntry}
 use Rattle.grs_wire.specs.declared.request.Fixed.{Fixed}
 use Rattle.grs_wire.specs.declared.request.Fixed.TheVariants.{Purged}
 use Rattle.grs_wire.specs.declared.told.Said.{Said}
-use Rattle.grs_wire.specs.declared.told.Said.TheVariants.{StarDone, StarAlready, VaryDone, VaryNoSuch, VaryInStar}
+use Rattle.grs_wire.specs.declared.told.Said.TheVariants.{StarDone, StarAlready, VaryDone, VaryNoSuch}
 use Rattle.grs_wire.specs.declared.told.Told.{Told}
 use Rattle.grs_wire.specs.declared.told.ToldLine.{ToldLine}
 use Rattle.grs_wire.specs.declared.told.ToldLine.TheVariants.{Coded, Shown, Post, Ended, Desk}
@@ -68,13 +68,13 @@ abbrev pub purges : SysId → SysId → List (SysId × Fixed) → Bool
 purges s target fixed = list_any (λ x. (x.0.0 == s.0) && is_purge target x.1) fixed
 
 -- What is said of a command has its cause. The complex changes to star mode once. A system is removed by the
--- event that tells it, and there is none any more where it was removed.
+-- event that tells it, and there is none any more where it was removed. That none is removed in star mode is never
+-- said.
 abbrev pub HasCause : Deck → Moment → ℕ → SysId → Option Order → Said → Type 0
 HasCause deck m e s (Some Star) StarDone = list_any (λ x. tells_star x.line) m.before ≡ false
 HasCause deck m e s (Some Star) StarAlready = was_star deck e m.before ≡ true
 HasCause deck m e s (Some (Vary target)) VaryDone = purges s target m.fixed ≡ true
 HasCause deck m e s (Some (Vary target)) VaryNoSuch = list_any (removes target) m.history ≡ true
-HasCause deck m e s (Some (Vary target)) VaryInStar = was_star deck e m.before ≡ true
 HasCause deck m e s _ _ = ⊥
 
 -- a line told at a desk agrees: it comes behind those of earlier desk lines, and has its cause

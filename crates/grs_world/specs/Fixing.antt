@@ -8,7 +8,7 @@ use Rattle.grs_legal.specs.declared.meaning.Meaning.TheVariants as lines
 use Rattle.grs_medium.specs.Apply.{reply_to}
 use Rattle.grs_medium.specs.Medium.{MediumState}
 use Rattle.grs_node.specs.Node.{NodeState, has_most, prepare}
-use Rattle.grs_node.specs.Star.{StarPart}
+use Rattle.grs_node.specs.Star.{StarPart, first_held}
 use Rattle.grs_node.specs.declared.prepared.Prepared.{Prepared}
 use Rattle.grs_node.specs.declared.prepared.Prepared.TheVariants.{Quiet, Call, Nothing}
 use Rattle.grs_wire.specs.Masks.{has}
@@ -40,18 +40,18 @@ asks_for t (Some a) = Asked (record { task = t; want = a.req.want }) ∷ []
 abbrev pub waits_at : NodeState → TaskId → List Fixed
 waits_at n t = asks_for t (state_of n.tasks t).outstanding
 
--- the request that a system took first of those that it has still to settle, if there is one
+-- the first request that a system holds of an entry that it doesn't gather, if there is one
 abbrev pub one_request : Option Req → List Fixed
 one_request None = []
 one_request (Some q) = Asked q ∷ []
 
 abbrev pub held_first : Option StarPart → List Fixed
 held_first None = []
-held_first (Some p) = one_request (slice_get p.held 0)
+held_first (Some p) = one_request (first_held p)
 
--- ---- An event that makes a call. A Turn fixes the first requests of the outbox, as many as were put in; a Send for
--- whose entry there was no manager what its task asks for; a Settle the request that was held first; and a removal
--- itself.
+-- ---- An event that makes a call. A Turn fixes the first requests of the outbox, as many as were put in; a Send that
+-- the system itself answers, as the manager, what its task asks for; a Settle the first request that is held of an
+-- entry that isn't gathered; and a removal itself.
 abbrev pub when_turned : NodeState → Choice → ℕ → List Fixed
 when_turned n choices.Turn taken = map Asked (take taken n.outbox)
 when_turned n _ taken = []
@@ -107,10 +107,8 @@ abbrev pub fixed_by_task : ℕ → NodeState → TaskId → Option (List Meaning
 fixed_by_task limit n t None = []
 fixed_by_task limit n t (Some ls) = fixed_in_phase limit n t ls (state_of n.tasks t).phase
 
--- And a manager decides what its own task asks for that waits to be sent.
 abbrev pub fixed_alone : Deck → NodeState → Choice → List Fixed
 fixed_alone deck n (choices.Task t) = fixed_by_task deck.limit n t (lines_of deck t)
-fixed_alone deck n (choices.Send t) = waits_at n t
 fixed_alone deck n _ = []
 
 -- ---- what an event of a system fixes, by what its choice comes to

@@ -12,4 +12,5 @@ pub mod Changing
 pub mod Passed
 pub mod AtRest
 pub mod Removing
+pub mod InStar
 pub mod Stopped

@@ -83,15 +83,12 @@ pub record AnswersHaveCauses (deck : Deck) (es : List Event) (e : Event) : Type 
   -- a system is told which were removed exactly where it doesn't know it
   pub stale : (set : ℕ) → (reply_of deck (run deck es) e ≡ Some (replies.Stale set))
       ↔ (CallsUnknowing deck (run deck es) e × (set ≡ (run deck es).medium.removed))
-  -- there is no such system exactly where it was removed before, in ring mode
+  -- there is no such system exactly where it was removed before
   pub no_such : (target : SysId) → e.choice ≡ Purge target
       → (reply_of deck (run deck es) e ≡ Some replies.NoSuch)
-      ↔ (CallsKnowing deck (run deck es) e × ((run deck es).medium.star ≡ false)
-      × (list_any (removes target) (hist deck es) ≡ true))
-  -- nobody is removed exactly in star mode
-  pub in_star : (target : SysId) → e.choice ≡ Purge target
-      → (reply_of deck (run deck es) e ≡ Some replies.InStar)
-      ↔ (CallsKnowing deck (run deck es) e × ((run deck es).medium.star ≡ true))
+      ↔ (CallsKnowing deck (run deck es) e × (list_any (removes target) (hist deck es) ≡ true))
+  -- and nobody is answered that none is removed in star mode
+  pub in_star : reply_of deck (run deck es) e ≢ Some replies.InStar
 
 -- ---- the history
 

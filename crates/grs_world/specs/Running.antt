@@ -1,6 +1,6 @@
 -- A run as the code keeps it, and what is seen of it.
 use Rattle.std.specs.Prelude.{◌≡◌, ℕ, Bool, true, not, cond, ◌&&◌, ◌||◌, ◌+◌, List, [], ◌∷◌, ◌++◌, length, map, get_or}
-use Rattle.std.specs.Prelude.{slice_get, Option, Some, None}
+use Rattle.std.specs.Prelude.{◌==◌, slice_get, Option, Some, None}
 use Rattle.grs_base.specs.declared.resource.SysId.{SysId}
 use Rattle.grs_base.specs.declared.resource.TaskId.{TaskId}
 use Rattle.grs_medium.specs.Medium.{medium_at_end}
@@ -54,20 +54,26 @@ is_live w s = lives (length w.nodes) w.medium.removed s.0
 abbrev pub node_at : Deck → List NodeState → SysId → NodeState
 node_at deck ns s = get_or ns s.0 (first_node deck s.0)
 
--- whether nothing is pending at any of these systems, of which the first has this number, but at removed ones: each is
--- given by whether something is pending there
-abbrev pub none_pending : ℕ → ℕ → List Bool → Bool
-none_pending removed s [] = true
-none_pending removed s (pending ∷ more) = (has removed s || not pending) && none_pending removed (s + 1) more
+-- whether something is left to do at a system, where those in the set were removed: something is pending, or it doesn't
+-- know who was removed
+abbrev pub is_busy : Deck → ℕ → NodeState → Bool
+is_busy deck removed n = is_pending deck n || not (n.known == removed)
 
--- whether something is pending at each of these systems
-abbrev pub pending_at : List NodeView → List Bool
-pending_at vs = map (λ v. is_pending v.deck v.node) vs
+-- whether none of these systems is busy, of which the first has this number, but removed ones: each is given by whether
+-- it is
+abbrev pub none_busy : ℕ → ℕ → List Bool → Bool
+none_busy removed s [] = true
+none_busy removed s (busy ∷ more) = (has removed s || not busy) && none_busy removed (s + 1) more
 
--- A world is at rest where nothing is pending at a system that wasn't removed, and nothing is left to do with the
--- medium.
+-- whether each of these systems is
+abbrev pub busy_at : ℕ → List NodeView → List Bool
+busy_at removed vs = map (λ v. is_busy v.deck removed v.node) vs
+
+-- A world is at rest where nothing is pending at a system that wasn't removed, each of these knows who was, and nothing
+-- is left to do with the medium.
 unfoldable pub at_rest : Deck → World → Bool
-at_rest deck w = none_pending w.medium.removed 0 (map (is_pending deck) w.nodes) && medium_at_end w.medium
+at_rest deck w =
+    none_busy w.medium.removed 0 (map (is_busy deck w.medium.removed) w.nodes) && medium_at_end w.medium
 
 -- the units that the tasks of these systems reserve, each with its count, by system and unit
 abbrev pub units_of : List NodeState → List (SysId × ℕ × ℕ)

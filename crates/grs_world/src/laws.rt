@@ -1,5 +1,5 @@
 //! The laws of a run: each function's contract is one, and there is nothing to run.
-ghost use Rattle.std.specs.Prelude.{◌≡◌, true, false, length, List};
+ghost use Rattle.std.specs.Prelude.{◌≡◌, ◌++◌, ◌∷◌, [], true, false, length, List};
 ghost use Rattle.grs_wire.specs.Decks.{IsBounded, AreOrders};
 ghost use Rattle.grs_wire.specs.declared.deck.Deck.{Deck};
 ghost use Rattle.grs_wire.specs.declared.deck.Event.{Event};
@@ -7,6 +7,7 @@ ghost use Rattle.grs_world.specs.Agree.{Sound};
 ghost use Rattle.grs_world.specs.AtRest.{RestsInTheEnd};
 ghost use Rattle.grs_world.specs.Changing.{ChangesFixNothing};
 ghost use Rattle.grs_world.specs.Fixing.{EventFixes};
+ghost use Rattle.grs_world.specs.InStar.{NoneInStar};
 ghost use Rattle.grs_world.specs.Interest.{WordsGoWithSystems};
 ghost use Rattle.grs_world.specs.Kept.{KeptArePlaces, ManagersKeepWell};
 ghost use Rattle.grs_world.specs.Laps.{ComesBackLast, ProcessedLast, AnsweredLast};
@@ -18,19 +19,19 @@ ghost use Rattle.grs_world.specs.Decks.{FitsStar, may_be_star};
 ghost use Rattle.grs_world.specs.World.{run};
 
 /// Every run is sound, in ring mode and in star mode and where it changes from the one to the other, at whatever event: its
-/// history is legal, and what is told agrees with it. So it is wherever systems are removed. Of a deck whose runs may be in star
-/// mode it needs the bounds of systems and lock entries, and of each deck that no desk commands the removal of its own system,
-/// or of one that isn't there.
+/// history is legal, and what is told agrees with it. So it is wherever systems are removed in ring mode, and as long as
+/// none is removed in star mode. Of a deck whose runs may be in star mode it needs the bounds of systems and lock entries,
+/// and of each deck that no desk commands the removal of its own system, or of one that isn't there.
 pub fn runs_are_sound()
-    ensures { (deck : Deck) → (may_be_star deck ≡ true → FitsStar deck) → AreOrders (length deck.systems) 0 deck.systems → (events : List Event) → Sound deck events }
+    ensures { (deck : Deck) → (may_be_star deck ≡ true → FitsStar deck) → AreOrders (length deck.systems) 0 deck.systems → (events : List Event) → NoneInStar deck events → Sound deck events }
 {}
 
-/// In every run of such a deck what is kept of each Systems resource is the list that the history leads to. In ring mode each
-/// live system keeps it: its table has that list once the entries that it hasn't seen are processed. In star mode the manager
-/// of the resource's lock entry does, in its table as long as it hasn't changed; where there is none, the history has nothing
-/// on the resource.
+/// In every run of such a deck that removes no system in star mode what is kept of each Systems resource is the list that
+/// the history leads to. In ring mode each live system keeps it: its table has that list once the entries that it hasn't
+/// seen are processed. In star mode the manager of the resource's lock entry does, in its table as long as it hasn't
+/// changed; where there is none, the history has nothing on the resource.
 pub fn kept_are_places()
-    ensures { (deck : Deck) → (may_be_star deck ≡ true → FitsStar deck) → (events : List Event) → KeptArePlaces deck events }
+    ensures { (deck : Deck) → (may_be_star deck ≡ true → FitsStar deck) → (events : List Event) → NoneInStar deck events → KeptArePlaces deck events }
 {}
 
 /// The change to star mode fixes nothing: neither does a Switch, nor an event by which its system changes. So no owner's and no
@@ -39,36 +40,37 @@ pub fn changes_fix_nothing()
     ensures { (deck : Deck) → (events : List Event) → (next : Event) → ChangesFixNothing deck events next }
 {}
 
-/// What an event adds to what was fixed, by its choice and the reply to its call: a Turn the requests that it put in, a Send that
-/// found no manager what its task asks for, a Settle the request that was held first, a removal itself, and any other choice or
-/// reply nothing. Without a call a manager fixes what its own task asks for that waits to be sent, and a task that goes on what
-/// it asks of its system alone: the request of its ENQ or DEQ, or of the release with which it ends, for a resource that isn't one
-/// of the whole complex, or the look of its line at that system's lists. An event of a system that isn't there, or was removed,
-/// fixes nothing.
+/// What an event adds to what was fixed, by its choice and the reply to its call: a Turn the requests that it put in, a
+/// Send that its own system is to answer, as the manager, what its task asks for, a Settle the first request that is held
+/// of an entry that isn't gathered, a removal itself, and any other choice or reply nothing. Without a call a task that goes
+/// on fixes what it asks of its system alone: the request of its ENQ or DEQ, or of the release with which it ends, for a
+/// resource that isn't one of the whole complex, or the look of its line at that system's lists. An event of a system that
+/// isn't there, or was removed, fixes nothing.
 pub fn what_events_fix()
     ensures { (deck : Deck) → (events : List Event) → (next : Event) → EventFixes deck events next }
 {}
 
-/// In every run of such a deck the table that each live system keeps of the Systems resources, as long as it hasn't changed to
-/// star mode, is that of a front of the history: of what was fixed before the first entry of the message that the system has
-/// still to process.
+/// In every run of such a deck that removes no system in star mode the table that each live system keeps of the Systems
+/// resources, as long as it hasn't changed to star mode, is that of a front of the history: of what was fixed before the
+/// first entry of the message that the system has still to process.
 pub fn tables_are_fronts()
-    ensures { (deck : Deck) → (may_be_star deck ≡ true → FitsStar deck) → (events : List Event) → TablesAreFronts deck events }
+    ensures { (deck : Deck) → (may_be_star deck ≡ true → FitsStar deck) → (events : List Event) → NoneInStar deck events → TablesAreFronts deck events }
 {}
 
-/// Wherever a run is in star mode, the lock words go with the systems: the set of an entry's word holds a system exactly where
-/// that system is live and has interest in the entry, it names a system as the manager exactly where that system is live and
-/// manages the entry, and it names one exactly where its set isn't empty, who is in it. A system that hasn't changed has interest in what its table leads
-/// to, and manages that, once it has processed what it hasn't seen.
+/// Wherever a run that removes no system in star mode is in that mode, the lock words go with the systems: the set of an
+/// entry's word holds a system exactly where that system is live and has interest in the entry, it names a system as the
+/// manager exactly where that system is live and manages the entry, and it names one exactly where its set isn't empty, who
+/// is in it. A system that hasn't changed has interest in what its table leads to, and manages that, once it has processed
+/// what it hasn't seen.
 pub fn words_go_with_systems()
-    ensures { (deck : Deck) → (may_be_star deck ≡ true → FitsStar deck) → (events : List Event) → (run deck events).medium.star ≡ true → WordsGoWithSystems deck events }
+    ensures { (deck : Deck) → (may_be_star deck ≡ true → FitsStar deck) → (events : List Event) → NoneInStar deck events → (run deck events).medium.star ≡ true → WordsGoWithSystems deck events }
 {}
 
-/// In every run of such a deck each system that is in star mode keeps well what it manages: ranks rise along the list of each
-/// resource, so that what is kept of it is in the order of ranks; and each owner that is still to be told owns and is of
-/// another system.
+/// In every run of such a deck that removes no system in star mode each system that is in that mode keeps well what it
+/// manages: ranks rise along the list of each resource, so that what is kept of it is in the order of ranks; and each owner
+/// that is still to be told owns and is of another system.
 pub fn managers_keep_well()
-    ensures { (deck : Deck) → (may_be_star deck ≡ true → FitsStar deck) → (events : List Event) → ManagersKeepWell deck events }
+    ensures { (deck : Deck) → (may_be_star deck ≡ true → FitsStar deck) → (events : List Event) → NoneInStar deck events → ManagersKeepWell deck events }
 {}
 
 /// In every run of a deck that begins in ring mode a request of the message comes back last: where the message stands at the
@@ -78,27 +80,29 @@ pub fn requests_come_back_last()
 {}
 
 /// So an answer comes last. In every run of such a deck, where the next event gives a system a request that this system put
-/// in, which is then answered, no other system has still to process it; and by the event that tells a task an answer, no other
-/// system has still to process a request of that task that stands in the message before that event or behind it.
+/// in, which is then answered, no other system has still to process it; and, where no system is removed in star mode, by
+/// the event that tells a task an answer, no other system has still to process a request of that task that stands in the
+/// message before that event or behind it.
 pub fn answers_come_last()
     ensures given { (deck : Deck) → deck.star ≡ false → (events : List Event) (next : Event) → ProcessedLast deck events next }
-    ensures told { (deck : Deck) → deck.star ≡ false → (may_be_star deck ≡ true → FitsStar deck) → (events : List Event) (next : Event) → AnsweredLast deck events next }
+    ensures told { (deck : Deck) → deck.star ≡ false → (may_be_star deck ≡ true → FitsStar deck) → (events : List Event) (next : Event) → NoneInStar deck (events ++ next ∷ []) → AnsweredLast deck events next }
 {}
 
-/// In every run of such a deck nothing that is passed is left untold, of whichever system and whatever the others do: each line
-/// that a task has passed has its code line, a WAIT and what waited too, or its rows; who has ended has its END line; and each
-/// line of a desk that is done is told there.
+/// In every run of such a deck that removes no system in star mode nothing that is passed is left untold, of whichever
+/// system and whatever the others do: each line that a task has passed has its code line, a WAIT and what waited too, or
+/// its rows; who has ended has its END line; and each line of a desk that is done is told there.
 pub fn passed_is_told()
-    ensures { (deck : Deck) → (may_be_star deck ≡ true → FitsStar deck) → AreOrders (length deck.systems) 0 deck.systems → (events : List Event) → PassedIsTold deck events }
+    ensures { (deck : Deck) → (may_be_star deck ≡ true → FitsStar deck) → AreOrders (length deck.systems) 0 deck.systems → (events : List Event) → NoneInStar deck events → PassedIsTold deck events }
 {}
 
-/// Where a run of a deck within the bounds ends at rest, in ring mode or in star mode, whichever systems were removed, nothing is
-/// lost on the live ones: each of their tasks that owns a resource was told control of it, each of these tasks' ENQs and DEQs
-/// that wasn't answered WAIT has its code line, and each display whose looks all stand its rows; a task of theirs that hasn't
-/// ended is shown to wait and has an element that it doesn't own, for which its last entry waits or the WAIT line at which it
-/// stands; and each of their units is reserved as often as their tasks own a resource on which a RESERVE of the unit queued them.
+/// Where a run of a deck within the bounds ends at rest, in ring mode or in star mode, whichever systems were removed in
+/// ring mode, and none in star mode, nothing is lost on the live ones: each of their tasks that owns a resource was told
+/// control of it, each of these tasks' ENQs and DEQs that wasn't answered WAIT has its code line, and each display whose
+/// looks all stand its rows; a task of theirs that hasn't ended is shown to wait and has an element that it doesn't own,
+/// for which its last entry waits or the WAIT line at which it stands; and each of their units is reserved as often as
+/// their tasks own a resource on which a RESERVE of the unit queued them.
 pub fn rests_in_the_end()
-    ensures { (deck : Deck) → IsBounded deck → (events : List Event) → RestsInTheEnd deck events }
+    ensures { (deck : Deck) → IsBounded deck → (events : List Event) → NoneInStar deck events → RestsInTheEnd deck events }
 {}
 
 /// In every run the removed systems are those of which the history has the removal.
@@ -107,8 +111,8 @@ pub fn removed_are_in_history()
 {}
 
 /// When an event is answered what has to do with removals. A removed system's events do nothing. A system is told which were
-/// removed exactly where its call doesn't know it; that there is no such system exactly where the history has its removal, in
-/// ring mode; and that nobody is removed exactly in star mode.
+/// removed exactly where its call doesn't know it; and that there is no such system exactly where the history has its removal.
+/// That nobody is removed in star mode is never answered.
 pub fn answers_have_causes()
     ensures { (deck : Deck) → AreOrders (length deck.systems) 0 deck.systems → (events : List Event) (next : Event) → AnswersHaveCauses deck events next }
 {}
@@ -118,7 +122,7 @@ pub fn removals_are_entries()
     ensures { (deck : Deck) → (events : List Event) (next : Event) → RemovalsAreEntries deck events next }
 {}
 
-/// No entry of a task of the removed system stands behind the removal.
+/// No entry of a task of the removed system stands behind the removal, in either mode.
 pub fn none_follows_its_removal()
     ensures { (deck : Deck) → (may_be_star deck ≡ true → FitsStar deck) → AreOrders (length deck.systems) 0 deck.systems → (events : List Event) → NoneFollows deck events }
 {}

@@ -3,7 +3,7 @@ ghost use Rattle.std.specs.Prelude.{◌≡◌, ◌≤◌, ◌++◌, cond, map, l
 ghost use Rattle.grs_base.specs.Limits.{most_systems};
 ghost use Rattle.task_state.specs.Units.{units_at};
 ghost use Rattle.grs_world.specs.Running as runs;
-ghost use Rattle.grs_world.specs.Running.{nodes_of, none_pending, pending_at, units_of, end_of, task_end};
+ghost use Rattle.grs_world.specs.Running.{nodes_of, none_busy, busy_at, units_of, end_of, task_end};
 ghost use Rattle.grs_world.specs.Stopped.{live_below};
 
 use grs_base::{List, NoMemory, SysId, TaskId};
@@ -12,13 +12,13 @@ use grs_wire::TaskEnd;
 use grs_wire::masks::has_system;
 use std::alloc::Global;
 
-/// Whether nothing is pending at these systems, but at removed ones.
-pub(crate) fn none_pending(removed: u32, nodes: &[Node<'_>]) -> bool
+/// Whether nothing is pending at these systems, and each knows who was removed, but for removed ones.
+pub(crate) fn none_busy(removed: u32, nodes: &[Node<'_>]) -> bool
     requires { length nodes.now ≤ most_systems }
-    ensures { result ≡ none_pending removed 0 (pending_at nodes.now) }
+    ensures { result ≡ none_busy removed 0 (busy_at removed nodes.now) }
 {
     for (place, node) in nodes.iter().enumerate() {
-        if !has_system(removed, SysId(place as u8)) && node.pending() {
+        if !has_system(removed, SysId(place as u8)) && (node.pending() || node.known() != removed) {
             return false;
         }
     }

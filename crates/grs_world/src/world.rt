@@ -268,13 +268,13 @@ impl<'d> World<'d> {
         Ok(turns)
     }
 
-    /// Whether nothing is left to do: nothing is pending at a system that wasn't removed, and nothing is left to
-    /// do with the medium.
+    /// Whether nothing is left to do: nothing is pending at a system that wasn't removed, each of these knows who was, and
+    /// nothing is left to do with the medium.
     #[tactic(auto, using(crate::proofs::code::Nodes::nodes), unfolding(crate::specs::Running::at_rest))]
     pub fn at_rest(&self) -> bool
         ensures { result ≡ at_rest self.now.deck self.now.world }
     {
-        summary::none_pending(self.medium.removed(), self.nodes.as_slice()) && self.medium.at_end()
+        summary::none_busy(self.medium.removed(), self.nodes.as_slice()) && self.medium.at_end()
     }
 
     /// What the events fixed, each with its system, in order.

@@ -1,2 +1,3 @@
 pub mod Client
 pub mod Laws
+pub mod Owes

@@ -6,5 +6,7 @@ mod answers;
 mod apart;
 mod client;
 pub mod laws;
+mod owes;
 
 pub use client::{on_mail, tell_answer_ranked};
+pub use owes::Owes;

@@ -1,6 +1,5 @@
 -- Worked examples of records that are gathered.
-use Rattle.std.proofs.Common.{◌≡◌, ◌+◌, ℕ, Bool, true, false, List, [], ◌∷◌, refl, codes}
-use Rattle.std.specs.Prelude.{filter}
+use Rattle.std.proofs.Common.{◌≡◌, ◌+◌, ℕ, true, false, [], ◌∷◌, refl, codes}
 use Rattle.grs_base.specs.Limits.{last_number}
 use Rattle.grs_base.specs.declared.resource.Ctl.TheVariants.{E}
 use Rattle.grs_base.specs.declared.resource.Res.{Res}
@@ -23,8 +22,8 @@ rec r s n rank =
       told = false;
     }
 
--- The first of three systems managed an entry and is removed. The second system has the third element, the third system has
--- the second one, which it sends: both count, and what was sent comes first.
+-- The first of three systems managed an entry and is removed. The second system has the third element, the third system
+-- has the second one, which it sends: both count, and what was sent comes first.
 of_two :
     (counting (all_of (rec pq 1 0 3 ∷ []) ((rec pq 2 0 2 ∷ []) ∷ [])) ≡ rec pq 1 0 3 ∷ rec pq 2 0 2 ∷ [])
     × (rises (ranks (rec pq 2 0 2 ∷ rec pq 1 0 3 ∷ [])) ≡ true)
@@ -40,8 +39,8 @@ clashing :
     × (counting (rec pq 1 0 1 ∷ rec pq 2 0 1 ∷ rec pq 2 0 2 ∷ []) ≡ rec pq 1 0 1 ∷ rec pq 2 0 2 ∷ [])
 clashing = (refl, refl, refl, refl)
 
--- What the third system sends of the only entry: a record of its own counts; one of a resource that has no entry, of another
--- system's task, or past the last rank doesn't.
+-- What the third system sends of the only entry: a record of its own counts; one of a resource that has no entry, of
+-- another system's task, or past the last rank doesn't.
 sent :
     (is_of_part 1 0 (record { 0 = 2 }) (rec pq 2 0 2) ≡ true)
     × (is_of_part 1 0 (record { 0 = 2 }) (rec (System (record { 0 = 2 }) (codes "P") (codes "Q")) 2 0 2) ≡ false)

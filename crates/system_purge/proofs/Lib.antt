@@ -1,2 +1,5 @@
-pub mod Gathers
+pub mod Counting
 pub mod GatherSamples
+pub mod GatheredParts
+pub mod GatherSlots
+pub mod TellEach

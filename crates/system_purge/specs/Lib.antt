@@ -1,2 +1,3 @@
 pub mod Purge
 pub mod Gather
+pub mod Gathers

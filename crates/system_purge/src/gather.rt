@@ -96,7 +96,7 @@ fn add_counting(recs: &mut List<PartRec>, rec: PartRec) -> Result<(), NoMemory>
 }
 
 /// The records that count: of two that have one rank, or are of one task and resource, only the first.
-#[tactic(auto, using(crate::proofs::Gathers::clear))]
+#[tactic(auto, using(crate::proofs::Counting::clear))]
 fn counting(alloc: Global, all: List<PartRec>) -> Result<List<PartRec>, NoMemory>
     ensures count { IfOk result (λ recs. recs ≡ gather.counting all) }
     ensures clear { IfOk result (λ recs. are_clear recs ≡ true) }
@@ -117,6 +117,7 @@ pub fn gathered(
     parts: &List<List<PartRec>>,
 ) -> Result<List<PartRec>, NoMemory>
     ensures order { IfOk result (λ recs. AreInOrder (gather.counting (gather.all_of own.now parts.now)) recs) }
+    ensures recs { IfOk result (λ recs. recs ≡ gather.gathered own.now parts.now) }
     ensures clear { IfOk result (λ recs. are_clear recs ≡ true) }
 {
     let all = all_of(alloc, own, parts)?;

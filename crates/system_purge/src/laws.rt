@@ -1,5 +1,6 @@
-//! Laws of what is gathered: each function's contract is one, and there is nothing to run.
-ghost use Rattle.system_purge.specs.Gather.{OrderIsOne, CountingAreClear, ClearAllCount, NoneIsMissing, FirstCounts};
+//! Laws of what is gathered, and of who is told control: each function's contract is one, and there is nothing to run.
+ghost use Rattle.system_purge.specs.Gather.{OrderIsOne, CountingAreClear, ClearAllCount, NoneIsMissing, FirstCounts, GatheredInOrder};
+ghost use Rattle.system_purge.specs.Purge.{FreedAreTold};
 
 /// Records are in order in one way alone.
 pub fn order_is_one()
@@ -24,4 +25,14 @@ pub fn none_is_missing()
 /// The first record counts.
 pub fn first_counts()
     ensures { FirstCounts }
+{}
+
+/// What is gathered is in order.
+pub fn gathered_in_order()
+    ensures { GatheredInOrder }
+{}
+
+/// Tasks that get control list by list are told one after the other.
+pub fn freed_are_told()
+    ensures { FreedAreTold }
 {}

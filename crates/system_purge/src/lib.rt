@@ -4,8 +4,12 @@
 #![tactic(auto)]
 
 mod gather;
+mod gathers;
 pub mod laws;
+mod part;
 mod removal;
 
 pub use gather::{gathered, merge_parts, part_of_entry};
-pub use removal::remove;
+pub use gathers::{Gathering, Gathers, SentPart};
+pub use part::part_of;
+pub use removal::{remove, tell_each};

@@ -5,7 +5,7 @@ ghost use Rattle.grs_base.specs.State.{remove_state};
 ghost use Rattle.system_purge.specs.Purge as purge;
 
 use freed_owners::freed;
-use grs_base::{NoMemory, Queues, Row, SysId};
+use grs_base::{NoMemory, Queues, Res, Row, SysId, TaskId};
 use queue_table::Table;
 use std::alloc::Global;
 use task_state::{Tasks, tell_new};
@@ -21,6 +21,22 @@ fn tell_freed(alloc: Global, tasks: &mut Tasks, system: SysId, rows: &[Row]) -> 
     while let Some((row, tail)) = rest.split_first() {
         let owners = freed(alloc, system, &row.res, row.elems.as_slice())?;
         tell_new(tasks, Some(&row.res), owners.as_slice())?;
+        rest = tail;
+    }
+    Ok(())
+}
+
+/// Tells tasks that they got control, each of its resource, one after the other. Tasks of other systems are passed over, and
+/// who was told before is told nothing. After NoMemory the system whose tasks these are is to be given up.
+#[tactic(auto, unfolding(crate::specs::Purge::tell_each, task_state::specs::Replies::tell_new, task_state::specs::Replies::tell_all))]
+pub fn tell_each(tasks: &mut Tasks, owners: &[(TaskId, Res)]) -> Result<(), NoMemory>
+    ensures step { OnOk result (tasks.new ≡ purge.tell_each tasks.old owners.now) }
+    ensures system { tasks.new.system ≡ tasks.old.system }
+    ensures count { length tasks.new.tasks ≡ length tasks.old.tasks }
+{
+    let mut rest = owners;
+    while let Some((owner, tail)) = rest.split_first() {
+        tell_new(tasks, Some(&owner.1), &[owner.0])?;
         rest = tail;
     }
     Ok(())

@@ -5,9 +5,10 @@ use Rattle.std.specs.Prelude.{◌==◌}
 use Rattle.std.proofs.lemmas.Bool.{true≢false}
 use Rattle.std.proofs.lemmas.Bool.Decides.{eqb_tells}
 use Rattle.grs_base.specs.declared.resource.SysId.{SysId}
-use Rattle.grs_medium.specs.Apply.{switch_ring, switch_row, turn_row, submit_on, submit_row, joined, manages, take_from}
-use Rattle.grs_medium.specs.Apply.{take_row, mail_row, leave_row, is_live, without_system, purge_row, rest_row, row}
-use Rattle.grs_medium.specs.Apply.{apply, reply_to, medium_after, ActFits}
+use Rattle.grs_medium.specs.Apply.{switch_ring, switch_row, turn_row, is_noticed, submit_on, submit_row, joined}
+use Rattle.grs_medium.specs.Apply.{manages}
+use Rattle.grs_medium.specs.Apply.{take_from, take_row, mail_row, leave_row, is_live, without_system, without_in_star}
+use Rattle.grs_medium.specs.Apply.{without_target, purge_row, rest_row, row, apply, reply_to, medium_after, ActFits}
 use Rattle.grs_medium.specs.Medium.{MediumState, inbox, word}
 use Rattle.grs_wire.specs.LockWords.{leave_changes}
 use Rattle.grs_wire.specs.Masks.{has, with_also}
@@ -18,7 +19,7 @@ use Rattle.grs_wire.specs.declared.medium.Act.TheVariants as acts
 use Rattle.grs_wire.specs.declared.medium.Call.{Call}
 use Rattle.grs_wire.specs.declared.medium.Mail.{Mail}
 use Rattle.grs_wire.specs.declared.medium.Reply.{Reply}
-use Rattle.grs_wire.specs.declared.medium.Reply.TheVariants.{Already, Purged, NoSuch, InStar, Stale, Removed}
+use Rattle.grs_wire.specs.declared.medium.Reply.TheVariants.{Already, Purged, NoSuch, Stale, Removed}
 use Rattle.grs_wire.specs.declared.request.Req.{Req}
 use Rattle.lock_structure.specs.Words.{route}
 use Rattle.lock_structure.specs.declared.word.Route.{Route}
@@ -29,6 +30,12 @@ either : (m : MediumState) (b : Bool) (x y : MediumState) → x.removed ≡ m.re
     → (cond b x y).removed ≡ m.removed
 either m true x y p q = p
 either m false x y p q = q
+
+-- a call that a notice forestalls removes nobody
+either_reply : (m : MediumState) (b : Bool) (r : Reply) (x : Reply × MediumState) → x.1.removed ≡ m.removed
+    → (cond {A = Reply × MediumState} b (r, m) x).1.removed ≡ m.removed
+either_reply m true r x p = refl
+either_reply m false r x p = p
 
 switches : (m : MediumState) (c : SysId) (words : List ℕ) → (switch_row m c words).1.removed ≡ m.removed
 unfolding switch_row
@@ -45,7 +52,7 @@ joins m c e = either m (manages m c e) m _ refl refl
 
 submits : (m : MediumState) (c : SysId) (e : ℕ) (q : Req) → (submit_row m c e q).1.removed ≡ m.removed
 unfolding submit_row
-submits m c e q = go (route (word m e) c)
+submits m c e q = either_reply m (is_noticed m c e) _ _ (go (route (word m e) c))
   where
     go : (r : Route) → (submit_on m c e q r).1.removed ≡ m.removed
     go routes.Sole = joins m c e
@@ -61,21 +68,28 @@ takes m c = go (inbox m c.0)
 
 leaves : (m : MediumState) (c : SysId) (e : ℕ) → (leave_row m c e).1.removed ≡ m.removed
 unfolding leave_row
-leaves m c e = either m (leave_changes (word m e) c) _ m refl refl
+leaves m c e =
+    either_reply m (is_noticed m c e) _ _ (either m (leave_changes (word m e) c) _ m refl refl)
+
+-- whoever is removed is among the removed, in either mode
+target-joins : (m : MediumState) (c t : SysId) → (without_target m c t).removed ≡ with_also m.removed t.0
+target-joins m c t = go m.star
+  where
+    go : (b : Bool)
+        → (cond b (without_in_star m t) (without_system m c t)).removed ≡ with_also m.removed t.0
+    go true = refl
+    go false = refl
 
 -- a removal is of another system
 purges : (m : MediumState) (c t : SysId) → t.0 ≢ c.0 → has (purge_row m c t).1.removed c.0 ≡ has m.removed c.0
 unfolding purge_row
-purges m c t other = go m.star (is_live m t)
+purges m c t other = go (is_live m t)
   where
-    go : (b d : Bool)
-        → has (cond {A = Reply × MediumState} b (InStar, m)
-        (cond d (Purged, without_system m c t) (NoSuch, m))).1.removed
-        c.0
+    go : (b : Bool)
+        → has (cond {A = Reply × MediumState} b (Purged, without_target m c t) (NoSuch, m)).1.removed c.0
         ≡ has m.removed c.0
-    go true d = refl
-    go false true = has-with_other m.removed t.0 c.0 (λ e. other (sym e))
-    go false false = refl
+    go true = ap (λ r. has r c.0) (target-joins m c t) ∙ has-with_other m.removed t.0 c.0 (λ e. other (sym e))
+    go false = refl
 
 rows : (m : MediumState) (c : SysId) (act : Act) → ActFits m c act → has (row m c act).1.removed c.0 ≡ has m.removed c.0
 unfolding row turn_row mail_row rest_row
@@ -118,7 +132,7 @@ was_there m c call h = go (has m.removed c.0) h
 -- one that isn't removed behind a call wasn't before it
 purged : (m : MediumState) (c t : SysId) (u : ℕ) → has (purge_row m c t).1.removed u ≡ false → has m.removed u ≡ false
 unfolding purge_row
-purged m c t u h = go m.star (is_live m t) h
+purged m c t u h = go (is_live m t) h
   where
     by_target : (((u == t.0) ≡ true) × (u ≡ t.0)) ⊎ (((u == t.0) ≡ false) × (u ≢ t.0))
         → has (with_also m.removed t.0) u ≡ false → has m.removed u ≡ false
@@ -126,15 +140,11 @@ purged m c t u h = go m.star (is_live m t) h
         absurd (true≢false (sym (has-with_same m.removed t.0) ∙ ap (has (with_also m.removed t.0)) (sym is.1) ∙ h))
     by_target (inr is) h = sym (has-with_other m.removed t.0 u is.1) ∙ h
 
-    go : (b d : Bool)
-        → has (cond {A = Reply × MediumState} b (InStar, m)
-        (cond d (Purged, without_system m c t) (NoSuch, m))).1.removed
-        u
-        ≡ false
+    go : (b : Bool)
+        → has (cond {A = Reply × MediumState} b (Purged, without_target m c t) (NoSuch, m)).1.removed u ≡ false
         → has m.removed u ≡ false
-    go true d h = h
-    go false true h = by_target (eqb_tells u t.0) h
-    go false false h = h
+    go true h = by_target (eqb_tells u t.0) (ap (λ r. has r u) (sym (target-joins m c t)) ∙ h)
+    go false h = h
 
 row_there : (m : MediumState) (c : SysId) (act : Act) (u : ℕ) → has (row m c act).1.removed u ≡ false
     → has m.removed u ≡ false

@@ -18,7 +18,7 @@ use Rattle.grs_medium.specs.Apply.{resting, rest_row, row, row_changes, changes,
 use Rattle.grs_medium.specs.Medium.{MediumState, systems_of, all_rest, medium_at_end}
 use Rattle.grs_wire.specs.Replies.{is_listed}
 use Rattle.grs_node.specs.Log.{NodeView}
-use Rattle.grs_node.specs.Node.{NodeState, is_pending}
+use Rattle.grs_node.specs.Node.{NodeState}
 use Rattle.grs_wire.proofs.MaskLaws.{has-zero, with-present}
 use Rattle.grs_wire.specs.Masks.{has}
 use Rattle.grs_wire.specs.declared.deck.Deck.{Deck}
@@ -32,11 +32,13 @@ use Rattle.grs_wire.specs.declared.medium.Reply.TheVariants.{Over, Resting, Stal
 use Rattle.grs_medium.proofs.Replies.{replies_are_listed}
 use Rattle.grs_workers.specs.Beside.{medium_of, IsServed, AreServed, RanBeside, LastCall, AllLast}
 use Rattle.grs_workers.specs.Stands.{is_last_reply}
+use Rattle.grs_world.proofs.rest.RingEnd.{no_length}
 use Rattle.grs_world.proofs.system.First.{systems_of-first}
-use Rattle.grs_world.specs.Running.{none_pending, at_rest}
+use Rattle.grs_world.specs.Running.{at_rest, is_busy, none_busy}
 use Rattle.grs_world.specs.World.{World, run}
+use Rattle.rsa_message.specs.Message.{any_unseen}
 use Rattle.grs_top.proofs.merged.Live.{stays_there, was_there}
-use Rattle.grs_top.proofs.rest.Idle.{runs_idle}
+use Rattle.grs_top.proofs.rest.Idle.{AreInformed, IsInformed, runs_idle}
 
 -- ---- lists
 
@@ -294,41 +296,55 @@ flag-set m u all below live = by_flag (has m.rest u) refl
         absurd (true≢false (sym all ∙ all_others_false (systems_of m) m.removed (λ s. has m.rest s) u below fails))
 
 none-from : (deck : Deck) (removed : ℕ) (ns : List NodeState) (s : ℕ)
-    → ((i : ℕ) (n : NodeState) → slice_get ns i ≡ Some n → has removed (s + i) ≡ false → is_pending deck n ≡ false)
-    → none_pending removed s (map (is_pending deck) ns) ≡ true
+    → ((i : ℕ) (n : NodeState) → slice_get ns i ≡ Some n → has removed (s + i) ≡ false → is_busy deck removed n ≡ false)
+    → none_busy removed s (map (is_busy deck removed) ns) ≡ true
 none-from deck removed [] s each = refl
 none-from deck removed (n ∷ ns) s each =
     and_from _ _ (by_removed (has removed s) refl)
     (none-from deck removed ns (s + 1) (λ i x at live. let number : s + suc i ≡ s + 1 + i = omega arith in
     each (suc i) x at (ap (has removed) number ∙ live)))
   where
-    by_removed : (b : Bool) → has removed s ≡ b → (b || not (is_pending deck n)) ≡ true
+    by_removed : (b : Bool) → has removed s ≡ b → (b || not (is_busy deck removed n)) ≡ true
     by_removed true is = refl
     by_removed false is = let number : s + 0 ≡ s = omega arith in ap not (each 0 n refl (ap (has removed) number ∙ is))
 
-module _ (deck : Deck) (m : MediumState) (journal : List JEntry) (vs : List NodeView) (h : RanBeside deck m journal vs)
-    (last : AllLast deck journal) (some : 0 < length deck.systems) where
-  ends : Rested m
-  ends =
-      subst Rested (sym h.medium) (all_rested (medium_of deck) (length deck.systems) journal
-      (systems_of-first (length deck.systems) deck.entries deck.star) refl some h.served last)
+-- at the end nothing of the message is left to process
+knows : (m : MediumState) (u : ℕ) (n : NodeState) → medium_at_end m ≡ true → IsInformed m u n → n.known ≡ m.removed
+unfolding medium_at_end any_unseen
+knows m u n end (inl same) = same
+knows m u n end (inr ring) =
+    let none : m.message.entries ≡ [] =
+    no_length m.message.entries (and_parts (length m.message.entries == 0) _
+    (and_parts _ ((length m.message.entries == 0) && (m.message.still == 0)) end).1).0 in
+    absurd (true≢false (sym ring.1 ∙ ap (any_unseen (record { 0 = u })) none))
 
-  -- so is the world of any run that leads to this medium and to so many systems
-  pub rests : (es : List Event) → (run deck es).medium ≡ m → length (run deck es).nodes ≡ length deck.systems
-      → at_rest deck (run deck es) ≡ true
-  unfolding at_rest
-  rests es medium count =
-      let w : World = run deck es in
-      let size : systems_of w.medium ≡ length w.nodes =
-      ap systems_of (medium ∙ h.medium)
-      ∙ systems-after (medium_of deck) journal h.served
-      ∙ systems_of-first (length deck.systems) deck.entries deck.star
-      ∙ sym count in
-      let all : all_rest w.medium ≡ true = ap (λ (x : MediumState). all_rest x) medium ∙ ends.rest in
-      and_from _ _
-      (none-from deck w.medium.removed w.nodes 0 (λ i n at live.
-      let number : 0 + i ≡ i = omega arith in
-      let lives : has w.medium.removed i ≡ false = ap (has w.medium.removed) (sym number) ∙ live in
-      runs_idle deck es i n at lives
-      (flag-set w.medium i all (subst (λ k. i < k) (sym size) (slice_get_within w.nodes i n at)) lives)))
-      (ap medium_at_end medium ∙ ends.end)
+module _ (deck : Deck) (m : MediumState) (journal : List JEntry) (vs : List NodeView) (h : RanBeside deck m journal vs)
+    (last : AllLast deck journal) (some : 0 < length deck.systems) (informed : (es : List Event) → AreInformed (run deck es))
+  where
+    ends : Rested m
+    ends =
+        subst Rested (sym h.medium) (all_rested (medium_of deck) (length deck.systems) journal
+        (systems_of-first (length deck.systems) deck.entries deck.star) refl some h.served last)
+
+    -- so is the world of any run that leads to this medium and to so many systems
+    pub rests : (es : List Event) → (run deck es).medium ≡ m → length (run deck es).nodes ≡ length deck.systems
+        → at_rest deck (run deck es) ≡ true
+    unfolding at_rest
+    rests es medium count =
+        let w : World = run deck es in
+        let size : systems_of w.medium ≡ length w.nodes =
+        ap systems_of (medium ∙ h.medium)
+        ∙ systems-after (medium_of deck) journal h.served
+        ∙ systems_of-first (length deck.systems) deck.entries deck.star
+        ∙ sym count in
+        let all : all_rest w.medium ≡ true = ap (λ (x : MediumState). all_rest x) medium ∙ ends.rest in
+        and_from _ _
+        (none-from deck w.medium.removed w.nodes 0 (λ i n at live.
+        let number : 0 + i ≡ i = omega arith in
+        let lives : has w.medium.removed i ≡ false = ap (has w.medium.removed) (sym number) ∙ live in
+        let set : has w.medium.rest i ≡ true =
+        flag-set w.medium i all (subst (λ k. i < k) (sym size) (slice_get_within w.nodes i n at)) lives in
+        or_from _ _ (runs_idle deck informed es i n at lives set)
+        (ap not (eq-eqb n.known w.medium.removed
+        (knows w.medium i n (ap medium_at_end medium ∙ ends.end) (informed es i n at lives set))))))
+        (ap medium_at_end medium ∙ ends.end)

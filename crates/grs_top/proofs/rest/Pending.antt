@@ -1,7 +1,7 @@
 -- A system at which nothing is pending: what it can still do.
 use Rattle.std.proofs.Common.{◌≡◌, ℕ, zero, suc, Bool, true, false, cond, not, ◌||◌, List, [], ◌∷◌, length, take}
 use Rattle.std.proofs.Common.{Option, Some, None, refl, ap, sym, ◌∙◌, subst}
-use Rattle.std.specs.Prelude.{◌==◌, nat_lt, slice_get, slice_set, is_some}
+use Rattle.std.specs.Prelude.{◌==◌, find, nat_lt, slice_get, slice_set, is_some}
 use Rattle.std.specs.List.{list_any}
 use Rattle.std.specs.Option.{option_map}
 use Rattle.std.proofs.Math.Dec.{eqb-suc-zero}
@@ -13,12 +13,14 @@ use Rattle.contention_mgr.specs.Manager.{Ranked, Managed, any_untold_in, any_unt
 use Rattle.contention_mgr.specs.Manager.{items_of, kept_at, managed_at, with_entry}
 use Rattle.grs_base.specs.Limits.{most_additions}
 use Rattle.grs_base.specs.declared.resource.Res.{Res}
+use Rattle.grs_base.specs.declared.resource.SysId.{SysId}
 use Rattle.grs_base.specs.declared.resource.TaskId.{TaskId}
 use Rattle.grs_node.specs.Node.{NodeState, goes_on, is_to_send, desk_of, desk_count, is_star_pending, is_pending}
 use Rattle.grs_node.specs.Node.{may_go, may_send, turn_call, prepared_by, star_call, next_order, switch_call}
 use Rattle.grs_node.specs.Node.{purge_call, prepare}
 use Rattle.grs_node.specs.Star.{StarPart, to_tell, first_held, is_part_pending, send_of, settle_by, tell_by, may_leave}
-use Rattle.grs_node.specs.Star.{left_at}
+use Rattle.grs_node.specs.Names.{names_of}
+use Rattle.grs_node.specs.Star.{left_at, may_settle, owed_to, part_by}
 use Rattle.grs_node.specs.declared.star.Need.{Need}
 use Rattle.grs_node.specs.declared.star.Need.TheVariants.{Asks, Idle}
 use Rattle.grs_node.specs.declared.prepared.Prepared.{Prepared}
@@ -31,6 +33,8 @@ use Rattle.grs_wire.specs.declared.deck.Order.{Order}
 use Rattle.grs_wire.proofs.WantLaws.{by_test}
 use Rattle.grs_wire.specs.declared.medium.Act.TheVariants as acts
 use Rattle.grs_wire.specs.declared.request.Req.{Req}
+use Rattle.star_client.specs.Owes.{any_owed}
+use Rattle.grs_world.proofs.star.Calm.{none-at}
 use Rattle.task_state.specs.View.{TasksView, is_task, state_of}
 use Rattle.task_state.specs.declared.state.Phase.{Phase}
 use Rattle.task_state.specs.declared.state.TaskState.{TaskState}
@@ -97,7 +101,7 @@ no_held deck n p star none =
     let part : is_part_pending p ≡ false = (or_parts _ _ idle).1 in
     by_held p.held (or_parts _ _ part).0
   where
-    by_held : (qs : List Req) → not (length qs == 0) ≡ false → slice_get qs 0 ≡ None
+    by_held : (qs : List Req) → not (length qs == 0) ≡ false → find (may_settle p) qs ≡ None
     by_held [] h = refl
     by_held (q ∷ qs) h =
         let some : (length (q ∷ qs) == 0) ≡ false = eqb-suc-zero (length qs) in
@@ -116,13 +120,23 @@ no_tell deck n p e star none =
     ap (is_star_pending n.tasks) (sym star) ∙ (none_pending_parts deck n none).star in
     let part : is_part_pending p ≡ false = (or_parts _ _ idle).1 in
     let at : any_untold_in p.manager.system.0 (items_of (managed_at p.manager e)) ≡ false =
-    none_kept p.manager.system.0 p.manager.entries e (or_parts _ _ part).1 in
+    none_kept p.manager.system.0 p.manager.entries e (or_parts _ _ (or_parts _ _ part).1).0 in
     by_first (first_untold p.manager.system.0 (items_of (managed_at p.manager e)))
     (first-any p.manager.system.0 (items_of (managed_at p.manager e)) ∙ at)
   where
     by_first : (o : Option Ranked) → is_some o ≡ false → option_map owner_of o ≡ None
     by_first None h = refl
     by_first (Some x) h = absurd (true≢false h)
+
+no_owed : (deck : Deck) (n : NodeState) (p : StarPart) (e : ℕ) → n.star ≡ Some p → is_pending deck n ≡ false
+    → owed_to p e ≡ None
+no_owed deck n p e star none =
+    let idle : is_star_pending n.tasks (Some p) ≡ false =
+    ap (is_star_pending n.tasks) (sym star) ∙ (none_pending_parts deck n none).star in
+    let part : is_part_pending p ≡ false = (or_parts _ _ idle).1 in
+    let more = (or_parts (not (length p.held == 0)) _ part).1 in
+    let last = (or_parts (any_untold_at p.manager.system.0 p.manager.entries) _ more).1 in
+    none-at p.owes e (or_parts (list_any is_some p.gathers) _ last).1
 
 no_order : (deck : Deck) (n : NodeState) → is_pending deck n ≡ false → next_order deck n ≡ None
 no_order deck n none = by_line (slice_get (desk_of (slice_get deck.systems n.tasks.system)) n.done) refl
@@ -148,11 +162,14 @@ left_idle p e h = by_kept (is_some (managed_at p.manager e))
   where
     by_kept : (b : Bool)
         → (not (length p.held == 0)
-        || any_untold_at (cond b (with_entry p.manager (Some e) None) p.manager).system.0
-        (cond b (with_entry p.manager (Some e) None) p.manager).entries)
+        || (any_untold_at (cond b (with_entry p.manager (Some e) None) p.manager).system.0
+        (cond b (with_entry p.manager (Some e) None) p.manager).entries
+        || (list_any is_some p.gathers || any_owed p.owes)))
         ≡ false
     by_kept true =
-        let parts = or_parts _ _ h in or_from _ _ parts.0 (none_without p.manager.system.0 p.manager.entries e parts.1)
+        let parts = or_parts _ _ h in
+        let more = or_parts _ _ parts.1 in
+        or_from _ _ parts.0 (or_from _ _ (none_without p.manager.system.0 p.manager.entries e more.0) more.1)
     by_kept false = h
 
 -- ---- what such a system prepares
@@ -206,11 +223,14 @@ calm deck n (choices.Tell e) none = by_star n.star refl
     by_star (Some p) star =
         subst (λ (o : Option (TaskId × Res)). Calm n (choices.Tell e) (prepared_by n.known (tell_by o)))
         (sym (no_tell deck n p e star none)) tt
-calm deck n (choices.Part e) none = by_star n.star
+calm deck n (choices.Part e) none = by_star n.star refl
   where
-    by_star : (o : Option StarPart) → Calm n (choices.Part e) (star_call deck n o (choices.Part e))
-    by_star None = tt
-    by_star (Some p) = tt
+    by_star : (o : Option StarPart) → n.star ≡ o → Calm n (choices.Part e) (star_call deck n o (choices.Part e))
+    by_star None star = tt
+    by_star (Some p) star =
+        subst (λ (o : Option SysId).
+        Calm n (choices.Part e) (prepared_by n.known (part_by (names_of deck n.tasks.system) n.known p n.tasks e o)))
+        (sym (no_owed deck n p e star none)) tt
 calm deck n (choices.Leave e) none = by_star n.star refl
   where
     by_star : (o : Option StarPart) → n.star ≡ o → Calm n (choices.Leave e) (star_call deck n o (choices.Leave e))

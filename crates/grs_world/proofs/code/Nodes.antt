@@ -5,8 +5,8 @@ use Rattle.std.specs.Prelude.{map, slice_get}
 use Rattle.std.specs.Option.{option_map}
 use Rattle.grs_wire.specs.declared.deck.Deck.{Deck}
 use Rattle.grs_node.specs.Log.{NodeView}
-use Rattle.grs_node.specs.Node.{NodeState, is_pending}
-use Rattle.grs_world.specs.Running.{AreOf, AreNumbered, nodes_of, pending_at}
+use Rattle.grs_node.specs.Node.{NodeState}
+use Rattle.grs_world.specs.Running.{AreOf, AreNumbered, busy_at, is_busy, nodes_of}
 
 pub AreOf-get : (deck : Deck) (vs : List NodeView) (i : ℕ) (d : NodeView) → i < length vs → AreOf deck vs
     → (get_or vs i d).deck ≡ deck
@@ -73,13 +73,13 @@ slice_get-nodes_of [] i = refl
 slice_get-nodes_of (v ∷ vs) zero = refl
 slice_get-nodes_of (v ∷ vs) (suc i) = slice_get-nodes_of vs i
 
--- what is pending at systems of a deck is pending by it
-pub pending_at-of : (deck : Deck) (vs : List NodeView) → AreOf deck vs
-    → pending_at vs ≡ map (is_pending deck) (nodes_of vs)
-pending_at-of deck [] a = refl
-pending_at-of deck (v ∷ vs) a =
-    ap (λ (d : Deck). is_pending d v.node ∷ pending_at vs) a.0
-    ∙ ap (λ bs. is_pending deck v.node ∷ bs) (pending_at-of deck vs a.1)
+-- systems of a deck are busy by it
+pub busy_at-of : (deck : Deck) (removed : ℕ) (vs : List NodeView) → AreOf deck vs
+    → busy_at removed vs ≡ map (is_busy deck removed) (nodes_of vs)
+busy_at-of deck removed [] a = refl
+busy_at-of deck removed (v ∷ vs) a =
+    ap (λ (d : Deck). is_busy d removed v.node ∷ busy_at removed vs) a.0
+    ∙ ap (λ bs. is_busy deck removed v.node ∷ bs) (busy_at-of deck removed vs a.1)
 
 pub ruleset nodes = (
   AreOf-get,
@@ -91,6 +91,6 @@ pub ruleset nodes = (
   nodes_of-get,
   nodes_of-set,
   slice_get-nodes_of,
-  pending_at-of,
+  busy_at-of,
   length-set,
 )

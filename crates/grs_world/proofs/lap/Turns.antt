@@ -23,7 +23,7 @@ use Rattle.rsa_message.specs.Message.{stands_at, turned, turned_open}
 use Rattle.grs_world.proofs.code.Happens.{happens-live}
 use Rattle.grs_world.proofs.code.Lapped.{reply_of-live, turned-call}
 use Rattle.grs_world.proofs.code.Turns.{chosen-given, chosen-refused}
-use Rattle.grs_world.proofs.run.InRing.{IsRing}
+use Rattle.grs_world.proofs.run.InRing.{IsRing, told-ring}
 use Rattle.grs_world.specs.Removing.{reply_of}
 use Rattle.grs_world.specs.Running.{is_live, node_at}
 use Rattle.grs_world.specs.Stopped.{is_turned, turn_of}
@@ -101,7 +101,8 @@ module _ (deck : Deck) (w : World) (ring : IsRing deck w) (s : SysId) (here : w.
       ≡ record { node = record n { known = w.medium.removed }; fixed = [] }
   unfolding finish finish_call
   told_step =
-      ap (λ (b : Bool). only (record n { known = cond b w.medium.removed n.known }))
+      ap only (told-ring deck n w.medium.removed (ring.alone s.0 n there))
+      ∙ ap (λ (b : Bool). only (record n { known = cond b w.medium.removed n.known }))
       (lt-ltb w.medium.removed (2 ^ length deck.systems) ring.within)
 
   elsewhere : (n.known == w.medium.removed) ≡ false → TurnCame deck w s

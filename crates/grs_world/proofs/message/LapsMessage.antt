@@ -14,8 +14,9 @@ use Rattle.grs_wire.specs.declared.request.Req.{Req}
 use Rattle.grs_wire.specs.Masks.{has, without, only}
 use Rattle.grs_wire.proofs.WantLaws.{by_test}
 use Rattle.grs_wire.proofs.MaskLaws.{has-without_same, has-without_other}
-use Rattle.rsa_message.specs.Message.{Message, first_after, or_else, any_unseen, left_by, cleared, dropped, stamped}
-use Rattle.rsa_message.specs.Message.{stands_at, is_due, moves, turned_open, turned_closed, closed_by, moved_on}
+use Rattle.rsa_message.specs.Message.{Message, first_after, or_else, any_unseen, left_by, cleared, dropped, departed}
+use Rattle.rsa_message.specs.Message.{stamped, stands_at, is_due, moves, turned_open, turned_closed, closed_by}
+use Rattle.rsa_message.specs.Message.{moved_on}
 use Rattle.rsa_message.specs.Message.{first_number}
 use Rattle.grs_wire.specs.Unseen.{is_unseen, unseen}
 use Rattle.rsa_message.proofs.OrderLaws.{stands_at-exact}
@@ -366,6 +367,38 @@ dropped_round m c t before live laws waits opened gone others_same = record {
     stands true here h at = (
       λ some. first_inside (λ s. has live s.0) m.systems t h some at,
       cleared_onward m.systems t h (λ s. has live s.0) (ap (λ o. or_else o t) at) m.entries (λ u low k. masks u k)
+          (laws.awaited t (stands_at-exact m.holder t here)),
+    )
+    stands false here h at = (laws.inside h at, still_awaited m.systems t h m.entries (laws.awaited h at))
+
+-- Where the message is closed, it leaves those that have yet to change.
+pub departed_round : (m : Message) (t : SysId) (before live : ℕ) → Round m before → m.closed ≡ true
+    → has live t.0 ≡ false → ((u : ℕ) → u ≢ t.0 → has live u ≡ has before u) → Round (departed m t) live
+unfolding departed
+departed_round m t before live laws shut gone others_same = record {
+  shut = λ z. due;
+  inside = λ h at some. (stands (stands_at m.holder t) refl h at).0 some;
+  awaited = λ h at. (stands (stands_at m.holder t) refl h at).1;
+  ends = each_ends before live t (gone_ends before live t gone fewer) m.entries laws.ends;
+}
+  where
+    test : SysId → Bool
+    test = λ s. has (without m.still t.0) s.0
+
+    fewer : (u : ℕ) → has live u ≡ true → has before u ≡ true
+    fewer u h = sym (others_same u (λ same. no_truth (has live u) h (ap (has live) same ∙ gone))) ∙ h
+
+    due : Passes m.systems (λ s. has (without m.still t.0) s.0) (cleared t m.entries)
+    due u low k =
+        let r = cleared_unseen t m.entries u k in
+        has-without_other m.still t.0 u r.0 ∙ laws.shut shut u low r.1
+
+    stands : (b : Bool) → stands_at m.holder t ≡ b → (h : SysId)
+        → cond b (first_after m.systems t (λ s. has (without m.still t.0) s.0)) m.holder ≡ Some h
+        → (0 < m.systems → h.0 < m.systems) × AllAwaited m.systems h (cleared t m.entries)
+    stands true here h at = (
+      λ some. first_inside test m.systems t h some at,
+      cleared_onward m.systems t h test (ap (λ o. or_else o t) at) m.entries due
           (laws.awaited t (stands_at-exact m.holder t here)),
     )
     stands false here h at = (laws.inside h at, still_awaited m.systems t h m.entries (laws.awaited h at))

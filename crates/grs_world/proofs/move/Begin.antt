@@ -36,6 +36,10 @@ use Rattle.grs_wire.specs.declared.medium.Mail.{Mail}
 use Rattle.grs_wire.specs.declared.medium.RingEntry.{RingEntry}
 use Rattle.grs_wire.specs.declared.told.Said.TheVariants as saids
 use Rattle.grs_wire.specs.declared.told.ToldLine.TheVariants as lines
+use Rattle.grs_world.proofs.run.Knowing.{KnowsRemoved}
+use Rattle.grs_world.proofs.star.Calm.{losing-nothing}
+use Rattle.grs_world.proofs.star.Usual.{usual}
+use Rattle.grs_world.proofs.star.steps.Outcome.{part}
 use Rattle.grs_world.proofs.message.Stands.{Bodies}
 use Rattle.grs_world.proofs.move.Changing.{IsMoved, Shown, Waits, has_changed, view-read, viewed, waits_yet}
 use Rattle.grs_world.proofs.move.Parts.{free-by, near-by, nobody-by, part-by, past-by, removed-by}
@@ -61,7 +65,7 @@ use Rattle.mode_migrate.specs.Laws.{are_within}
 use Rattle.mode_migrate.specs.Migrate.{has_elements, table_words}
 use Rattle.rsa_message.specs.Message.{closed_by, first_number}
 use Rattle.grs_wire.specs.Unseen.{unseen}
-use Rattle.grs_world.proofs.run.Site.{IsThere}
+use Rattle.grs_world.proofs.run.Site.{IsThere, at_site}
 
 -- ---- the elements of a table of a run are of systems of the deck
 each-within : (deck : Deck) (t : State) → list_all (λ h. may_have deck h.0 h.1.task) t ≡ true
@@ -250,21 +254,6 @@ module _ (deck : Deck) (ring_mode : deck.star ≡ false) (some : 0 < deck.entrie
   abbrev P : List RunItem
   P = items w.fixed
 
-  abbrev o : Turnout
-  o = record {
-    medium =
-        record w.medium {
-          star = true;
-          words = own_words deck n;
-          message = closed_by w.medium.message c (live w.medium);
-          rest = awake w.medium c;
-        };
-    step = only (switched deck n);
-  }
-
-  abbrev view : List NodeState
-  view = set (all_viewed deck later w.nodes) c.0 (switched deck n)
-
   same : items (w.fixed ++ fixed_by c []) ≡ items w.fixed
   same = items-none w.fixed c
 
@@ -294,18 +283,6 @@ module _ (deck : Deck) (ring_mode : deck.star ≡ false) (some : 0 < deck.entrie
       ap (λ (p : Option StarPart). words_by deck.entries n.shared p) (ring.alone c.0 n at)
       ∙ ap (table_words deck.entries) seen_all.shared
 
-  -- it changes itself
-  switched-is : switched deck n ≡ change_to_star deck (desk_told n saids.StarDone)
-  switched-is = switched-ring deck n (ring.alone c.0 n at)
-
-  own_arrives : Arrives deck c.0 (items w.fixed) (switched deck n)
-  unfolding desk_told
-  own_arrives = record {
-    from = desk_told n saids.StarDone;
-    is = switched-is;
-    seen = desk-seen deck c.0 P (rounds P) [] [] n saids.StarDone seen_all;
-  }
-
   -- the others wait
   other_waits : (u : ℕ) (m : NodeState) → slice_get w.nodes u ≡ Some m → has w.medium.removed u ≡ false
       → Waits deck u (items w.fixed) (before u) (later u) [] m
@@ -329,20 +306,6 @@ module _ (deck : Deck) (ring_mode : deck.star ≡ false) (some : 0 < deck.entrie
         seen = subst (λ xs. Seen deck u P xs [] [] (read_all m (later u))) (sym (whole u)) read.seen;
       }
 
-  each_arrives : (s : ℕ) (k : NodeState) → slice_get view s ≡ Some k → has w.medium.removed s ≡ false
-      → Arrives deck s (items (w.fixed ++ fixed_by c [])) k
-  each_arrives s k f live = subst (λ U. Arrives deck s U k) (sym same)
-      (by_node (all_viewed deck later w.nodes) c.0 (viewed deck n (later c.0)) (switched deck n)
-      (viewed-at deck later w.nodes c.0 n at) (λ u z. has w.medium.removed u ≡ false → Arrives deck u P z)
-      (λ l. own_arrives) (λ u z ne there l. let old = viewed-of deck later w.nodes u z there in
-      subst (Arrives deck u P) (sym old.2) (other_arrives u old.0 old.1 l))
-      s k f live)
-
-  count : length view ≡ length deck.systems
-  count =
-      length-set (all_viewed deck later w.nodes) c.0 (switched deck n)
-      ∙ (viewed-count deck later w.nodes ∙ ring.systems)
-
   -- who was removed, by the history
   gone_now : (s : SysId) → has w.medium.removed s.0 ≡ list_any (removes s) (history (items (w.fixed ++ fixed_by c [])))
   gone_now s =
@@ -351,61 +314,135 @@ module _ (deck : Deck) (ring_mode : deck.star ≡ false) (some : 0 < deck.entrie
       ∙ (sym (ap (list_any (removes s)) (items_are_history w.fixed).0)
       ∙ sym (ap (λ U. list_any (removes s) (history U)) same)))
 
-  begun : (h : IsWhole deck (record (placed w c n o) { nodes = view })) × ((u : ℕ) → h.out u ≡ [])
-  unfolding placed
-  begun =
-      whole-begun deck some few (placed w c n o) (subst (IsHistory deck) (sym same) right)
-      (words_are ∙ ap (λ U. table_words deck.entries (lists (rounds U))) (sym same)) view count each_arrives refl
-      gone_now ring.boxes
+  -- what comes of it, where the system is this behind it
+  module _ (then_node : NodeState) (then_is : then_node ≡ change_to_star deck (desk_told n saids.StarDone)) where
+    abbrev o : Turnout
+    o = record {
+      medium =
+          record w.medium {
+            star = true;
+            words = own_words deck n;
+            message = closed_by w.medium.message c (live w.medium);
+            rest = awake w.medium c;
+          };
+      step = only then_node;
+    }
 
-  own-told : (switched deck n).tasks.told ≡ n.tasks.told ++ lines.Desk (n.done + 1) saids.StarDone ∷ []
-  own-told =
-      ap (λ (z : NodeState). z.tasks.told) switched-is
-      ∙ (changed-told deck c.0 P (rounds P) [] (desk_told n saids.StarDone)
-      (desk-seen deck c.0 P (rounds P) [] [] n saids.StarDone seen_all) (λ u ls o. refl)
-      ∙ desk-told n saids.StarDone)
+    abbrev view : List NodeState
+    view = set (all_viewed deck later w.nodes) c.0 then_node
 
-  own-done : (switched deck n).done ≡ n.done + 1
-  unfolding desk_told change_to_star
-  own-done = ap (λ (z : NodeState). z.done) switched-is
+    own_arrives : Arrives deck c.0 (items w.fixed) then_node
+    unfolding desk_told
+    own_arrives = record {
+      from = desk_told n saids.StarDone;
+      is = then_is;
+      seen = desk-seen deck c.0 P (rounds P) [] [] n saids.StarDone seen_all;
+    }
 
-  pub switch-moved : IsMoved deck w c n o
-  unfolding placed closed_by
-  switch-moved = record {
-    changing = record {
-      view = view;
-      whole = begun.0;
-      log = rounds (items w.fixed);
-      since = [];
-      rounds_are = ap rounds same ∙ sym (append-nil (rounds P));
-      before = before;
-      due = later;
-      parts = whole;
-      message = message-kept w.medium o.medium (message_log P) (seen_at before) refl refl refl message;
-      closed = refl;
-      around = ring.around;
-      count = length-set w.nodes c.0 (switched deck n) ∙ ring.systems;
-      shown =
-          by_node w.nodes c.0 n (switched deck n) at (λ u x.
-          has w.medium.removed u ≡ false
-          → (j : NodeState) × (slice_get view u ≡ Some j)
-          × Shown deck u (items (w.fixed ++ fixed_by c [])) (before u) (later u) [] (begun.0.out u) j x)
-          (λ l. (
-            switched deck n,
-            slice_get-set (all_viewed deck later w.nodes) c.0 (viewed deck n (later c.0)) (switched deck n)
-                (viewed-at deck later w.nodes c.0 n at),
-            has_changed nothing_later,
-          ))
-          (λ u x ne there l. (
-            viewed deck x (later u),
-            slice_get-set_other (all_viewed deck later w.nodes) c.0 u (switched deck n) ne
-                ∙ viewed-at deck later w.nodes u x there,
-            waits_yet x (subst (λ U. Waits deck u U (before u) (later u) [] x) (sym same) (other_waits u x there l))
-                refl (begun.1 u),
-          ));
-      gone =
-          by_node w.nodes c.0 n (switched deck n) at (λ u x. has w.medium.removed u ≡ true → x.star ≡ None)
-          (λ l. no_truth (has w.medium.removed c.0) l unremoved) (λ u x ne there l. ring.alone u x there);
-    };
-    news = tells_done next own-told own-done ring_mode ring.mode refl;
-  }
+    each_arrives : (s : ℕ) (k : NodeState) → slice_get view s ≡ Some k → has w.medium.removed s ≡ false
+        → Arrives deck s (items (w.fixed ++ fixed_by c [])) k
+    each_arrives s k f live = subst (λ U. Arrives deck s U k) (sym same)
+        (by_node (all_viewed deck later w.nodes) c.0 (viewed deck n (later c.0)) then_node
+        (viewed-at deck later w.nodes c.0 n at) (λ u z. has w.medium.removed u ≡ false → Arrives deck u P z)
+        (λ l. own_arrives) (λ u z ne there l. let old = viewed-of deck later w.nodes u z there in
+        subst (Arrives deck u P) (sym old.2) (other_arrives u old.0 old.1 l))
+        s k f live)
+
+    count : length view ≡ length deck.systems
+    count =
+        length-set (all_viewed deck later w.nodes) c.0 then_node
+        ∙ (viewed-count deck later w.nodes ∙ ring.systems)
+
+    begun : (h : IsWhole deck (record (placed w c n o) { nodes = view })) × ((u : ℕ) → h.out u ≡ [])
+    unfolding placed
+    begun =
+        whole-begun deck some few (placed w c n o) (subst (IsHistory deck) (sym same) right)
+        (words_are ∙ ap (λ U. table_words deck.entries (lists (rounds U))) (sym same)) view count each_arrives refl
+        gone_now ring.boxes
+
+    own-told : then_node.tasks.told ≡ n.tasks.told ++ lines.Desk (n.done + 1) saids.StarDone ∷ []
+    own-told =
+        ap (λ (z : NodeState). z.tasks.told) then_is
+        ∙ (changed-told deck c.0 P (rounds P) [] (desk_told n saids.StarDone)
+        (desk-seen deck c.0 P (rounds P) [] [] n saids.StarDone seen_all) (λ u ls o. refl)
+        ∙ desk-told n saids.StarDone)
+
+    own-done : then_node.done ≡ n.done + 1
+    unfolding desk_told change_to_star
+    own-done = ap (λ (z : NodeState). z.done) then_is
+
+    pub switch-moved : IsMoved deck w c n o
+    unfolding placed closed_by
+    switch-moved = record {
+      changing = record {
+        view = view;
+        whole = begun.0;
+        log = rounds (items w.fixed);
+        since = [];
+        rounds_are = ap rounds same ∙ sym (append-nil (rounds P));
+        before = before;
+        due = later;
+        parts = whole;
+        message = message-kept w.medium o.medium (message_log P) (seen_at before) refl refl refl message;
+        closed = refl;
+        around = ring.around;
+        count = length-set w.nodes c.0 then_node ∙ ring.systems;
+        shown =
+            by_node w.nodes c.0 n then_node at (λ u x.
+            has w.medium.removed u ≡ false
+            → (j : NodeState) × (slice_get view u ≡ Some j)
+            × Shown deck u (items (w.fixed ++ fixed_by c [])) (before u) (later u) [] (begun.0.out u) j x)
+            (λ l. (
+              then_node,
+              slice_get-set (all_viewed deck later w.nodes) c.0 (viewed deck n (later c.0)) then_node
+                  (viewed-at deck later w.nodes c.0 n at),
+              has_changed nothing_later,
+            ))
+            (λ u x ne there l. (
+              viewed deck x (later u),
+              slice_get-set_other (all_viewed deck later w.nodes) c.0 u then_node ne
+                  ∙ viewed-at deck later w.nodes u x there,
+              waits_yet x (subst (λ U. Waits deck u U (before u) (later u) [] x) (sym same) (other_waits u x there l))
+                  refl (begun.1 u),
+            ));
+        gone =
+            by_node w.nodes c.0 n then_node at (λ u x. has w.medium.removed u ≡ true → x.star ≡ None)
+            (λ l. no_truth (has w.medium.removed c.0) l unremoved) (λ u x ne there l. ring.alone u x there);
+      };
+      news = tells_done next own-told own-done ring_mode ring.mode refl;
+    }
+
+  -- it has nothing to lose behind its change
+  module _ (known : KnowsRemoved w.medium n) where
+    abbrev plain_node : NodeState
+    plain_node = change_to_star deck (desk_told n saids.StarDone)
+
+    plain-known : (change_to_star deck (desk_told n saids.StarDone)).known ≡ n.known
+    unfolding change_to_star desk_told
+    plain-known = refl
+
+    pub switch-stays : switched deck n ≡ change_to_star deck (desk_told n saids.StarDone)
+    unfolding placed desk_told
+    switch-stays =
+        let whole_now = (begun plain_node refl).0 in
+        let site = at_site (slice_get-set (all_viewed deck later w.nodes) c.0 (viewed deck n (later c.0)) plain_node
+        (viewed-at deck later w.nodes c.0 n at)) unremoved in
+        let there : World = record (placed w c n (o plain_node refl)) { nodes = view plain_node refl } in
+        let u = usual deck there whole_now c plain_node site
+        (λ v h. known v (ap (λ i. has i v) (sym plain-known) ∙ h)) in
+        switched-ring deck n (ring.alone c.0 n at)
+        ∙ losing-nothing (part deck there whole_now c plain_node site) u.calm deck plain_node u.star
+        (desk_told n saids.StarDone).known
+        (λ v h. u.gone v (known v h))
+
+    pub switched-moved : IsMoved deck w c n (record {
+      medium =
+          record w.medium {
+            star = true;
+            words = own_words deck n;
+            message = closed_by w.medium.message c (live w.medium);
+            rest = awake w.medium c;
+          };
+      step = only (switched deck n);
+    })
+    switched-moved = switch-moved (switched deck n) switch-stays

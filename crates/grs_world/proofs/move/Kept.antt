@@ -22,6 +22,7 @@ use Rattle.grs_wire.specs.History.{replay}
 use Rattle.grs_wire.specs.declared.deck.Deck.{Deck}
 use Rattle.grs_wire.specs.declared.deck.Event.{Event}
 use Rattle.grs_wire.proofs.DeckLaws.{entries_some}
+use Rattle.grs_world.specs.InStar.{NoneInStar}
 use Rattle.grs_world.proofs.move.Begin.{front-within, more-within}
 use Rattle.grs_world.proofs.move.Changing.{IsChanging, Shown, Waits, has_changed, view-read, view-star, viewed}
 use Rattle.grs_world.proofs.move.Changing.{waits_yet}
@@ -170,8 +171,9 @@ module _ (deck : Deck) (some : 0 < deck.entries) (few : length deck.systems ≤ 
       → kept deck w s r ≡ list_of (replay deck.limit (history (items w.fixed))) r
   kept_changing s r all = kept_shown s r ∙ kept-whole deck shown g.whole s r all
 
-pub every_kept : (deck : Deck) → (may_be_star deck ≡ true → FitsStar deck) → (es : List Event) → KeptArePlaces deck es
-every_kept deck fits es s r live all = by_run (every_run deck fits es)
+pub every_kept : (deck : Deck) → (may_be_star deck ≡ true → FitsStar deck) → (es : List Event) → NoneInStar deck es
+    → KeptArePlaces deck es
+every_kept deck fits es none s r live all = by_run (every_run deck fits es none)
   where
     by_run : GoodRun deck es (run deck es) → kept deck (run deck es) s r ≡ places deck es r
     by_run (in_ring begins ring g d) = kept_is deck es r all ring g ring.mode s live (run deck es).medium.star refl

@@ -1,24 +1,27 @@
 -- What came of an event of a system that hasn't changed, though the medium has.
-use Rattle.std.proofs.Common.{◌≡◌, None, Some, false, true, ℕ}
+use Rattle.std.proofs.Common.{◌≡◌, None, Some, ap, false, refl, subst, sym, true, ℕ}
 use Rattle.grs_wire.specs.declared.deck.Choice.{Choice}
 use Rattle.grs_wire.specs.declared.deck.Deck.{Deck}
 use Rattle.grs_wire.specs.declared.deck.Order.TheVariants as orders
 use Rattle.grs_wire.specs.declared.told.Said.TheVariants as saids
-use Rattle.grs_node.specs.Node.{NodeState, change_to_star, desk_told, may_go, next_order, only, read_entries, task_step}
+use Rattle.grs_node.specs.Removal.{members, without_those}
+use Rattle.grs_node.specs.Node.{NodeState, change_to_star, changed as changed_now, desk_told, known_from, losing}
+use Rattle.grs_node.specs.Node.{losing_in, may_go, next_order, only, read_entries, stale, task_step}
 use Rattle.grs_wire.specs.Masks.{has}
 use Rattle.rsa_message.specs.Message.{stands_at, turned_closed}
 use Rattle.grs_wire.specs.Unseen.{unseen}
 use Rattle.grs_base.specs.declared.resource.SysId.{SysId}
 use Rattle.grs_base.specs.declared.resource.TaskId.{TaskId}
 use Rattle.grs_world.specs.World.{Turnout, World, chosen}
-use Rattle.grs_world.proofs.run.Came.{Came, acted, already, changed, informed, last_turn, no_such, nothing, refused}
-use Rattle.grs_world.proofs.run.Came.{removes_one, turn, went_on, no_part, Result}
+use Rattle.grs_world.proofs.run.Came.{Came, acted, already, changed, informed, last_turn, no_such, nothing, IsSpared}
+use Rattle.grs_world.proofs.run.Came.{removes_one, removes_star, turn, went_on, no_part, RemovesNoneInStar, Result}
+use Rattle.grs_medium.specs.Apply.{is_live}
 use Rattle.grs_known.proofs.lists.Truths.{no_truth}
 use Rattle.grs_legal.specs.Asks.{lines_of}
 use Rattle.grs_world.proofs.run.Chosen.{came}
 
 -- Nothing but a flag of rest, a task that went on, its Turn at the closed message, its desk that was told of the
--- change, or the removed systems of which it is told.
+-- change or that there was no such system, or the removed systems of which it is told.
 pub data CameLate (deck : Deck) (w : World) (s : SysId) (n : NodeState) : Turnout → Type 0 where
   nothing_late : (flags : ℕ) → CameLate deck w s n (record { medium = record w.medium { rest = flags }; step = only n })
   task_late : (t : TaskId) → may_go deck n t ≡ true
@@ -30,25 +33,46 @@ pub data CameLate (deck : Deck) (w : World) (s : SysId) (n : NodeState) : Turnou
       })
   desk_late : next_order deck n ≡ Some orders.Star
       → CameLate deck w s n (record { medium = w.medium; step = only (desk_told n saids.StarAlready) })
-  vary_late : (target : SysId) → next_order deck n ≡ Some (orders.Vary target)
-      → CameLate deck w s n (record { medium = w.medium; step = only (desk_told n saids.VaryInStar) })
+  vary_late : (target : SysId) → next_order deck n ≡ Some (orders.Vary target) → is_live w.medium target ≡ false
+      → CameLate deck w s n (record { medium = w.medium; step = only (desk_told n saids.VaryNoSuch) })
   informed_late : (known : ℕ)
       → CameLate deck w s n (record { medium = w.medium; step = only (record n { known = known }) })
 
 module _ (deck : Deck) (w : World) (mode : w.medium.star ≡ true) (shut : w.medium.message.closed ≡ true) (s : SysId)
-    (n : NodeState) (alone : n.star ≡ None) (alive : has w.medium.removed s.0 ≡ false) where
-  late : (choice : Choice) (b : Result) (o : Turnout) → Came deck w.medium s n choice b o → CameLate deck w s n o
-  late choice b o (nothing k r silent flags) = nothing_late flags
-  late choice b o (informed k known) = informed_late known
-  late choice b o (went_on t may) = task_late t may
-  late choice b o (turn flags by unclosed here) = no_truth w.medium.message.closed shut unclosed
-  late choice b o (last_turn flags by closed here) = turn_late flags here
-  late choice b o (changed ring next seen) = no_truth w.medium.star mode ring
-  late choice b o (already star next) = desk_late next
-  late choice b o (removes_one target ring next lives) = no_truth w.medium.star mode ring
-  late choice b o (no_such target ring next gone) = no_truth w.medium.star mode ring
-  late choice b o (refused target star next) = vary_late target next
-  late choice b o (acted p is k r x acts) = no_part n p is alone
+    (n : NodeState) (alone : n.star ≡ None) (alive : has w.medium.removed s.0 ≡ false)
+    (stays : changed_now deck (read_entries deck n (unseen s w.medium.message.entries))
+    ≡ change_to_star deck (read_entries deck n (unseen s w.medium.message.entries))) where
+  -- it has no part yet of which a system could be lost
+  told-so : stale deck n w.medium.removed ≡ record n { known = known_from deck n.known w.medium.removed }
+  unfolding stale losing
+  told-so =
+      ap (λ o.
+      losing_in deck (record n { known = known_from deck n.known w.medium.removed }) o
+      (members (without_those n.known (known_from deck n.known w.medium.removed))))
+      alone
 
-  pub came_late : (choice : Choice) → CameLate deck w s n (chosen deck w.medium s n choice)
-  came_late choice = late choice _ _ (came deck w.medium s n alive choice)
+  late : (choice : Choice) (b : Result) (o : Turnout) → RemovesNoneInStar w.medium b → Came deck w.medium s n choice b o
+      → CameLate deck w s n o
+  late choice b o kept (nothing k r silent flags) = nothing_late flags
+  late choice b o kept (informed k) =
+      subst (λ z. CameLate deck w s n (record { medium = w.medium; step = only z })) (sym told-so)
+      (informed_late (known_from deck n.known w.medium.removed))
+  late choice b o kept (went_on t may) = task_late t may
+  late choice b o kept (turn flags by unclosed here) = no_truth w.medium.message.closed shut unclosed
+  late choice b o kept (last_turn flags by closed here) =
+      subst (λ z.
+      CameLate deck w s n (record {
+        medium = record w.medium { message = turned_closed w.medium.message s; rest = flags };
+        step = only z;
+      }))
+      (sym stays) (turn_late flags here)
+  late choice b o kept (changed ring next seen) = no_truth w.medium.star mode ring
+  late choice b o kept (already star next) = desk_late next
+  late choice b o kept (removes_one target ring next lives) = no_truth w.medium.star mode ring
+  late choice b o kept (removes_star target star next lives) = absurd (kept mode refl)
+  late choice b o kept (no_such target next gone) = vary_late target next gone
+  late choice b o kept (acted p is k r x acts) = no_part n p is alone
+
+  pub came_late : (choice : Choice) → IsSpared deck w.medium s n choice
+      → CameLate deck w s n (chosen deck w.medium s n choice)
+  came_late choice kept = late choice _ _ kept (came deck w.medium s n alive choice)

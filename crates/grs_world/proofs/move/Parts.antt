@@ -5,9 +5,10 @@ use Rattle.std.specs.Prelude.{◌==◌}
 use Rattle.std.proofs.Math.Bool.{and-false}
 use Rattle.std.proofs.lemmas.Bool.{and_parts, eq-eqb, eqb-true, ltb-true, or_left, or_parts, or_right}
 use Rattle.std.specs.List.{list_all, list_any}
+use Rattle.grs_world.proofs.star.Calm.{calm-first}
 use Rattle.grs_world.proofs.star.Elements.{AreNear, is_near_res, near-words}
 use Rattle.grs_world.proofs.star.Members.{IsPart, has_manager}
-use Rattle.grs_world.proofs.star.Under.{entry-same, in_entry, list-under, under}
+use Rattle.grs_world.proofs.star.Under.{entry-same, in_entry, list-under, under, none-under}
 use Rattle.grs_world.proofs.star.Systems.{near_at}
 use Rattle.grs_wire.specs.declared.deck.Deck.{Deck}
 use Rattle.grs_wire.specs.LockWords.{is_manager}
@@ -20,8 +21,8 @@ use Rattle.grs_base.specs.declared.resource.TaskId.{TaskId}
 use Rattle.grs_base.specs.Lists.{has_task}
 use Rattle.grs_base.specs.Limits.{most_systems}
 use Rattle.grs_base.specs.Rows.{rows_of}
-use Rattle.grs_base.specs.Same.{same_res, same_task}
-use Rattle.grs_base.proofs.SameLaws.{same_res-exact, same_task-exact}
+use Rattle.grs_base.specs.Same.{same_task}
+use Rattle.grs_base.proofs.SameLaws.{same_task-exact}
 use Rattle.mode_migrate.specs.Laws.{are_within}
 use Rattle.mode_migrate.proofs.TableWords.{elements-are, table-free, table-interest, table-manager}
 use Rattle.lock_structure.proofs.LeastLaws.{least-passes}
@@ -46,20 +47,6 @@ entry-wide : (entries e : ℕ) (r : Res) → in_entry entries e r ≡ true → i
 entry-wide entries e (StepRes s j q r) h = absurd (cc)
 entry-wide entries e (System s q r) h = absurd (cc)
 entry-wide entries e (Systems q r) h = refl
-
--- of other resources the elements of an entry have no list
-none-under : (p : Res → Bool) (s : State) (r : Res) → p r ≡ false → list_of (part p s) r ≡ []
-none-under p [] r h = refl
-none-under p (x ∷ s) r h = go (p x.0) refl (none-under p s r h)
-  where
-    here : p x.0 ≡ true → (b : Bool) → same_res r x.0 ≡ b → list_of (part p s) r ≡ []
-        → cond b (x.1 ∷ list_of (part p s) r) (list_of (part p s) r) ≡ []
-    here passes true same more = no_truth (p r) (ap p (same_res-exact r x.0 same) ∙ passes) h
-    here passes false same more = more
-
-    go : (b : Bool) → p x.0 ≡ b → list_of (part p s) r ≡ [] → list_of (cond b (x ∷ part p s) (part p s)) r ≡ []
-    go true e more = here e (same_res r x.0) refl more
-    go false e more = more
 
 module _ (deck : Deck) (some : 0 < deck.entries) (t L : State) (is : t ≡ systems_part L)
     (few : are_within most_systems t ≡ true) where
@@ -90,6 +77,7 @@ module _ (deck : Deck) (some : 0 < deck.entries) (t L : State) (is : t ≡ syste
     lists = λ e h.
         record { lists = λ q. table-lists deck.entries some (record { 0 = s }) t few e h q ∙ table-under e q };
     well = table-well deck.entries some (record { 0 = s }) t few;
+    calm = calm-first deck.entries;
   }
 
   -- where there is no manager nothing is queued

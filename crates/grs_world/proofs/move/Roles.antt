@@ -13,6 +13,7 @@ use Rattle.grs_node.specs.Star.{StarPart, has_interest, manages}
 use Rattle.grs_wire.specs.Masks.{has, lives}
 use Rattle.grs_wire.specs.declared.deck.Deck.{Deck}
 use Rattle.grs_wire.specs.declared.deck.Event.{Event}
+use Rattle.grs_world.specs.InStar.{NoneInStar}
 use Rattle.grs_world.proofs.move.Changing.{IsChanging, Shown, has_changed, view-read, view-star, waits_yet}
 use Rattle.grs_world.proofs.move.Moved.{alive}
 use Rattle.grs_world.proofs.move.Sound.{GoodRun, every_run, in_ring, in_star}
@@ -99,9 +100,9 @@ module _ (deck : Deck) (w : World) (g : IsChanging deck w) where
       absurd (let e : None ≡ Some p = sym h.alone ∙ is in cc)
 
 -- ---- after every list of events
-pub every_word : (deck : Deck) → (may_be_star deck ≡ true → FitsStar deck) → (es : List Event)
+pub every_word : (deck : Deck) → (may_be_star deck ≡ true → FitsStar deck) → (es : List Event) → NoneInStar deck es
     → (run deck es).medium.star ≡ true → WordsGoWithSystems deck es
-every_word deck fits es mode = by_run (every_run deck fits es)
+every_word deck fits es none mode = by_run (every_run deck fits es none)
   where
     by_run : GoodRun deck es (run deck es) → WordsGoWithSystems deck es
     by_run (in_ring begins ring g d) = absurd (let e : false ≡ true = sym ring.mode ∙ mode in cc)
@@ -114,9 +115,9 @@ every_word deck fits es mode = by_run (every_run deck fits es)
       managed = λ e. word_managed deck (run deck es) g e (slice_get (run deck es).medium.words e) refl;
     }
 
-pub every_part : (deck : Deck) → (may_be_star deck ≡ true → FitsStar deck) → (es : List Event)
+pub every_part : (deck : Deck) → (may_be_star deck ≡ true → FitsStar deck) → (es : List Event) → NoneInStar deck es
     → ManagersKeepWell deck es
-every_part deck fits es s n p at is = by_run (every_run deck fits es)
+every_part deck fits es none s n p at is = by_run (every_run deck fits es none)
   where
     by_run : GoodRun deck es (run deck es) → IsKeptBy s p
     by_run (in_ring begins ring g d) = absurd (let e : None ≡ Some p = sym (ring.alone s n at) ∙ is in cc)

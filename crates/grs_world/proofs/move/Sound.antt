@@ -1,6 +1,6 @@
 -- Every run is sound, in either mode and where it changes from ring to star mode.
 use Rattle.std.proofs.Common.{◌≡◌, ◌<◌, ◌++◌, [], ◌∷◌, Bool, List, Some, ap, arith, false, not, refl, true, ℕ, cond}
-use Rattle.std.proofs.Common.{length, ◌≤◌}
+use Rattle.std.proofs.Common.{length, take, ◌≤◌}
 use Rattle.std.specs.Prelude.{◌&&◌, slice_get}
 use Rattle.std.specs.List.{list_any}
 use Rattle.std.proofs.lemmas.Bool.{or_left}
@@ -18,16 +18,21 @@ use Rattle.grs_wire.proofs.DeckLaws.{entries_some}
 use Rattle.grs_wire.proofs.WantLaws.{by_test}
 use Rattle.grs_wire.specs.declared.deck.Deck.{Deck}
 use Rattle.grs_wire.specs.declared.deck.Event.{Event}
-use Rattle.grs_world.proofs.move.Begin.{switch-moved}
+use Rattle.grs_world.proofs.move.Begin.{switched-moved}
 use Rattle.grs_world.proofs.move.Changing.{IsChanging, IsMoved, Shown, has_changed, waits_yet}
 use Rattle.grs_world.proofs.move.Decks.{order-may}
 use Rattle.grs_world.proofs.move.Moved.{changing-counted, event-moved}
 use Rattle.grs_world.proofs.run.Desks.{GoodDesks, desk-agrees, desks-after, desks-counted}
-use Rattle.grs_world.proofs.run.Each.{each_live, each_run}
+use Rattle.grs_world.proofs.rest.Homes.{homes_run}
+use Rattle.grs_world.proofs.run.Chosen.{removes-none}
+use Rattle.grs_world.proofs.run.Knowing.{known_run}
+use Rattle.grs_world.proofs.run.Each.{each_live}
+use Rattle.grs_world.proofs.run.Spared.{each_spared, none_next}
+use Rattle.grs_world.specs.InStar.{NoneInStar, removes_in_star}
 use Rattle.grs_world.proofs.run.InRing.{CameInRing, IsRing, changed, count_first, each_in_ring, first_ring, informed}
 use Rattle.grs_world.proofs.run.InRing.{live-there, no_such, nothing, removes_one, ring-counted, ring-placed, turn}
 use Rattle.grs_world.proofs.run.InRing.{went_on}
-use Rattle.grs_world.proofs.run.Removals.{taken_out}
+use Rattle.grs_world.proofs.run.Removals.{gone_are_removed, taken_out}
 use Rattle.grs_world.proofs.run.Runs.{GoodTold, GoodWorld, told-after, told-counted}
 use Rattle.grs_world.proofs.run.Sound.{came_tells, first_good, first_good_told, first_message, good_came, good_counted}
 use Rattle.grs_world.proofs.run.Sound.{first_is, sound-of}
@@ -114,8 +119,9 @@ module _ (deck : Deck) (fits : may_be_star deck ≡ true → FitsStar deck) (es 
       comes o (no_such target next out) is = stays_ring _ (no_such target next out) ring.mode is
       comes o (changed next idle) is =
           let f : FitsStar deck = fits (order-may deck n next) in
-          to_star n at f g.told d home _ (switch-moved deck begins (entries_some deck.entries f.entries) f.few w ring
-          g.history (taken_out deck es) g.before g.later g.whole g.message g.systems c n at alive next idle)
+          to_star n at f g.told d home _ (switched-moved deck begins (entries_some deck.entries f.entries) f.few w ring
+          g.history (taken_out deck es) g.before g.later g.whole g.message g.systems c n at alive next idle
+          (known_run deck es c.0 n at))
           is
 
     from_ring : Good (happens deck (run deck es) e)
@@ -125,9 +131,9 @@ module _ (deck : Deck) (fits : may_be_star deck ≡ true → FitsStar deck) (es 
         (λ n o at alive h is. comes n at alive o h is) refl
 
   -- in star mode
-  from_star : FitsStar deck → IsChanging deck (run deck es) → GoodTold deck es (run deck es)
-      → GoodDesks deck (run deck es) → Good (happens deck (run deck es) e)
-  from_star f g told d =
+  from_star : removes_in_star deck (run deck es) e ≡ false → FitsStar deck → IsChanging deck (run deck es)
+      → GoodTold deck es (run deck es) → GoodDesks deck (run deck es) → Good (happens deck (run deck es) e)
+  from_star none f g told d =
       each_live deck w e (λ x. happens deck w e ≡ x → Good x)
       (λ is. in_star f (changing-counted deck w g) (told-counted deck es e w told) (desks-counted deck w d)) comes_star
       refl
@@ -141,11 +147,14 @@ module _ (deck : Deck) (fits : may_be_star deck ≡ true → FitsStar deck) (es 
           let here = slice_get_within w.nodes c.0 n at in
           let inside : c.0 < most_systems = omega (arith, here, g.count, f.few) in
           to_star n at f told d (home-shown deck w g c.0 n at alive) (chosen deck w.medium c n e.choice)
-          (event-moved deck (entries_some deck.entries f.entries) w g c inside n at alive e.choice) is
+          (event-moved deck (entries_some deck.entries f.entries) w g c inside n at alive e.choice
+          (gone_are_removed deck es) (known_run deck es c.0 n at) (removes-none deck w e none n at alive))
+          is
 
-  next_good : GoodRun deck es (run deck es) → Good (happens deck (run deck es) e)
-  next_good (in_ring begins ring g d) = from_ring begins ring g d
-  next_good (in_star f g told d) = from_star f g told d
+  next_good : removes_in_star deck (run deck es) e ≡ false → GoodRun deck es (run deck es)
+      → Good (happens deck (run deck es) e)
+  next_good none (in_ring begins ring g d) = from_ring begins ring g d
+  next_good none (in_star f g told d) = from_star none f g told d
 
 -- ---- the first world
 first_changing : (deck : Deck) → deck.star ≡ true → IsChanging deck (first_world deck)
@@ -193,10 +202,12 @@ first_run deck fits = go deck.star refl
         in_star (fits (or_left deck.star (list_any (λ s. orders_star s.desk) deck.systems) is)) (first_changing deck is)
         (first_good_told deck) (first_desks deck)
 
--- ---- every list of events
-pub every_run : (deck : Deck) → (may_be_star deck ≡ true → FitsStar deck) → (es : List Event)
+-- ---- every list of events that removes no system in star mode
+pub every_run : (deck : Deck) → (may_be_star deck ≡ true → FitsStar deck) → (es : List Event) → NoneInStar deck es
     → GoodRun deck es (run deck es)
-every_run deck fits = each_run deck (GoodRun deck) (first_run deck fits) (λ es e g. next_good deck fits es e g)
+every_run deck fits =
+    each_spared deck (GoodRun deck) (first_run deck fits)
+    (λ es e none g. next_good deck fits es e (none_next deck es e none) g)
 
 pub good_history : (deck : Deck) (es : List Event) (w : World) → GoodRun deck es w → IsHistory deck (items w.fixed)
 good_history deck es w (in_ring begins ring g d) = g.history
@@ -206,17 +217,11 @@ pub good_told : (deck : Deck) (es : List Event) (w : World) → GoodRun deck es 
 good_told deck es w (in_ring begins ring g d) = g.told
 good_told deck es w (in_star f g told d) = told
 
--- a live system shows its number
-pub home-run : (deck : Deck) (es : List Event) (w : World) → GoodRun deck es w → (s : ℕ) (n : NodeState)
-    → slice_get w.nodes s ≡ Some n → has w.medium.removed s ≡ false → n.tasks.system ≡ s
-home-run deck es w (in_ring begins ring g d) s n at alive =
-    (g.systems s n at (live-there deck w ring s n at alive)).good.system
-home-run deck es w (in_star f g told d) s n at alive = home-shown deck w g s n at alive
-
--- ---- so every run is sound, where no desk's command is of its own system or of one that isn't there
+-- ---- so every such run is sound, where no desk's command is of its own system or of one that isn't there
 pub every_sound : (deck : Deck) → (may_be_star deck ≡ true → FitsStar deck) → OrdersFit deck → (es : List Event)
-    → Sound deck es
-every_sound deck fits fit es =
-    let here = every_run deck fits es in
-    sound-of deck fit (λ us. home-run deck us (run deck us) (every_run deck fits us)) es
+    → NoneInStar deck es → Sound deck es
+every_sound deck fits fit es none =
+    let here = every_run deck fits es none in
+    sound-of deck fit es
+    (λ k s n at alive. homes_run deck (take k es) s n at)
     (good_history deck es (run deck es) here) (good_told deck es (run deck es) here)

@@ -4,6 +4,10 @@ use Rattle.std.specs.Prelude.{slice_get}
 use Rattle.grs_wire.specs.Masks.{has}
 use Rattle.grs_wire.specs.declared.deck.Choice.{Choice}
 use Rattle.grs_wire.specs.declared.deck.Deck.{Deck}
+use Rattle.grs_world.proofs.run.Came.{IsSpared}
+use Rattle.grs_world.proofs.run.Removals.{GoneAreRemoved}
+use Rattle.grs_world.proofs.run.Knowing.{KnowsRemoved}
+use Rattle.grs_world.proofs.star.Usual.{usual}
 use Rattle.grs_world.proofs.move.Changing.{IsChanging, IsMoved, fresh, has_changed, moved}
 use Rattle.grs_world.proofs.star.Sound.{outcome}
 use Rattle.grs_world.proofs.star.steps.Outcome.{IsOutcome}
@@ -22,17 +26,21 @@ module _ (deck : Deck) (some : 0 < deck.entries) (w : World) (g : IsChanging dec
   abbrev shown : World
   shown = record w { nodes = g.view }
 
-  pub star-moved : (choice : Choice) → IsMoved deck w c n (chosen deck w.medium c n choice)
+  pub star-moved : GoneAreRemoved deck w → KnowsRemoved w.medium n → (choice : Choice)
+      → IsSpared deck w.medium c n choice
+      → IsMoved deck w c n (chosen deck w.medium c n choice)
   unfolding placed
-  star-moved choice = record {
-    changing = goes (outcome deck some shown g.whole c inside n (at_site there unremoved) choice step);
-    news = (outcome deck some shown g.whole c inside n (at_site there unremoved) choice step).news;
+  star-moved removed known choice kept = record {
+    changing =
+        goes (outcome deck some shown g.whole c inside n (at_site there unremoved) removed known choice kept step);
+    news = (outcome deck some shown g.whole c inside n (at_site there unremoved) removed known choice kept step).news;
   }
     where
       step : IsStep deck (record w { nodes = g.view }) c n (chosen deck w.medium c n choice)
       step =
           good_choice deck some (record w { nodes = g.view }) c inside n (at_site there unremoved) g.whole.roles
-          (g.whole.roles.node c.0 n (at_site there unremoved)) choice
+          (g.whole.roles.node c.0 n (at_site there unremoved))
+          (usual deck (record w { nodes = g.view }) g.whole c n (at_site there unremoved) known) choice kept
 
       goes : IsOutcome deck (record w { nodes = g.view }) g.whole c n (chosen deck w.medium c n choice)
           → IsChanging deck (placed w c n (chosen deck w.medium c n choice))

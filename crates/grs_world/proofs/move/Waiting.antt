@@ -4,7 +4,7 @@ use Rattle.std.proofs.Common.{length-append, refl, set, subst, sym, true, ℕ, �
 use Rattle.std.proofs.lemmas.Bool.{and_parts}
 use Rattle.std.proofs.lemmas.List.Elements.{filter-append}
 use Rattle.std.proofs.lemmas.List.{length-set}
-use Rattle.std.specs.List.{list_all}
+use Rattle.std.specs.List.{list_all, list_any}
 use Rattle.std.proofs.lemmas.List.Folds.{list_all-append}
 use Rattle.std.specs.Prelude.{slice_get}
 use Rattle.grs_known.proofs.lists.Alike.{Alike}
@@ -18,6 +18,14 @@ use Rattle.grs_known.proofs.known.Blank.{blank}
 use Rattle.grs_known.proofs.system.Says.{is_home_at, own_requests}
 use Rattle.grs_known.specs.Parts.{put_at}
 use Rattle.grs_known.proofs.lists.Placed.{put_each, put_both, put_here}
+use Rattle.grs_world.proofs.star.Calm.{losing-nothing}
+use Rattle.grs_world.proofs.run.Knowing.{KnowsRemoved}
+use Rattle.grs_world.proofs.star.Usual.{usual}
+use Rattle.grs_world.proofs.star.steps.Outcome.{part}
+use Rattle.grs_world.proofs.run.Purging.{target-fits}
+use Rattle.grs_world.proofs.run.Removals.{GoneAreRemoved}
+use Rattle.grs_medium.specs.Apply.{is_live}
+use Rattle.grs_wire.specs.History.{removes}
 use Rattle.grs_world.proofs.star.Elements.{AreNear}
 use Rattle.grs_world.proofs.message.Stands.{Bodies}
 use Rattle.grs_world.proofs.star.Worlds.{Fixes, Hands, IsWhole, are_live, fixes-own, in_hands, items-none, items-one}
@@ -38,7 +46,7 @@ use Rattle.grs_world.proofs.star.OwnEvents.{coming-own, local-calm}
 use Rattle.grs_world.proofs.system.Desks.{desk-seen, desk-told}
 use Rattle.grs_world.proofs.run.Messages.{given-due, message-closed}
 use Rattle.grs_world.proofs.system.Quiet.{quiet}
-use Rattle.grs_world.proofs.run.Desks.{tells_already, tells_in_star, tells_tasks}
+use Rattle.grs_world.proofs.run.Desks.{tells_already, tells_no_such, tells_tasks}
 use Rattle.grs_world.proofs.star.Under.{under}
 use Rattle.grs_wire.specs.declared.deck.Deck.{Deck}
 use Rattle.grs_wire.specs.declared.request.Fixed.{Fixed}
@@ -46,6 +54,8 @@ use Rattle.grs_wire.specs.Masks.{has, lives}
 use Rattle.grs_wire.specs.declared.told.Said.{Said}
 use Rattle.grs_wire.specs.declared.deck.Order.TheVariants as orders
 use Rattle.grs_wire.specs.declared.told.Said.TheVariants as saids
+use Rattle.grs_node.specs.Node.{changed as changed_now, losing}
+use Rattle.grs_node.specs.Removal.{members}
 use Rattle.grs_node.specs.Node.{NodeState, Step, change_to_star, desk_told, may_go, next_order, only, read_entries}
 use Rattle.grs_node.specs.Node.{task_step}
 use Rattle.grs_node.specs.Star.{StarPart}
@@ -153,6 +163,7 @@ module _ (deck : Deck) (w : World) (g : IsChanging deck w) (c : SysId) (n : Node
               subst (Alike (plain (items_of (managed_at me.part.manager e))))
               (sym (ap (under deck.entries e) lists-then ∙ local e)) (me.fits.lists e a);
           well = me.fits.well;
+          calm = me.fits.calm;
         };
       };
     }
@@ -306,12 +317,16 @@ module _ (deck : Deck) (w : World) (g : IsChanging deck w) (c : SysId) (n : Node
     news = tells_already next (desk-told n saids.StarAlready) refl g.whole.roles.mode g.whole.roles.mode;
   }
 
-  pub vary-moved : (target : SysId) → next_order deck n ≡ Some (orders.Vary target)
-      → IsMoved deck w c n (record { medium = w.medium; step = only (desk_told n saids.VaryInStar) })
+  pub vary-moved : GoneAreRemoved deck w → (target : SysId) → next_order deck n ≡ Some (orders.Vary target)
+      → is_live w.medium target ≡ false
+      → IsMoved deck w c n (record { medium = w.medium; step = only (desk_told n saids.VaryNoSuch) })
   unfolding desk_told
-  vary-moved target next = record {
-    changing = desk-changing saids.VaryInStar;
-    news = tells_in_star target next (desk-told n saids.VaryInStar) refl g.whole.roles.mode g.whole.roles.mode;
+  vary-moved removed target next gone = record {
+    changing = desk-changing saids.VaryNoSuch;
+    news =
+        tells_no_such target next (desk-told n saids.VaryNoSuch) refl refl (λ fit.
+        ap (λ gs. list_any (removes target) (history (items gs))) (append-nil w.fixed)
+        ∙ removed target (target-fits deck n target fit next).0 gone);
   }
 
   -- ---- a task goes on
@@ -397,9 +412,29 @@ module _ (deck : Deck) (w : World) (g : IsChanging deck w) (c : SysId) (n : Node
       → read_entries deck n (unseen c w.medium.message.entries) ≡ read_all n (g.due c.0)
   reads alive = read-entries deck n (g.due c.0) (unseen c w.medium.message.entries) asked-due round-due (given alive)
 
+  then-known : has (live w.medium) c.0 ≡ true
+      → (read_entries deck n (unseen c w.medium.message.entries)).known ≡ k.known
+  unfolding change_to_star
+  then-known alive =
+      ap (λ (z : NodeState). z.known) (ap (change_to_star deck) (reads alive) ∙ sym is)
+
   pub comes-to : has (live w.medium) c.0 ≡ true
       → change_to_star deck (read_entries deck n (unseen c w.medium.message.entries)) ≡ k
   comes-to alive = ap (change_to_star deck) (reads alive) ∙ sym is
+
+  -- behind its change it has nothing to lose
+  pub change-stays : has (live w.medium) c.0 ≡ true → KnowsRemoved w.medium n
+      → changed_now deck (read_entries deck n (unseen c w.medium.message.entries))
+      ≡ change_to_star deck (read_entries deck n (unseen c w.medium.message.entries))
+  change-stays alive known =
+      let x : NodeState = read_entries deck n (unseen c w.medium.message.entries) in
+      let same : x.known ≡ n.known = (stays-entries deck n (unseen c w.medium.message.entries)).known in
+      let u = usual deck shown g.whole c k (at_site there unremoved)
+      (λ v h. known v (ap (λ i. has i v) (sym same) ∙ (ap (λ i. has i v) (then-known alive) ∙ h))) in
+      ap (λ (z : NodeState). losing deck z (members x.known)) (comes-to alive)
+      ∙ (losing-nothing (part deck shown g.whole c k (at_site there unremoved)) u.calm deck k u.star x.known
+      (λ v h. u.gone v (known v (ap (λ i. has i v) (sym same) ∙ h)))
+      ∙ sym (comes-to alive))
 
   turn-done : (change_to_star deck (read_entries deck n (unseen c w.medium.message.entries))).done ≡ n.done
   unfolding change_to_star
@@ -501,10 +536,11 @@ module _ (deck : Deck) (w : World) (g : IsChanging deck w) (c : SysId) (n : Node
           (view-news deck c.0 T (g.before c.0) (g.due c.0) g.since g.whole.right whole_now n h))
 
   -- whatever came of it
-  pub waits-moved : has (live w.medium) c.0 ≡ true → (o : Turnout) → CameLate deck w c n o → IsMoved deck w c n o
-  waits-moved alive o (nothing_late flags) = nothing-moved flags
-  waits-moved alive o (task_late t may) = task-moved t may
-  waits-moved alive o (turn_late flags here) = turn-moved flags alive
-  waits-moved alive o (desk_late next) = desk-moved next
-  waits-moved alive o (vary_late target next) = vary-moved target next
-  waits-moved alive o (informed_late known) = known-moved known
+  pub waits-moved : has (live w.medium) c.0 ≡ true → GoneAreRemoved deck w → (o : Turnout) → CameLate deck w c n o
+      → IsMoved deck w c n o
+  waits-moved alive removed o (nothing_late flags) = nothing-moved flags
+  waits-moved alive removed o (task_late t may) = task-moved t may
+  waits-moved alive removed o (turn_late flags here) = turn-moved flags alive
+  waits-moved alive removed o (desk_late next) = desk-moved next
+  waits-moved alive removed o (vary_late target next gone) = vary-moved removed target next gone
+  waits-moved alive removed o (informed_late known) = known-moved known

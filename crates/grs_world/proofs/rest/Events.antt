@@ -1,7 +1,9 @@
 -- Each task of a system stays up to date in every event of the system.
 use Rattle.std.proofs.Common.{◌≡◌, ◌-◌, ◌+◌, ℕ, Bool, true, false, cond, not, ◌&&◌, ◌||◌, List, [], ◌∷◌, ◌++◌, Option}
-use Rattle.std.proofs.Common.{Some, None, refl, ap, sym, ◌∙◌, subst, arith}
+use Rattle.std.proofs.Common.{Some, None, refl, ap, sym, ◌∙◌, subst, arith, zero, suc}
 use Rattle.std.specs.List.{list_all}
+use Rattle.std.specs.Prelude.{◌==◌, get_or, map, nat_lt}
+use Rattle.std.proofs.lemmas.List.{length-map}
 use Rattle.std.specs.Option.{option_map}
 use Rattle.std.proofs.lemmas.Bool.{and_parts, and_from}
 use Rattle.grs_base.specs.Same.{same_res}
@@ -14,6 +16,8 @@ use Rattle.grs_legal.specs.declared.meaning.Meaning.{Meaning}
 use Rattle.grs_node.specs.Change.{first_look, more_left, one_by_one, with_first_look, with_list_ranks, with_rank_by}
 use Rattle.grs_node.specs.Change.{with_ranks}
 use Rattle.grs_node.specs.Node.{NodeState, all_sent, is_of_deck, read_entries, read_entry}
+use Rattle.grs_node.specs.Removal.{again, has_sent_in, sent_again}
+use Rattle.grs_node.specs.Star.{StarPart}
 use Rattle.grs_wire.specs.Wants.{answer_to, new_owners, res_wanted}
 use Rattle.grs_wire.specs.contracts.request.WantPartialEq.TheImpl.{eq-value as same_want}
 use Rattle.grs_wire.specs.declared.deck.Deck.{Deck}
@@ -31,7 +35,7 @@ use Rattle.lock_structure.specs.RankedRows.{RankedRow}
 use Rattle.ring_mode.specs.Ring.{Side, answer_own, is_asked, is_for_all, process, process_entry, side_of}
 use Rattle.star_client.specs.Client.{can_get, tell_answer_ranked, unrecorded, with_rank_of}
 use Rattle.task_state.specs.Replies.{tell_answer, tell_answer_any}
-use Rattle.task_state.specs.View.{TasksView, is_sent, is_task, on_record, state_of, telling, with_outstanding}
+use Rattle.task_state.specs.View.{TasksView, is_sent, is_task, new_task, on_record, state_of, telling, with_outstanding}
 use Rattle.task_state.specs.View.{with_phase, with_rank}
 use Rattle.task_state.specs.declared.state.Asked.{Asked}
 use Rattle.task_state.specs.declared.state.Phase.{Phase}
@@ -157,6 +161,42 @@ date-sent whole deck v u h here =
       ended = λ e. absurd (cc);
     })
     h
+
+-- ---- tasks that sent what they ask of an entry are to send it again
+get_or-again : (p : StarPart) (e : ℕ) (xs : List TaskState) (i : ℕ)
+    → get_or (map (again p e) xs) i new_task ≡ again p e (get_or xs i new_task)
+get_or-again p e [] i = refl
+get_or-again p e (x ∷ xs) zero = refl
+get_or-again p e (x ∷ xs) (suc i) = get_or-again p e xs i
+
+passed-again : (o : Option Asked) (n : ℕ) → passed_by o phases.Sent n ≡ passed_by o phases.ToSend n
+passed-again None n = refl
+passed-again (Some a) n = refl
+
+date-once : (whole : Bool) (ls : List Meaning) (T : List ToldLine) (t : TaskId) (p : StarPart) (e : ℕ) (x : TaskState)
+    → IsUpToDate whole ls T t x → IsUpToDate whole ls T t (again p e x)
+date-once whole ls T t p e x h =
+    by_test (IsUpToDate whole ls T t) (has_sent_in p e x) (record x { phase = phases.ToSend }) x
+    (λ sent. record {
+      closed = λ z. absurd (cc);
+      wanted = h.wanted;
+      held = refl;
+      coded =
+          subst (AreCoded ls T t) (passed-again x.outstanding x.line)
+          (coded-less ls T t x.outstanding x.phase x.line h.coded);
+      units = h.units;
+      ended = λ z. absurd (cc);
+    })
+    (λ other. h)
+
+pub date-again : (whole : Bool) (deck : Deck) (v : TasksView) (p : StarPart) (e : ℕ) → AllDate whole deck v
+    → AllDate whole deck (sent_again p e v)
+unfolding state_of
+date-again whole deck v p e h t ls lines here =
+    subst (IsUpToDate whole ls v.told t) (sym (get_or-again p e v.tasks t.task))
+    (date-once whole ls v.told t p e (state_of v t)
+    (h t ls lines
+    (ap (λ k. (v.system == t.system.0) && nat_lt t.task k) (sym (length-map v.tasks (again p e))) ∙ here)))
 
 here-phase : (v : TasksView) (u : TaskId) (p : Phase) (t : TaskId) → is_task (with_phase v u p) t ≡ is_task v t
 unfolding with_phase

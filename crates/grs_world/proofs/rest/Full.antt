@@ -1,7 +1,8 @@
 -- As many tasks as there are of a system there are of it in the deck, in every run: no event makes or ends one.
 use Rattle.std.proofs.Common.{◌≡◌, ℕ, zero, suc, Bool, true, false, cond, List, [], ◌∷◌, length, take, Option, Some}
 use Rattle.std.proofs.Common.{None, refl, ap, ◌∙◌}
-use Rattle.std.specs.Prelude.{◌==◌, ◌&&◌, is_none, nat_lt, slice_get}
+use Rattle.std.specs.Prelude.{◌==◌, ◌&&◌, filter, is_none, nat_lt, slice_get}
+use Rattle.std.proofs.lemmas.List.{length-map}
 use Rattle.grs_wire.specs.declared.told.ToldLine.{ToldLine}
 use Rattle.grs_base.specs.declared.resource.Ret.{Ret}
 use Rattle.grs_base.specs.declared.resource.Ctl.{Ctl}
@@ -14,8 +15,9 @@ use Rattle.grs_base.specs.declared.resource.TaskId.{TaskId}
 use Rattle.grs_legal.specs.Asks.{lines_of, scripts_of}
 use Rattle.grs_medium.specs.Medium.{MediumState}
 use Rattle.grs_node.specs.Star.{StarPart, answer_for, begun, decide_own, fixing_none, own_step, owners_by, rank_of}
-use Rattle.grs_node.specs.Star.{request_of, took_mail}
-use Rattle.grs_node.specs.declared.prepared.Prepared.TheVariants.{Nothing}
+use Rattle.grs_node.specs.Star.{request_of}
+use Rattle.grs_node.specs.Names.{names_of}
+use Rattle.grs_node.specs.Removal.{members, sent_again, standing, without_those}
 use Rattle.grs_wire.specs.declared.deck.Choice.{Choice}
 use Rattle.grs_wire.specs.declared.deck.Event.{Event}
 use Rattle.grs_wire.specs.declared.medium.Mail.{Mail}
@@ -23,7 +25,7 @@ use Rattle.grs_wire.specs.declared.medium.Mail.TheVariants.{Request as RequestMa
 use Rattle.grs_wire.specs.declared.medium.Mail.TheVariants.{Notice, Part}
 use Rattle.grs_wire.specs.declared.told.Said.{Said}
 use Rattle.grs_wire.specs.declared.told.Said.TheVariants as saids
-use Rattle.grs_world.proofs.rest.RingRun.{first_of}
+use Rattle.grs_world.proofs.run.Sound.{first_of}
 use Rattle.grs_world.proofs.run.Each.{each_run}
 use Rattle.grs_world.proofs.run.Runs.{by_node}
 use Rattle.grs_world.specs.World.{Turnout, World, placed, run}
@@ -34,7 +36,8 @@ use Rattle.grs_node.specs.Change.{one_by_one, with_first_look, with_list_ranks, 
 use Rattle.grs_node.specs.Node.{NodeState, Step, all_sent, ask, change_to_star, decide, desk_told, end_step, first_node}
 use Rattle.grs_node.specs.Node.{is_for_deck, is_of_deck, phase_step, look_around, look_home, show, post, put_in}
 use Rattle.grs_node.specs.Node.{read_entries, read_entry, ready_step, switched, take_line, task_step, wait, with_side}
-use Rattle.grs_node.specs.Node.{with_tasks, purged, take_mail}
+use Rattle.grs_node.specs.Node.{changed as changed_now, is_item_of, known_from, losing, purged, stale, take_mail}
+use Rattle.grs_node.specs.Node.{took_mail, with_tasks}
 use Rattle.grs_wire.specs.Wants.{answer_to, new_owners, res_wanted}
 use Rattle.grs_wire.specs.declared.deck.Deck.{Deck}
 use Rattle.grs_wire.specs.declared.medium.RingBody.{RingBody}
@@ -74,11 +77,13 @@ use Rattle.grs_base.specs.declared.resource.Row.{Row}
 use Rattle.freed_owners.specs.Freed.{freed}
 use Rattle.system_purge.specs.Purge.{tell_freed}
 use Rattle.grs_world.proofs.run.Came.{Acts, Came, acted, already, began, changed, decided, informed, last_turn, left}
-use Rattle.grs_world.proofs.run.Came.{rejoined, no_such, nothing, refused, removes_one, sent, settled, took, turn}
+use Rattle.grs_world.proofs.run.Came.{no_such, nothing, parted, removes_one, removes_star, sent, settled, took, turn}
 use Rattle.grs_world.proofs.run.Came.{went_on, told as told_one, Result}
 use Rattle.grs_base.specs.Limits.{most_additions}
 use Rattle.grs_wire.specs.Unseen.{unseen}
 use Rattle.grs_world.proofs.run.Chosen.{each_came}
+use Rattle.grs_world.proofs.run.Lost.{tasks-lost, tasks-notice, tasks-part}
+use Rattle.grs_wire.specs.Masks.{with_also}
 
 -- whose they are, and how many
 abbrev pub size : TasksView → ℕ × ℕ
@@ -406,12 +411,20 @@ pub size-desk : (n : NodeState) (said : Said) → size (desk_told n said).tasks 
 unfolding desk_told
 size-desk n said = same-telling n.tasks _
 
+-- a system loses others, also where it changes to star mode
+pub size-lost : (deck : Deck) (n : NodeState) (ss : List SysId) → size (losing deck n ss).tasks ≡ size n.tasks
+size-lost deck n ss =
+    tasks-lost (λ v. size v ≡ size n.tasks) (λ v r t h. size-control v r t ∙ h) deck n ss refl
+
+size-moved : (deck : Deck) (n : NodeState) → size (changed_now deck n).tasks ≡ size n.tasks
+size-moved deck n = size-lost deck (change_to_star deck n) (members n.known) ∙ size-changed deck n
+
 size-switched : (deck : Deck) (n : NodeState) → size (switched deck n).tasks ≡ size n.tasks
 unfolding switched
 size-switched deck n = go (is_none n.star)
   where
-    go : (b : Bool) → size (cond b (change_to_star deck (desk_told n saids.StarDone)) n).tasks ≡ size n.tasks
-    go true = size-changed deck (desk_told n saids.StarDone) ∙ size-desk n saids.StarDone
+    go : (b : Bool) → size (cond b (changed_now deck (desk_told n saids.StarDone)) n).tasks ≡ size n.tasks
+    go true = size-moved deck (desk_told n saids.StarDone) ∙ size-desk n saids.StarDone
     go false = refl
 
 -- ---- star mode
@@ -424,48 +437,62 @@ size-own_step v p t (Some a) =
     (res_wanted a.req.want) (owners_by p (request_of t a))
     ∙ size-ranked v t a (answer_for p (request_of t a)) (rank_of p (request_of t a))
 
-size-took : (deck : Deck) (v : TasksView) (p : StarPart) (m : Mail) → size (take_mail deck v p m).tasks ≡ size v
+size-again : (p : StarPart) (e : ℕ) (v : TasksView) → size (sent_again p e v) ≡ size v
+size-again p e v = same-size v (sent_again p e v) refl (length-map v.tasks _)
+
+size-took : (deck : Deck) (known : ℕ) (v : TasksView) (p : StarPart) (m : Mail)
+    → size (take_mail deck known v p m).tasks ≡ size v
 unfolding took_mail after_mail
-size-took deck v p m = go (is_for_deck deck m) m
+size-took deck known v p m = go (is_for_deck deck m) m
   where
-    go : (b : Bool) (m : Mail) → size (cond b (took_mail v p m) (fixing_none v p)).tasks ≡ size v
+    go : (b : Bool) (m : Mail) → size (cond b (took_mail deck known v p m) (fixing_none v p)).tasks ≡ size v
     go false m = refl
     go true (RequestMail e from q) = refl
     go true (AnsweredMail t answer rank) = size-mail v (AnsweredMail t answer rank)
     go true (Granted t r) = size-mail v (Granted t r)
-    go true (Notice target moved) = refl
-    go true (Part e from records) = refl
+    go true (Notice target moved) =
+        tasks-notice (λ z. size z ≡ size v) (λ z r t h. size-control z r t ∙ h) (λ q e z h. size-again q e z ∙ h) known
+        (names_of deck v.system) (standing v p) (filter (is_item_of deck) moved) refl
+    go true (Part e from records) =
+        tasks-part (λ z. size z ≡ size v) (λ z r t h. size-control z r t ∙ h) known (names_of deck v.system)
+        (standing v p) e from (filter (λ r. is_of_deck deck r.task) records) refl
 
 pub size-acts :
     (deck : Deck) (m : MediumState) (s : SysId) (n : NodeState) (p : StarPart) (choice : Choice) (b : Result)
     (o : Turnout)
     → Acts deck m s n p choice b o → size o.step.node.tasks ≡ size n.tasks
-size-acts deck m s n p choice b o (decided t a x asked mine) = size-own_step n.tasks p t (Some a)
-size-acts deck m s n p choice b o (began t a x asked other none) = size-own_step n.tasks (begun p x) t (Some a)
-size-acts deck m s n p choice b o (rejoined t a x asked other to at same) = size-own_step n.tasks (begun p x) t (Some a)
-size-acts deck m s n p choice b o (sent t a x asked other to at apart) = same-phase n.tasks t phases.Sent
-size-acts deck m s n p choice b o (took mail rest at) = size-took deck n.tasks p mail
-size-acts deck m s n p choice b o (settled q first serving) = size-new n.tasks (res_wanted q.want) (owners_by p q)
+size-acts deck m s n p choice b o (decided t a x asked to at same) = size-own_step n.tasks (begun p x) t (Some a)
+size-acts deck m s n p choice b o (began t a x asked none) = size-own_step n.tasks (begun p x) t (Some a)
+size-acts deck m s n p choice b o (sent t a x asked to at apart) = same-phase n.tasks t phases.Sent
+size-acts deck m s n p choice b o (took mail rest at) = size-took deck n.known n.tasks p mail
+size-acts deck m s n p choice b o (settled q first) = size-new n.tasks (res_wanted q.want) (owners_by p q)
 size-acts deck m s n p choice b o (told_one e x first) = refl
+size-acts deck m s n p choice b o (parted e to owes unknown) = refl
 size-acts deck m s n p choice b o (left x flags free by) = refl
 
 -- ---- any event
-size-came : (deck : Deck) (m : MediumState) (s : SysId) (n : NodeState) (choice : Choice) (b : Result) (o : Turnout)
+pub size-came : (deck : Deck) (m : MediumState) (s : SysId) (n : NodeState) (choice : Choice) (b : Result) (o : Turnout)
     → Came deck m s n choice b o → size o.step.node.tasks ≡ size n.tasks
-unfolding purged
+unfolding purged stale
 size-came deck m s n choice b o (nothing k r silent flags) = refl
-size-came deck m s n choice b o (informed k known) = refl
+size-came deck m s n choice b o (informed k) =
+    let known : ℕ = known_from deck n.known m.removed in
+    size-lost deck (record n { known = known }) (members (without_those n.known known))
 size-came deck m s n choice b o (went_on t may) = size-step deck.limit n t (lines_of deck t)
 size-came deck m s n choice b o (turn flags alone unclosed here) =
     let es = unseen s m.message.entries in
     size-put (read_entries deck n es) (length (take most_additions n.outbox)) ∙ size-entries deck es n
 size-came deck m s n choice b o (last_turn flags alone shut here) =
-    let es = unseen s m.message.entries in size-changed deck (read_entries deck n es) ∙ size-entries deck es n
+    let es = unseen s m.message.entries in size-moved deck (read_entries deck n es) ∙ size-entries deck es n
 size-came deck m s n choice b o (changed ring next seen) = size-switched deck n
 size-came deck m s n choice b o (already mode next) = size-desk n saids.StarAlready
-size-came deck m s n choice b o (removes_one target ring next lives) = size-desk n saids.VaryDone
-size-came deck m s n choice b o (no_such target ring next gone) = size-desk n saids.VaryNoSuch
-size-came deck m s n choice b o (refused target mode next) = size-desk n saids.VaryInStar
+size-came deck m s n choice b o (removes_one target ring next lives) =
+    size-lost deck (record (desk_told n saids.VaryDone) { known = with_also n.known target.0 }) (target ∷ [])
+    ∙ size-desk n saids.VaryDone
+size-came deck m s n choice b o (removes_star target mode next lives) =
+    size-lost deck (record (desk_told n saids.VaryDone) { known = with_also n.known target.0 }) (target ∷ [])
+    ∙ size-desk n saids.VaryDone
+size-came deck m s n choice b o (no_such target next gone) = size-desk n saids.VaryNoSuch
 size-came deck m s n choice b o (acted p is k r x acts) = size-acts deck m s n p k r x acts
 
 -- ---- so in every run

@@ -2,7 +2,7 @@
 -- run, of a system that was removed too.
 use Rattle.std.proofs.Common.{◌≡◌, ℕ, zero, suc, Bool, true, false, cond, List, [], ◌∷◌, ◌++◌, take, Option, Some, None}
 use Rattle.std.proofs.Common.{refl, ap, sym, ◌∙◌, subst, take-append-drop, length}
-use Rattle.std.specs.Prelude.{◌&&◌, drop, is_none, is_some, slice_get}
+use Rattle.std.specs.Prelude.{◌&&◌, drop, filter, is_none, is_some, slice_get}
 use Rattle.std.specs.List.{list_all}
 use Rattle.std.proofs.lemmas.Bool.{and_from, and_parts}
 use Rattle.std.proofs.lemmas.List.Folds.{list_all-append}
@@ -18,11 +18,16 @@ use Rattle.grs_node.specs.Change.{one_by_one}
 use Rattle.grs_node.specs.Node.{NodeState, Step, ask, change_to_star, decide, desk_told, end_step, first_node}
 use Rattle.grs_node.specs.Node.{is_for_deck, is_of_deck, is_to_send, look_around, look_home, names_of_deck, looks_asked}
 use Rattle.grs_node.specs.Node.{may_go, may_send, phase_step, post, posted, purged, put_in, read_entries, ready_step}
-use Rattle.grs_node.specs.Node.{show, switched, take_line, task_step, with_tasks, take_mail}
-use Rattle.grs_node.specs.Star.{StarPart, StarStep, begun, decide_own, fixing_none, owners_by, rank_of, request_of}
-use Rattle.grs_node.specs.Star.{lists_for, took_mail}
+use Rattle.grs_node.specs.Node.{changed as changed_now, is_item_of, known_from, losing, losing_in, show, stale}
+use Rattle.grs_node.specs.Node.{switched, take_line, take_mail, task_step, took_mail, with_tasks}
+use Rattle.grs_node.specs.Names.{names_of}
+use Rattle.grs_node.specs.Removal.{members, standing, without_those}
+use Rattle.grs_node.specs.Star.{StarPart, StarStep, begun, decide_own, fixing_none, lists_for, owners_by, rank_of}
+use Rattle.grs_node.specs.Star.{request_of}
 use Rattle.grs_wire.specs.Wants.{answer_to, res_wanted}
+use Rattle.grs_wire.specs.Masks.{with_also}
 use Rattle.grs_wire.specs.declared.deck.Choice.{Choice}
+use Rattle.grs_wire.specs.declared.deck.Choice.TheVariants as choices
 use Rattle.grs_wire.specs.declared.deck.Deck.{Deck}
 use Rattle.grs_wire.specs.declared.deck.Event.{Event}
 use Rattle.grs_wire.specs.declared.medium.Mail.{Mail}
@@ -31,7 +36,7 @@ use Rattle.grs_wire.specs.declared.medium.Mail.TheVariants.{Notice, Part}
 use Rattle.grs_wire.specs.declared.medium.RingEntry.{RingEntry}
 use Rattle.grs_wire.specs.declared.request.Req.{Req}
 use Rattle.grs_wire.specs.declared.request.Want.{Want}
-use Rattle.grs_wire.specs.declared.request.Want.TheVariants.{Enq, Deq, Release}
+use Rattle.grs_wire.specs.declared.request.Want.TheVariants.{Deq, Release}
 use Rattle.grs_wire.specs.declared.told.Said.{Said}
 use Rattle.grs_wire.specs.declared.told.Said.TheVariants as saids
 use Rattle.grs_wire.proofs.WantLaws.{by_test}
@@ -44,17 +49,21 @@ use Rattle.task_state.specs.declared.state.Phase.{Phase}
 use Rattle.task_state.specs.declared.state.Phase.TheVariants as phases
 use Rattle.task_state.specs.declared.state.Rec.{Rec}
 use Rattle.grs_world.proofs.rest.Answers.{lists-answer}
-use Rattle.grs_world.proofs.rest.Events.{date-any, date-entries, date-all_sent, date-one_by_one, date-ranked}
-use Rattle.grs_world.proofs.rest.Events.{date-ranks, date-sent, date-telling, here-all}
-use Rattle.grs_world.proofs.rest.Full.{here-of, size, size-desk, size-entries, size-put, size-step, size-acts}
-use Rattle.grs_world.proofs.rest.RingRun.{first-read, first_of}
+use Rattle.grs_world.proofs.rest.Events.{date-again, date-any, date-entries, date-all_sent, date-one_by_one}
+use Rattle.grs_world.proofs.rest.Events.{date-ranked, date-ranks, date-sent, date-telling, here-all}
+use Rattle.grs_world.proofs.rest.Full.{here-of, size, size-acts, size-desk, size-entries, size-lost, size-put}
+use Rattle.grs_world.proofs.rest.Full.{size-step}
+use Rattle.grs_world.proofs.rest.RingRun.{first-read}
+use Rattle.grs_world.proofs.run.Sound.{first_of}
 use Rattle.grs_world.proofs.rest.Steps.{AllDate, date-control, date-new, date-task, going-ours}
 use Rattle.grs_world.proofs.rest.StarTasks.{keeps-mail}
 use Rattle.grs_world.proofs.run.Each.{each_run}
+use Rattle.grs_world.proofs.run.Lost.{tasks-lost, tasks-notice, tasks-part}
 use Rattle.grs_world.proofs.run.Runs.{by_node}
 use Rattle.grs_world.specs.World.{Turnout, World, placed, run}
 use Rattle.grs_world.proofs.run.Came.{told, Result, Acts, Came, acted, already, began, changed, decided, informed}
-use Rattle.grs_world.proofs.run.Came.{last_turn, left, rejoined, no_such, nothing, refused, removes_one, sent, settled}
+use Rattle.grs_world.proofs.run.Came.{last_turn, left, no_such, nothing, parted, removes_one, removes_star, sent}
+use Rattle.grs_world.proofs.run.Came.{settled}
 use Rattle.grs_world.proofs.run.Came.{took, turn, went_on}
 use Rattle.grs_base.specs.Limits.{most_additions}
 use Rattle.grs_wire.specs.Unseen.{unseen}
@@ -192,11 +201,31 @@ kept-desk deck n said h = record {
   box = boxed-as n.tasks (desk_told n said).tasks n.outbox (size-desk n said) h.box;
 }
 
+-- ---- it loses others, also where it changes to star mode
+outbox-lost : (deck : Deck) (n : NodeState) (ss : List SysId) → (losing deck n ss).outbox ≡ n.outbox
+unfolding losing
+outbox-lost deck n ss = go n.star
+  where
+    go : (o : Option StarPart) → (losing_in deck n o ss).outbox ≡ n.outbox
+    go None = refl
+    go (Some p) = refl
+
+kept-lost : (deck : Deck) (n : NodeState) (ss : List SysId) → IsKeptUp deck n → IsKeptUp deck (losing deck n ss)
+kept-lost deck n ss h = record {
+  date = tasks-lost (AllDate false deck) (λ v r t k. date-control false deck v r t k) deck n ss h.date;
+  box =
+      boxed-as n.tasks (losing deck n ss).tasks (losing deck n ss).outbox (size-lost deck n ss)
+      (subst (IsBoxed n.tasks) (sym (outbox-lost deck n ss)) h.box);
+}
+
+kept-moved : (deck : Deck) (n : NodeState) → IsKeptUp deck n → IsKeptUp deck (changed_now deck n)
+kept-moved deck n h = kept-lost deck (change_to_star deck n) (members n.known) (kept-changed deck n h)
+
 kept-switched : (deck : Deck) (n : NodeState) → IsKeptUp deck n → IsKeptUp deck (switched deck n)
 unfolding switched
 kept-switched deck n h =
-    by_test (IsKeptUp deck) (is_none n.star) (change_to_star deck (desk_told n saids.StarDone)) n
-    (λ e. kept-changed deck (desk_told n saids.StarDone) (kept-desk deck n saids.StarDone h)) (λ e. h)
+    by_test (IsKeptUp deck) (is_none n.star) (changed_now deck (desk_told n saids.StarDone)) n
+    (λ e. kept-moved deck (desk_told n saids.StarDone) (kept-desk deck n saids.StarDone h)) (λ e. h)
 
 -- ---- star mode
 sending : (deck : Deck) (n : NodeState) (t : TaskId) → may_send deck n t ≡ true
@@ -221,38 +250,42 @@ date-granted : (deck : Deck) (v : TasksView) (t : TaskId) (r : Res) → AllDate 
 unfolding after_mail
 date-granted deck v t r h = date-control false deck v r t h
 
-date-mail : (deck : Deck) (v : TasksView) (p : StarPart) (m : Mail) → AllDate false deck v
-    → is_for_deck deck m ≡ true → AllDate false deck (took_mail v p m).tasks
+date-mail : (deck : Deck) (known : ℕ) (v : TasksView) (p : StarPart) (m : Mail) → AllDate false deck v
+    → is_for_deck deck m ≡ true → AllDate false deck (took_mail deck known v p m).tasks
 unfolding took_mail after_mail
-date-mail deck v p (RequestMail e from q) h for_deck = h
-date-mail deck v p (AnsweredMail t answer rank) h for_deck =
+date-mail deck known v p (RequestMail e from q) h for_deck = h
+date-mail deck known v p (AnsweredMail t answer rank) h for_deck =
     (keeps-mail deck v t answer rank (and_parts (is_of_deck deck t) (names_of_deck deck answer) for_deck).0 h).date
-date-mail deck v p (Granted t r) h for_deck = date-granted deck v t r h
-date-mail deck v p (Notice target moved) h for_deck = h
-date-mail deck v p (Part e from records) h for_deck = h
+date-mail deck known v p (Granted t r) h for_deck = date-granted deck v t r h
+date-mail deck known v p (Notice target moved) h for_deck =
+    tasks-notice (AllDate false deck) (λ z r t k. date-control false deck z r t k)
+    (λ q e z k. date-again false deck z q e k) known (names_of deck v.system) (standing v p)
+    (filter (is_item_of deck) moved) h
+date-mail deck known v p (Part e from records) h for_deck =
+    tasks-part (AllDate false deck) (λ z r t k. date-control false deck z r t k) known (names_of deck v.system)
+    (standing v p) e from (filter (λ r. is_of_deck deck r.task) records) h
 
-date-taken : (deck : Deck) (v : TasksView) (p : StarPart) (m : Mail) → AllDate false deck v
-    → AllDate false deck (take_mail deck v p m).tasks
-date-taken deck v p m h =
-    by_test (λ (s : StarStep). AllDate false deck s.tasks) (is_for_deck deck m) (took_mail v p m) (fixing_none v p)
-    (λ e. date-mail deck v p m h e) (λ e. h)
+date-taken : (deck : Deck) (known : ℕ) (v : TasksView) (p : StarPart) (m : Mail) → AllDate false deck v
+    → AllDate false deck (take_mail deck known v p m).tasks
+date-taken deck known v p m h =
+    by_test (λ (s : StarStep). AllDate false deck s.tasks) (is_for_deck deck m) (took_mail deck known v p m)
+    (fixing_none v p) (λ e. date-mail deck known v p m h e) (λ e. h)
 
 date-acts :
     (deck : Deck) (m : MediumState) (s : SysId) (n : NodeState) (p : StarPart) (choice : Choice) (b : Result)
     (o : Turnout)
     → Acts deck m s n p choice b o → AllDate false deck n.tasks → AllDate false deck o.step.node.tasks
-date-acts deck m s n p choice b o (decided t a x asked mine) h =
-    let here = sending deck n t asked.may in date-own deck n.tasks p t a asked.asks here.0 here.1 h
-date-acts deck m s n p choice b o (began t a x asked other none) h =
+date-acts deck m s n p choice b o (decided t a x asked to at same) h =
     let here = sending deck n t asked.may in date-own deck n.tasks (begun p x) t a asked.asks here.0 here.1 h
-date-acts deck m s n p choice b o (rejoined t a x asked other to at same) h =
+date-acts deck m s n p choice b o (began t a x asked none) h =
     let here = sending deck n t asked.may in date-own deck n.tasks (begun p x) t a asked.asks here.0 here.1 h
-date-acts deck m s n p choice b o (sent t a x asked other to at apart) h =
+date-acts deck m s n p choice b o (sent t a x asked to at apart) h =
     date-sent false deck n.tasks t h (sending deck n t asked.may).0
-date-acts deck m s n p choice b o (took mail rest at) h = date-taken deck n.tasks p mail h
-date-acts deck m s n p choice b o (settled q first serving) h =
+date-acts deck m s n p choice b o (took mail rest at) h = date-taken deck n.known n.tasks p mail h
+date-acts deck m s n p choice b o (settled q first) h =
     date-new false deck (res_wanted q.want) (owners_by p q) n.tasks h
 date-acts deck m s n p choice b o (told e x first) h = h
+date-acts deck m s n p choice b o (parted e to owes unknown) h = h
 date-acts deck m s n p choice b o (left x flags free by) h = h
 
 -- no act puts anything into the outbox
@@ -260,36 +293,46 @@ box-acts :
     (deck : Deck) (m : MediumState) (s : SysId) (n : NodeState) (p : StarPart) (choice : Choice) (b : Result)
     (o : Turnout)
     → Acts deck m s n p choice b o → o.step.node.outbox ≡ n.outbox
-box-acts deck m s n p choice b o (decided t a x asked mine) = refl
-box-acts deck m s n p choice b o (began t a x asked other none) = refl
-box-acts deck m s n p choice b o (rejoined t a x asked other to at same) = refl
-box-acts deck m s n p choice b o (sent t a x asked other to at apart) = refl
+box-acts deck m s n p choice b o (decided t a x asked to at same) = refl
+box-acts deck m s n p choice b o (began t a x asked none) = refl
+box-acts deck m s n p choice b o (sent t a x asked to at apart) = refl
 box-acts deck m s n p choice b o (took mail rest at) = refl
-box-acts deck m s n p choice b o (settled q first serving) = refl
+box-acts deck m s n p choice b o (settled q first) = refl
 box-acts deck m s n p choice b o (told e x first) = refl
+box-acts deck m s n p choice b o (parted e to owes unknown) = refl
 box-acts deck m s n p choice b o (left x flags free by) = refl
 
 -- ---- any event
 kept-known : (deck : Deck) (n : NodeState) (known : ℕ) → IsKeptUp deck n → IsKeptUp deck (record n { known = known })
 kept-known deck n known h = record { date = h.date; box = h.box }
 
+-- its desk removed another
+kept-purged : (deck : Deck) (n : NodeState) (target : SysId) → IsKeptUp deck n
+    → IsKeptUp deck (purged deck n (choices.Purge target)).node
+unfolding purged
+kept-purged deck n target h =
+    let known : ℕ = with_also n.known target.0 in
+    kept-lost deck (record (desk_told n saids.VaryDone) { known = known }) (target ∷ [])
+    (kept-known deck (desk_told n saids.VaryDone) known (kept-desk deck n saids.VaryDone h))
+
 kept-came : (deck : Deck) (m : MediumState) (s : SysId) (n : NodeState) (choice : Choice) (b : Result) (o : Turnout)
     → Came deck m s n choice b o → IsKeptUp deck n → IsKeptUp deck o.step.node
-unfolding purged
+unfolding purged stale
 kept-came deck m s n choice b o (nothing k r silent flags) h = h
-kept-came deck m s n choice b o (informed k known) h = kept-known deck n known h
+kept-came deck m s n choice b o (informed k) h =
+    let known : ℕ = known_from deck n.known m.removed in
+    kept-lost deck (record n { known = known }) (members (without_those n.known known)) (kept-known deck n known h)
 kept-came deck m s n choice b o (went_on t may) h = kept-task deck n t may h
 kept-came deck m s n choice b o (turn flags alone unclosed here) h =
     let es = unseen s m.message.entries in
     kept-put deck (read_entries deck n es) (length (take most_additions n.outbox)) (kept-entries deck es n h)
 kept-came deck m s n choice b o (last_turn flags alone shut here) h =
-    let es = unseen s m.message.entries in kept-changed deck (read_entries deck n es) (kept-entries deck es n h)
+    let es = unseen s m.message.entries in kept-moved deck (read_entries deck n es) (kept-entries deck es n h)
 kept-came deck m s n choice b o (changed ring next seen) h = kept-switched deck n h
 kept-came deck m s n choice b o (already mode next) h = kept-desk deck n saids.StarAlready h
-kept-came deck m s n choice b o (removes_one target ring next lives) h =
-    kept-known deck (desk_told n saids.VaryDone) _ (kept-desk deck n saids.VaryDone h)
-kept-came deck m s n choice b o (no_such target ring next gone) h = kept-desk deck n saids.VaryNoSuch h
-kept-came deck m s n choice b o (refused target mode next) h = kept-desk deck n saids.VaryInStar h
+kept-came deck m s n choice b o (removes_one target ring next lives) h = kept-purged deck n target h
+kept-came deck m s n choice b o (removes_star target mode next lives) h = kept-purged deck n target h
+kept-came deck m s n choice b o (no_such target next gone) h = kept-desk deck n saids.VaryNoSuch h
 kept-came deck m s n choice b o (acted p is k r x acts) h = record {
   date = date-acts deck m s n p k r x acts h.date;
   box =

@@ -23,6 +23,7 @@ use Rattle.grs_known.specs.Told.{is_code_of, is_end_of}
 use Rattle.grs_known.proofs.known.Histories.{OrdersFit}
 use Rattle.grs_known.proofs.system.Ours.{script_at}
 use Rattle.grs_known.proofs.system.Says.{is_line_of}
+use Rattle.grs_world.specs.InStar.{NoneInStar}
 use Rattle.grs_world.proofs.move.Sound.{GoodRun, every_run, good_told, in_ring, in_star}
 use Rattle.grs_world.proofs.rest.AtEnd.{code-exact, code-home, end-exact, end-home}
 use Rattle.grs_world.proofs.rest.Full.{full_run}
@@ -62,9 +63,10 @@ get_or_past_none [] i d e = refl
 get_or_past_none (x ∷ xs) zero d e = absurd (cc)
 get_or_past_none (x ∷ xs) (suc i) d e = get_or_past_none xs i d e
 
-module _ (deck : Deck) (fits : may_be_star deck ≡ true → FitsStar deck) (fit : OrdersFit deck) (es : List Event) where
+module _ (deck : Deck) (fits : may_be_star deck ≡ true → FitsStar deck) (fit : OrdersFit deck) (es : List Event)
+    (none : NoneInStar deck es) where
   g : GoodTold deck es (run deck es)
-  g = good_told deck es (run deck es) (every_run deck fits es)
+  g = good_told deck es (run deck es) (every_run deck fits es none)
 
   -- a system of the run, or one that isn't there
   by_system : (s : SysId) (P : NodeState → Type 0)
@@ -86,7 +88,7 @@ module _ (deck : Deck) (fits : may_be_star deck ≡ true → FitsStar deck) (fit
         let within : t.task < length (scripts_of deck t.system.0) =
         slice_get_within (scripts_of deck t.system.0) t.task script.0 script.1 in
         and_from (n.tasks.system == t.system.0) (nat_lt t.task (length n.tasks.tasks))
-        (eq-eqb n.tasks.system t.system.0 (homes_run deck fits es t.system.0 n at))
+        (eq-eqb n.tasks.system t.system.0 (homes_run deck es t.system.0 n at))
         (lt-ltb t.task (length n.tasks.tasks) (omega (arith, within, full_run deck es t.system.0 n at)))
 
     -- what its system told is told
@@ -136,7 +138,7 @@ module _ (deck : Deck) (fits : may_be_star deck ≡ true → FitsStar deck) (fit
   desks-told : DesksAreTold deck es
   desks-told s k low l =
       by_system s (λ n. k ≤ n.done → list_any (is_desk_of s k) (run deck es).told ≡ true)
-      (λ n at within. (good_desks deck es (run deck es) (every_run deck fits es)).each s.0 n at k low within)
+      (λ n at within. (good_desks deck es (run deck es) (every_run deck fits es none)).each s.0 n at k low within)
       (λ within. absurd (omega (arith, low, first-done deck s.0, within))) l
 
   pub passed-told : PassedIsTold deck es

@@ -31,6 +31,10 @@ use Rattle.grs_known.proofs.lists.Truths.{no_truth}
 use Rattle.grs_known.proofs.system.Says.{askers, is_home_at}
 use Rattle.grs_known.proofs.tasks.Invariant.{has_res}
 use Rattle.grs_known.specs.Items.{items, lists}
+use Rattle.grs_world.proofs.run.Came.{IsSpared}
+use Rattle.grs_world.proofs.run.Knowing.{KnowsRemoved}
+use Rattle.grs_world.proofs.run.Removals.{GoneAreRemoved}
+use Rattle.grs_world.proofs.star.Usual.{usual}
 use Rattle.grs_world.proofs.move.Changing.{IsChanging}
 use Rattle.grs_world.proofs.rest.Alike.{IsBack, IsForth, SameShown, heard-alike, same-nodes}
 use Rattle.grs_world.proofs.rest.Changed.{change-dated, change-had, change-has, change-unsent}
@@ -136,7 +140,8 @@ module _ (deck : Deck) (w : World) (g : IsChanging deck w) (h : IsRestful deck w
 
   -- ---- an event of a system that has changed
   module _ (some : 0 < deck.entries) (inside : c.0 < most_systems) (p : StarPart) (star : n.star ≡ Some p)
-      (choice : Choice) where
+      (choice : Choice) (removed : GoneAreRemoved deck w) (knows : KnowsRemoved w.medium n)
+      (kept : IsSpared deck w.medium c n choice) where
     abbrev o : Turnout
     o = chosen deck w.medium c n choice
 
@@ -146,10 +151,13 @@ module _ (deck : Deck) (w : World) (g : IsChanging deck w) (h : IsRestful deck w
     step : IsStep deck (record w { nodes = g.view }) c n (chosen deck w.medium c n choice)
     step =
         good_choice deck some (record w { nodes = g.view }) c inside n (at_site there alive) g.whole.roles
-        (g.whole.roles.node c.0 n (at_site there alive)) choice
+        (g.whole.roles.node c.0 n (at_site there alive))
+        (usual deck (record w { nodes = g.view }) g.whole c n (at_site there alive) knows) choice kept
 
     out : IsOutcome deck (record w { nodes = g.view }) g.whole c n (chosen deck w.medium c n choice)
-    out = outcome deck some (record w { nodes = g.view }) g.whole c inside n (at_site there alive) choice step
+    out =
+        outcome deck some (record w { nodes = g.view }) g.whole c inside n (at_site there alive) removed knows choice
+        kept step
 
     changed : (chosen deck w.medium c n choice).step.node.star ≡ None → ⊥
     changed none = absurd (let no : Some step.member.part ≡ None = sym step.member.star ∙ none in cc)

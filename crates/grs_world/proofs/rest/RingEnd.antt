@@ -43,28 +43,36 @@ use Rattle.grs_world.proofs.run.InRing.{IsRing, live-there}
 use Rattle.grs_world.proofs.run.Messages.{given-later}
 use Rattle.grs_world.proofs.run.Runs.{GoodWorld}
 use Rattle.grs_world.proofs.system.AtNode.{Seen, opens_of}
-use Rattle.grs_world.specs.Running.{at_rest, none_pending}
+use Rattle.grs_world.specs.Running.{at_rest, is_busy, none_busy}
 use Rattle.grs_world.specs.World.{World}
 
--- ---- nothing is pending
-pub pending-at : (deck : Deck) (removed k : ℕ) (ns : List NodeState) (s : ℕ) (n : NodeState)
-    → none_pending removed k (map (is_pending deck) ns) ≡ true → slice_get ns s ≡ Some n → has removed (k + s) ≡ false
-    → is_pending deck n ≡ false
-pending-at deck removed k [] s n h at live = absurd (cc)
-pending-at deck removed k (m ∷ ns) zero n h at live =
+-- ---- no system is busy
+busy-at : (deck : Deck) (removed k : ℕ) (ns : List NodeState) (s : ℕ) (n : NodeState)
+    → none_busy removed k (map (is_busy deck removed) ns) ≡ true → slice_get ns s ≡ Some n
+    → has removed (k + s) ≡ false → is_busy deck removed n ≡ false
+busy-at deck removed k [] s n h at live = absurd (cc)
+busy-at deck removed k (m ∷ ns) zero n h at live =
     let same : m ≡ n = cc in
     let here : k ≡ k + zero = omega arith in
-    subst (λ z. is_pending deck z ≡ false) same (free (has removed k) (is_pending deck m) (ap (has removed) here ∙ live)
-    (and_parts (has removed k || not (is_pending deck m)) _ h).0)
+    subst (λ z. is_busy deck removed z ≡ false) same
+    (free (has removed k) (is_busy deck removed m) (ap (has removed) here ∙ live)
+    (and_parts (has removed k || not (is_busy deck removed m)) _ h).0)
   where
     free : (a b : Bool) → a ≡ false → (a || not b) ≡ true → b ≡ false
     free true b e f = absurd (cc)
     free false true e f = absurd (cc)
     free false false e f = refl
-pending-at deck removed k (m ∷ ns) (suc s) n h at live =
+busy-at deck removed k (m ∷ ns) (suc s) n h at live =
     let next : k + 1 + s ≡ k + suc s = omega arith in
-    pending-at deck removed (k + 1) ns s n (and_parts (has removed k || not (is_pending deck m)) _ h).1 at
+    busy-at deck removed (k + 1) ns s n (and_parts (has removed k || not (is_busy deck removed m)) _ h).1 at
     (ap (has removed) next ∙ live)
+
+-- so nothing is pending
+pub pending-at : (deck : Deck) (removed k : ℕ) (ns : List NodeState) (s : ℕ) (n : NodeState)
+    → none_busy removed k (map (is_busy deck removed) ns) ≡ true → slice_get ns s ≡ Some n
+    → has removed (k + s) ≡ false → is_pending deck n ≡ false
+pending-at deck removed k ns s n h at live =
+    (or_parts (is_pending deck n) (not (n.known == removed)) (busy-at deck removed k ns s n h at live)).0
 
 pub none-at : (p : TaskState → Bool) (xs : List TaskState) (i : ℕ) (d : TaskState) → list_any p xs ≡ false
     → i < length xs → p (get_or xs i d) ≡ false
@@ -90,9 +98,12 @@ none-due (x ∷ xs) (y ∷ es) e b = absurd (cc)
 
 module _ (deck : Deck) (es : List Event) (w : World) (ring : IsRing deck w) (g : GoodWorld deck es w)
     (h : AllRead deck w) (rest : at_rest deck w ≡ true) where
-  both : (none_pending w.medium.removed 0 (map (is_pending deck) w.nodes) ≡ true) × (medium_at_end w.medium ≡ true)
+  both : (none_busy w.medium.removed 0 (map (is_busy deck w.medium.removed) w.nodes) ≡ true)
+      × (medium_at_end w.medium ≡ true)
   unfolding at_rest
-  both = and_parts (none_pending w.medium.removed 0 (map (is_pending deck) w.nodes)) (medium_at_end w.medium) rest
+  both =
+      and_parts (none_busy w.medium.removed 0 (map (is_busy deck w.medium.removed) w.nodes)) (medium_at_end w.medium)
+      rest
 
   no_entries : w.medium.message.entries ≡ []
   unfolding medium_at_end

@@ -9,11 +9,10 @@ use Rattle.grs_base.specs.Limits.{most_additions}
 use Rattle.grs_base.specs.declared.resource.SysId.{SysId}
 use Rattle.grs_base.specs.declared.resource.TaskId.{TaskId}
 use Rattle.grs_medium.specs.Medium.{live, MediumState}
-use Rattle.grs_node.specs.Node.{NodeState, first_node, is_to_send, may_go, put_in, read_entries, desk_told, purged}
+use Rattle.grs_node.specs.Node.{NodeState, first_node, is_to_send, may_go, put_in, read_entries, desk_told}
 use Rattle.grs_node.specs.Node.{task_step}
 use Rattle.grs_wire.specs.Masks.{has, with_also}
 use Rattle.grs_wire.specs.Unseen.{unseen}
-use Rattle.grs_wire.specs.declared.deck.Choice.TheVariants as choices
 use Rattle.grs_wire.specs.declared.deck.Deck.{Deck}
 use Rattle.grs_wire.specs.declared.deck.Event.{Event}
 use Rattle.grs_wire.specs.declared.medium.RingEntry.{RingEntry}
@@ -34,14 +33,16 @@ use Rattle.grs_base.specs.State.{is_systems}
 use Rattle.grs_world.proofs.rest.Tasks.{read-task}
 use Rattle.grs_world.proofs.rest.Unseen.{own-among, requests_of, waits-elsewhere, waits-new}
 use Rattle.grs_world.proofs.rest.UpToDate.{IsUpToDate}
-use Rattle.grs_world.proofs.run.Each.{each_run}
+use Rattle.grs_world.proofs.run.Spared.{each_spared, none_before}
+use Rattle.grs_world.specs.InStar.{NoneInStar}
 use Rattle.grs_world.proofs.run.Growing.{asks-rounds, fixeds}
+use Rattle.grs_world.proofs.run.InRing.{removed_by}
 use Rattle.grs_world.proofs.run.InRing.{CameInRing, changed, each_in_ring, nothing, star-stays, turn, went_on, IsRing}
 use Rattle.grs_world.proofs.run.InRing.{informed, live-there, no_such, removes_one}
 use Rattle.grs_world.proofs.run.Messages.{given-later}
 use Rattle.grs_world.proofs.run.Reading.{ReadTo, all-rounds, read-entries, read_all, reading}
 use Rattle.grs_world.proofs.run.Runs.{GoodWorld, by_node}
-use Rattle.grs_world.proofs.run.Sound.{first_is}
+use Rattle.grs_world.proofs.run.Sound.{first_of}
 use Rattle.grs_world.proofs.system.AtNode.{Seen}
 use Rattle.grs_world.specs.Decks.{FitsStar, may_be_star}
 use Rattle.grs_world.specs.World.{Turnout, World, counted, first_world, happens, placed, run}
@@ -207,12 +208,12 @@ module _ (deck : Deck) (es : List Event) (w : World) (ring : IsRing deck w) (g :
         e
 
     removed-read : (u : ℕ) (x : NodeState)
-        → slice_get (set w.nodes c.0 (purged n (choices.Purge target)).node) u ≡ Some x
+        → slice_get (set w.nodes c.0 (removed_by n target).node) u ≡ Some x
         → has (with_also w.medium.removed target.0) u ≡ false
         → IsRead deck u x (still_of u (without_system w.medium c target).message.entries)
-    unfolding purged
+    unfolding removed_by
     removed-read =
-        others-read (without_system w.medium c target) (purged n (choices.Purge target)).node
+        others-read (without_system w.medium c target) (removed_by n target).node
         (λ u l. ((was-there u l).1, λ t ne e. dropped-on u (was-there u l).0 t e))
         (λ l.
         known-read deck c.0 (desk_told n saids.VaryDone) _
@@ -282,29 +283,25 @@ first-read deck s qs = record {
       });
 }
 
-pub first_of : (deck : Deck) (s : ℕ) (n : NodeState) → slice_get (first_world deck).nodes s ≡ Some n
-    → n ≡ first_node deck s
-unfolding first_world
-first_of deck s n at = first_is deck s n at
-
 star-of : (w : World) (c : SysId) (n : NodeState) (o : Turnout) → (placed w c n o).medium.star ≡ false
     → o.medium.star ≡ false
 unfolding placed
 star-of w c n o z = z
 
 -- ---- every list of events
-pub ring_read : (deck : Deck) → (may_be_star deck ≡ true → FitsStar deck) → (es : List Event)
+pub ring_read : (deck : Deck) → (may_be_star deck ≡ true → FitsStar deck) → (es : List Event) → NoneInStar deck es
     → (run deck es).medium.star ≡ false → AllRead deck (run deck es)
-ring_read deck fits = each_run deck (λ es (w : World). w.medium.star ≡ false → AllRead deck w) begun step
+ring_read deck fits = each_spared deck (λ es (w : World). w.medium.star ≡ false → AllRead deck w) begun step
   where
     begun : (first_world deck).medium.star ≡ false → AllRead deck (first_world deck)
     begun mode s n at l =
         subst (λ (k : NodeState). IsRead deck s k (still_of s (first_world deck).medium.message.entries))
         (sym (first_of deck s n at)) (first-read deck s _)
 
-    step : (es : List Event) (e : Event) → ((run deck es).medium.star ≡ false → AllRead deck (run deck es))
+    step : (es : List Event) (e : Event) → NoneInStar deck (es ++ e ∷ [])
+        → ((run deck es).medium.star ≡ false → AllRead deck (run deck es))
         → (happens deck (run deck es) e).medium.star ≡ false → AllRead deck (happens deck (run deck es) e)
-    step es e more mode = go (run deck es).medium.star refl (every_run deck fits es)
+    step es e none more mode = go (run deck es).medium.star refl (every_run deck fits es (none_before deck es e none))
       where
         w : World
         w = run deck es

@@ -45,7 +45,7 @@ use Rattle.grs_world.proofs.star.Heard.{IsHeard, IsInHands, IsUntold, hears, is_
 use Rattle.grs_world.proofs.star.Systems.{IsSystem}
 use Rattle.grs_world.proofs.star.Worlds.{in_hands}
 use Rattle.grs_world.proofs.system.AtNode.{opens_of}
-use Rattle.grs_world.specs.Running.{at_rest, none_pending}
+use Rattle.grs_world.specs.Running.{at_rest, is_busy, none_busy}
 use Rattle.grs_world.specs.World.{World}
 use Rattle.grs_world.proofs.run.Site.{at_site}
 
@@ -104,9 +104,12 @@ unfolding state_of
 to-send-at v t h here = none-at (λ x. is_to_send x.phase) v.tasks t.task new_task h (is_task-place v t here)
 
 module _ (deck : Deck) (w : World) (g : IsChanging deck w) (h : IsRestful deck w) (rest : at_rest deck w ≡ true) where
-  both : (none_pending w.medium.removed 0 (map (is_pending deck) w.nodes) ≡ true) × (medium_at_end w.medium ≡ true)
+  both : (none_busy w.medium.removed 0 (map (is_busy deck w.medium.removed) w.nodes) ≡ true)
+      × (medium_at_end w.medium ≡ true)
   unfolding at_rest
-  both = and_parts (none_pending w.medium.removed 0 (map (is_pending deck) w.nodes)) (medium_at_end w.medium) rest
+  both =
+      and_parts (none_busy w.medium.removed 0 (map (is_busy deck w.medium.removed) w.nodes)) (medium_at_end w.medium)
+      rest
 
   ends : (all_others w.medium.message.systems w.medium.removed (λ s. is_empty (inbox w.medium s)) ≡ true)
       × (((length w.medium.message.entries == 0) && (w.medium.message.still == 0)) ≡ true)
@@ -201,7 +204,8 @@ module _ (deck : Deck) (w : World) (g : IsChanging deck w) (h : IsRestful deck w
       ap (λ (q : StarPart). q.manager.system.0) (sym mine) ∙ member.fits.home in
       let told : any_untold_at i.part.manager.system.0 i.part.manager.entries ≡ false =
       subst (λ (q : StarPart). any_untold_at q.manager.system.0 q.manager.entries ≡ false) same
-      (or_parts (not (length p.0.held == 0)) _ (parts i.system i.node at i.site.live).2).1 in
+      (or_parts (any_untold_at p.0.manager.system.0 p.0.manager.entries) _
+      (or_parts (not (length p.0.held == 0)) _ (parts i.system i.node at i.site.live).2).1).0 in
       untold-none i.part.manager.system.0 r t (λ e. i.apart (sym at_home ∙ (sym e ∙ home)))
       (items_of (managed_of i.part.manager r)) (untold-for i.part.manager.system.0 i.part.manager.entries _ told)
       i.untold

@@ -29,11 +29,20 @@ use Rattle.grs_world.proofs.rest.Few.{ranks-few}
 use Rattle.grs_world.proofs.rest.Restful.{IsRestful, restful-counted, restful-star, sent-star, sent_in, sent_of}
 use Rattle.grs_world.proofs.rest.Events.{date-any}
 use Rattle.grs_world.proofs.rest.Ring.{IsRead}
-use Rattle.grs_world.proofs.rest.RingRun.{first-read, first-state, first_of, ring_read, still_of}
+use Rattle.grs_world.proofs.rest.RingRun.{first-read, first-state, ring_read, still_of}
+use Rattle.grs_world.proofs.run.Sound.{first_of}
 use Rattle.grs_world.proofs.rest.Switching.{restful-begun}
 use Rattle.grs_world.proofs.rest.View.{node-of, shown-star, shown_at}
 use Rattle.grs_world.proofs.rest.Waiting.{restful-late}
-use Rattle.grs_world.proofs.run.Each.{each_run, run-push, each_live}
+use Rattle.grs_world.proofs.run.Came.{IsSpared}
+use Rattle.grs_world.proofs.run.Chosen.{removes-none}
+use Rattle.grs_world.proofs.run.Knowing.{KnowsRemoved, known_run}
+use Rattle.grs_world.proofs.move.Moved.{late-stays}
+use Rattle.grs_world.proofs.run.Each.{run-push, each_live}
+use Rattle.grs_world.proofs.move.Begin.{switch-stays}
+use Rattle.grs_world.proofs.run.Removals.{GoneAreRemoved, gone_are_removed, taken_out}
+use Rattle.grs_world.proofs.run.Spared.{each_spared, none_before, none_next}
+use Rattle.grs_world.specs.InStar.{NoneInStar}
 use Rattle.grs_world.proofs.run.InRing.{CameInRing, changed, each_in_ring, nothing, turn, went_on, informed, no_such}
 use Rattle.grs_world.proofs.run.InRing.{removes_one}
 use Rattle.grs_world.proofs.star.Heard.{AreAddressed, sent_by}
@@ -46,18 +55,20 @@ use Rattle.grs_wire.specs.Masks.{has}
 module _ (deck : Deck) (some : 0 < deck.entries) (w : World) (g : IsChanging deck w) (h : IsRestful deck w) (c : SysId)
     (inside : c.0 < most_systems) (n : NodeState) (at : slice_get w.nodes c.0 ≡ Some n)
     (alive : has w.medium.removed c.0 ≡ false) where
-  pub restful-event : (e : Event) → e.system ≡ c
+  pub restful-event : (e : Event) → e.system ≡ c → GoneAreRemoved deck w → KnowsRemoved w.medium n
+      → IsSpared deck w.medium c n e.choice
       → IsHistory deck (items (w.fixed ++ fixed_by c (chosen deck w.medium c n e.choice).step.fixed)) → IsBounded deck
       → IsRestful deck (placed w c n (chosen deck w.medium c n e.choice))
-  restful-event e by right bounds = go n.star refl
+  restful-event e by removed knows kept right bounds = go n.star refl
     where
       go : (o : Option StarPart) → n.star ≡ o → IsRestful deck (placed w c n (chosen deck w.medium c n e.choice))
       go (Some p) star =
-          restful-star deck w g h c n at alive some inside p star e.choice
+          restful-star deck w g h c n at alive some inside p star e.choice removed knows kept
           (ranks-few deck bounds (items (w.fixed ++ fixed_by c (chosen deck w.medium c n e.choice).step.fixed)) right)
       go None alone =
           restful-late deck w g h c n at alive alone (chosen deck w.medium c n e.choice)
-          (came_late deck w g.whole.roles.mode g.closed c n alone alive e.choice)
+          (came_late deck w g.whole.roles.mode g.closed c n alone alive
+          (late-stays deck w g c n at alive alone knows) e.choice kept)
 
 -- ---- a run that begins in star mode
 no-part : (k : ℕ) (s : SysId) (e : ℕ) (x : Managed) → managed_at (first_part s k).manager e ≡ Some x → ⊥
@@ -169,9 +180,9 @@ first-mode : (deck : Deck) → (first_world deck).medium.star ≡ deck.star
 unfolding first_world
 first-mode deck = refl
 
-pub restful_run : (deck : Deck) → IsBounded deck → (es : List Event) → (run deck es).medium.star ≡ true
-    → IsRestful deck (run deck es)
-restful_run deck bounds = each_run deck (λ es (w : World). w.medium.star ≡ true → IsRestful deck w) begun step
+pub restful_run : (deck : Deck) → IsBounded deck → (es : List Event) → NoneInStar deck es
+    → (run deck es).medium.star ≡ true → IsRestful deck (run deck es)
+restful_run deck bounds = each_spared deck (λ es (w : World). w.medium.star ≡ true → IsRestful deck w) begun step
   where
     fits : may_be_star deck ≡ true → FitsStar deck
     fits h = record { few = bounds.fits.few; entries = bounds.entries }
@@ -180,20 +191,21 @@ restful_run deck bounds = each_run deck (λ es (w : World). w.medium.star ≡ tr
     some = entries_some deck.entries bounds.entries
 
     begun : (first_world deck).medium.star ≡ true → IsRestful deck (first_world deck)
-    begun mode = go (every_run deck fits [])
+    begun mode = go (every_run deck fits [] refl)
       where
         go : GoodRun deck [] (first_world deck) → IsRestful deck (first_world deck)
         go (in_star f g told d) = first-restful deck (sym (first-mode deck) ∙ mode) g
         go (in_ring begins ring g d) = absurd (let no : true ≡ false = sym mode ∙ ring.mode in cc)
 
-    step : (es : List Event) (e : Event) → ((run deck es).medium.star ≡ true → IsRestful deck (run deck es))
+    step : (es : List Event) (e : Event) → NoneInStar deck (es ++ e ∷ [])
+        → ((run deck es).medium.star ≡ true → IsRestful deck (run deck es))
         → (happens deck (run deck es) e).medium.star ≡ true → IsRestful deck (happens deck (run deck es) e)
-    step es e more mode = go (every_run deck fits es)
+    step es e none more mode = go (every_run deck fits es (none_before deck es e none))
       where
         right : IsHistory deck (items (happens deck (run deck es) e).fixed)
         right =
             subst (λ (x : World). IsHistory deck (items x.fixed)) (run-push deck es (first_world deck) e)
-            (good_history deck (es ++ e ∷ []) (run deck (es ++ e ∷ [])) (every_run deck fits (es ++ e ∷ [])))
+            (good_history deck (es ++ e ∷ []) (run deck (es ++ e ∷ [])) (every_run deck fits (es ++ e ∷ []) none))
 
         go : GoodRun deck es (run deck es) → IsRestful deck (happens deck (run deck es) e)
         go (in_star f g told d) =
@@ -203,6 +215,8 @@ restful_run deck bounds = each_run deck (λ es (w : World). w.medium.star ≡ tr
             let here = slice_get_within (run deck es).nodes e.system.0 n at in
             let inside : e.system.0 < most_systems = omega (arith, here, g.count, f.few) in
             restful-event deck some (run deck es) g (more g.whole.roles.mode) e.system inside n at alive e refl
+            (gone_are_removed deck es) (known_run deck es e.system.0 n at)
+            (removes-none deck (run deck es) e (none_next deck es e none) n at alive)
             (subst (λ fs. IsHistory deck (items fs)) (ap (λ (x : World). x.fixed) is
             ∙ fixed-placed (run deck es) e.system n (chosen deck (run deck es).medium e.system n e.choice))
             right)
@@ -226,8 +240,11 @@ restful_run deck bounds = each_run deck (λ es (w : World). w.medium.star ≡ tr
             by_came n o at alive (went_on t may) z = ring-mode n _ ring.mode z
             by_came n o at alive (turn flags here) z = ring-mode n _ ring.mode z
             by_came n o at alive (changed next idle) z =
-                restful-begun deck some bounds.fits.few es (run deck es) ring g (ring_read deck fits es ring.mode)
+                restful-begun deck some bounds.fits.few es (run deck es) ring g
+                (ring_read deck fits es (none_before deck es e none) ring.mode)
                 e.system n at alive idle
+                (switch-stays deck begins some bounds.fits.few (run deck es) ring g.history (taken_out deck es) g.before
+                g.later g.whole g.message g.systems e.system n at alive next idle (known_run deck es e.system.0 n at))
             by_came n o at alive (informed known) z = ring-mode n _ ring.mode z
             by_came n o at alive (removes_one target next there) z = ring-mode n _ ring.mode z
             by_came n o at alive (no_such target next gone) z = ring-mode n _ ring.mode z

@@ -14,7 +14,6 @@ use Rattle.grs_base.specs.declared.resource.TaskId.{TaskId}
 use Rattle.grs_legal.specs.declared.meaning.Meaning.{Meaning}
 use Rattle.grs_medium.specs.Medium.{awake, inbox, live}
 use Rattle.grs_node.proofs.ChangeFits.{star-changed}
-use Rattle.grs_node.proofs.InRing.{switched-ring}
 use Rattle.grs_node.specs.Change.{part_by_table}
 use Rattle.grs_node.specs.Node.{NodeState, change_to_star, desk_told, only, own_words, read_entries, switched}
 use Rattle.grs_node.specs.Star.{StarPart}
@@ -79,7 +78,8 @@ first-none (e ∷ es) h = absurd (cc)
 module _ (deck : Deck) (some : 0 < deck.entries) (few : length deck.systems ≤ most_systems) (events : List Event)
     (w : World) (ring : IsRing deck w) (g : GoodWorld deck events w) (all : AllRead deck w)
     (c : SysId) (n : NodeState) (at : slice_get w.nodes c.0 ≡ Some n) (alive : has w.medium.removed c.0 ≡ false)
-    (idle : first_number (unseen c w.medium.message.entries) ≡ None) where
+    (idle : first_number (unseen c w.medium.message.entries) ≡ None)
+    (stays : switched deck n ≡ change_to_star deck (desk_told n saids.StarDone)) where
   abbrev es : List RingEntry
   es = w.medium.message.entries
 
@@ -134,7 +134,7 @@ module _ (deck : Deck) (some : 0 < deck.entries) (few : length deck.systems ≤ 
 
   own-arrives : IsArriving deck c.0 (items w.fixed) (switched deck n) (desk_told n saids.StarDone)
   own-arrives = record {
-    is = switched-ring deck n (ring.alone c.0 n at);
+    is = stays;
     box = box-here deck c.0 P (g.before c.0) (g.later c.0) (own_requests c.0 (g.later c.0)) d d-seen;
     read =
         subst (λ xs. IsRead deck c.0 d (requests_of xs)) unseen-none

@@ -134,7 +134,7 @@ module _ (deck : Deck) (w : World) (g : IsChanging deck w) (h : IsRestful deck w
   restful-late o (task_late t may) = task-restful t may
   restful-late o (turn_late flags here) = restful-turned deck w g h c n at alive alone flags
   restful-late o (desk_late next) = desk-restful saids.StarAlready
-  restful-late o (vary_late target next) = desk-restful saids.VaryInStar
+  restful-late o (vary_late target next gone) = desk-restful saids.VaryNoSuch
   restful-late o (informed_late known) =
       still-restful (record n { known = known }) w.medium.rest [] refl alone refl
       (known-read deck c.0 n known (still_of c.0 w.medium.message.entries) rd)

@@ -2,19 +2,21 @@
 -- replied, and the medium and the system afterwards. Who goes by its cases opens neither what a choice is prepared to
 -- ask nor the medium's table; `Chosen` does so once.
 use Rattle.std.proofs.Common.{◌≡◌, ℕ, Bool, true, false, List, ◌∷◌, length, take, Some, None, refl, sym, ◌∙◌}
-use Rattle.std.specs.Prelude.{◌==◌}
+use Rattle.std.specs.Prelude.{◌≢◌, ◌==◌}
 use Rattle.grs_base.specs.Limits.{most_additions}
 use Rattle.grs_base.specs.declared.resource.Res.{Res}
 use Rattle.grs_base.specs.declared.resource.SysId.{SysId}
 use Rattle.grs_base.specs.declared.resource.TaskId.{TaskId}
-use Rattle.grs_medium.specs.Apply.{is_live, without_system, reply_to}
+use Rattle.grs_medium.specs.Apply.{is_live, without_in_star, without_system, reply_to}
 use Rattle.grs_medium.specs.Inboxes.{with_mail, without_first}
 use Rattle.grs_medium.specs.Medium.{MediumState, awake, inbox, live}
-use Rattle.grs_node.specs.Node.{NodeState, change_to_star, desk_told, may_go, may_send, next_order, only, own_words}
-use Rattle.grs_node.specs.Node.{purged, put_in, read_entries, switched, take_mail, with_star, task_step}
-use Rattle.grs_node.specs.Star.{StarPart, answer_for, begun, decide_own, entry_for, first_held, fixing_none, left_at}
-use Rattle.grs_node.specs.Star.{manages, may_leave, rank_of, request_of, serves, settled_first, to_tell, told_by}
-use Rattle.grs_node.specs.Star.{with_interest}
+use Rattle.grs_node.specs.Names.{names_of}
+use Rattle.grs_node.specs.Node.{NodeState, changed as changed_now, desk_told, may_go, may_send, next_order, only}
+use Rattle.grs_node.specs.Node.{own_words, prepare, purged, put_in, read_entries, stale, switched, take_mail}
+use Rattle.grs_node.specs.Node.{task_step, with_star}
+use Rattle.grs_node.specs.Star.{StarPart, answer_for, begun, decide_own, entry_for, first_held, fixing_none, gathers}
+use Rattle.grs_node.specs.Star.{left_at, may_leave, owed_to, rank_of, request_of, settled_first, to_tell}
+use Rattle.grs_node.specs.Star.{told_by, with_interest}
 use Rattle.grs_node.specs.declared.prepared.Prepared.{Prepared}
 use Rattle.grs_node.specs.declared.prepared.Prepared.TheVariants.{Call, Nothing, Quiet}
 use Rattle.grs_wire.specs.LockWords.{leave_reply}
@@ -31,6 +33,9 @@ use Rattle.grs_wire.specs.declared.request.Req.{Req}
 use Rattle.grs_wire.specs.declared.told.Said.TheVariants as saids
 use Rattle.lock_structure.specs.Laws.{manager_at}
 use Rattle.lock_structure.specs.Words.{left_words, submitted_words, word_at}
+use Rattle.star_client.specs.Owes.{owing}
+use Rattle.system_purge.specs.Gather.{part_of}
+use Rattle.grs_wire.specs.Masks.{has}
 use Rattle.rsa_message.specs.Message.{closed_by, first_number, stands_at, turned_closed, turned_open}
 use Rattle.task_state.specs.View.{state_of, with_phase}
 use Rattle.task_state.specs.declared.state.Asked.{Asked}
@@ -56,36 +61,41 @@ is_silent (replied (replies.NotYours holder)) = true
 is_silent (replied (replies.Behind first)) = true
 is_silent (replied replies.Empty) = true
 is_silent (replied (replies.Kept mask)) = true
+is_silent (replied replies.Yours) = true
+is_silent (replied replies.Old) = true
 is_silent (replied replies.Resting) = true
 is_silent (replied replies.Over) = true
 is_silent _ = false
+
+-- where it wasn't that a system was removed in star mode
+abbrev pub RemovesNoneInStar : MediumState → Result → Type 0
+RemovesNoneInStar m b = m.star ≡ true → b ≢ replied replies.Purged
+
+abbrev pub IsSpared : Deck → MediumState → SysId → NodeState → Choice → Type 0
+IsSpared deck m s n choice = RemovesNoneInStar m (result_of m s (prepare deck n choice))
 
 -- a task asks for something of a lock entry, and waits to send it
 pub record IsToSend (deck : Deck) (n : NodeState) (p : StarPart) (t : TaskId) (a : Asked) (x : ℕ) : Type 0 where
   pub may : may_send deck n t ≡ true
   pub asks : (state_of n.tasks t).outstanding ≡ Some a
   pub entry : entry_for p a.req.want ≡ Some x
+  pub settled : gathers p x ≡ false
 
 -- ---- What came of an event that a system makes by its part in star mode: a request of its own was decided, by the
 -- lists that it keeps or by those that it begins to keep, or went to the manager of its entry; a mail was taken; a
--- request of another system was settled, or an owner told; or an entry was left.
+-- request of another system was settled, or an owner told; a part was sent; or an entry was left.
 pub data Acts (deck : Deck) (m : MediumState) (s : SysId) (n : NodeState) (p : StarPart) :
     Choice → Result → Turnout → Type 0 where
-  decided : (t : TaskId) (a : Asked) (x : ℕ) → IsToSend deck n p t a x → manages p x ≡ true
-      → Acts deck m s n p (choices.Send t) by_itself
-      (record { medium = m; step = with_star n (decide_own n.tasks p t a) })
-  began : (t : TaskId) (a : Asked) (x : ℕ) → IsToSend deck n p t a x → manages p x ≡ false
-      → manager_at m.words x ≡ None →
+  decided : (t : TaskId) (a : Asked) (x : ℕ) → IsToSend deck n p t a x → (to : SysId)
+      → manager_at m.words x ≡ Some to → (to.0 == s.0) ≡ true
+      → Acts deck m s n p (choices.Send t) (replied replies.Sole)
+      (record { medium = m; step = with_star n (decide_own n.tasks (begun p x) t a) })
+  began : (t : TaskId) (a : Asked) (x : ℕ) → IsToSend deck n p t a x → manager_at m.words x ≡ None →
       Acts deck m s n p (choices.Send t) (replied replies.Sole) (record {
         medium = record m { words = submitted_words m.words x s; rest = awake m s };
         step = with_star n (decide_own n.tasks (begun p x) t a);
       })
-  -- in no run: the word names it, and it doesn't manage the entry
-  rejoined : (t : TaskId) (a : Asked) (x : ℕ) → IsToSend deck n p t a x → manages p x ≡ false → (to : SysId)
-      → manager_at m.words x ≡ Some to → (to.0 == s.0) ≡ true
-      → Acts deck m s n p (choices.Send t) (replied replies.Sole)
-      (record { medium = m; step = with_star n (decide_own n.tasks (begun p x) t a) })
-  sent : (t : TaskId) (a : Asked) (x : ℕ) → IsToSend deck n p t a x → manages p x ≡ false → (to : SysId)
+  sent : (t : TaskId) (a : Asked) (x : ℕ) → IsToSend deck n p t a x → (to : SysId)
       → manager_at m.words x ≡ Some to → (to.0 == s.0) ≡ false →
       Acts deck m s n p (choices.Send t) (replied replies.Sent) (record {
         medium =
@@ -99,9 +109,9 @@ pub data Acts (deck : Deck) (m : MediumState) (s : SysId) (n : NodeState) (p : S
   took : (mail : Mail) (rest : List Mail) → inbox m s.0 ≡ mail ∷ rest →
       Acts deck m s n p choices.Take (replied (replies.Taken mail)) (record {
         medium = record m { inboxes = without_first m.inboxes s.0; rest = awake m s };
-        step = with_star n (take_mail deck n.tasks p mail);
+        step = with_star n (take_mail deck n.known n.tasks p mail);
       })
-  settled : (q : Req) → first_held p ≡ Some q → serves p q ≡ true →
+  settled : (q : Req) → first_held p ≡ Some q →
       Acts deck m s n p choices.Settle (replied replies.Settled) (record {
         medium =
             record m {
@@ -116,6 +126,18 @@ pub data Acts (deck : Deck) (m : MediumState) (s : SysId) (n : NodeState) (p : S
         medium =
             record m { inboxes = with_mail m.inboxes x.0.system.0 (mails.Granted x.0 x.1); rest = awake m s };
         step = with_star n (fixing_none n.tasks (told_by p (Some x)));
+      })
+  parted : (e : ℕ) (to : SysId) → owed_to p e ≡ Some to → has n.known to.0 ≡ false →
+      Acts deck m s n p (choices.Part e) (replied replies.Told) (record {
+        medium =
+            record m {
+              inboxes =
+                  with_mail m.inboxes to.0
+                  (mails.Part e p.manager.system
+                  (part_of (length p.manager.entries) e (names_of deck n.tasks.system) n.tasks));
+              rest = awake m s;
+            };
+        step = with_star n (fixing_none n.tasks (record p { owes = owing p.owes e None }));
       })
   left : (x : ℕ) (flags : ℕ) → may_leave p n.tasks x ≡ true
       → leave_reply (word_at m.words x) s ≡ replies.Left →
@@ -136,16 +158,15 @@ pub record Keeps (m : MediumState) (k : MediumState) : Type 0 where
 
 pub acts-keep : (deck : Deck) (m : MediumState) (s : SysId) (n : NodeState) (p : StarPart) (choice : Choice)
     (b : Result) (o : Turnout) → Acts deck m s n p choice b o → Keeps m o.medium
-acts-keep deck m s n p choice b o (decided t a x asked mine) = record { star = refl; removed = refl; message = refl }
-acts-keep deck m s n p choice b o (began t a x asked other none) =
+acts-keep deck m s n p choice b o (decided t a x asked to at same) =
     record { star = refl; removed = refl; message = refl }
-acts-keep deck m s n p choice b o (rejoined t a x asked other to at same) =
-    record { star = refl; removed = refl; message = refl }
-acts-keep deck m s n p choice b o (sent t a x asked other to at apart) =
+acts-keep deck m s n p choice b o (began t a x asked none) = record { star = refl; removed = refl; message = refl }
+acts-keep deck m s n p choice b o (sent t a x asked to at apart) =
     record { star = refl; removed = refl; message = refl }
 acts-keep deck m s n p choice b o (took mail rest at) = record { star = refl; removed = refl; message = refl }
-acts-keep deck m s n p choice b o (settled q first serving) = record { star = refl; removed = refl; message = refl }
+acts-keep deck m s n p choice b o (settled q first) = record { star = refl; removed = refl; message = refl }
 acts-keep deck m s n p choice b o (told e x first) = record { star = refl; removed = refl; message = refl }
+acts-keep deck m s n p choice b o (parted e to owes unknown) = record { star = refl; removed = refl; message = refl }
 acts-keep deck m s n p choice b o (left x flags free by) = record { star = refl; removed = refl; message = refl }
 
 -- ---- What came of any event.
@@ -153,10 +174,10 @@ pub data Came (deck : Deck) (m : MediumState) (s : SysId) (n : NodeState) : Choi
   -- nothing but a flag of rest
   nothing : (choice : Choice) (b : Result) → is_silent b ≡ true → (flags : ℕ)
       → Came deck m s n choice b (record { medium = record m { rest = flags }; step = only n })
-  -- it was told which systems were removed; of the set that it knows then nothing is said
-  informed : (choice : Choice) (known : ℕ)
+  -- it was told which systems were removed
+  informed : (choice : Choice)
       → Came deck m s n choice (replied (replies.Stale m.removed))
-      (record { medium = m; step = only (record n { known = known }) })
+      (record { medium = m; step = only (stale deck n m.removed) })
   -- a task went on
   went_on : (t : TaskId) → may_go deck n t ≡ true
       → Came deck m s n (choices.Task t) by_itself
@@ -175,7 +196,7 @@ pub data Came (deck : Deck) (m : MediumState) (s : SysId) (n : NodeState) : Choi
   last_turn : (flags : ℕ) → n.star ≡ None → m.message.closed ≡ true → stands_at m.message.holder s ≡ true →
       Came deck m s n choices.Turn (replied (replies.Turned (unseen s m.message.entries) 0 true)) (record {
         medium = record m { message = turned_closed m.message s; rest = flags };
-        step = only (change_to_star deck (read_entries deck n (unseen s m.message.entries)));
+        step = only (changed_now deck (read_entries deck n (unseen s m.message.entries)));
       })
   -- its desk changed the complex to star mode, or was told that it had changed
   changed : m.star ≡ false → next_order deck n ≡ Some orders.Star
@@ -193,18 +214,18 @@ pub data Came (deck : Deck) (m : MediumState) (s : SysId) (n : NodeState) : Choi
   already : m.star ≡ true → next_order deck n ≡ Some orders.Star
       → Came deck m s n choices.Switch (replied replies.Already)
       (record { medium = m; step = only (desk_told n saids.StarAlready) })
-  -- its desk removed a system; there was none that is live; or the complex is in star mode
+  -- its desk removed a system, in ring mode or in star mode, or there was none that is live
   removes_one : (target : SysId) → m.star ≡ false → next_order deck n ≡ Some (orders.Vary target)
       → is_live m target ≡ true →
       Came deck m s n (choices.Purge target) (replied replies.Purged)
-      (record { medium = without_system m s target; step = purged n (choices.Purge target) })
-  no_such : (target : SysId) → m.star ≡ false → next_order deck n ≡ Some (orders.Vary target)
-      → is_live m target ≡ false →
+      (record { medium = without_system m s target; step = purged deck n (choices.Purge target) })
+  removes_star : (target : SysId) → m.star ≡ true → next_order deck n ≡ Some (orders.Vary target)
+      → is_live m target ≡ true →
+      Came deck m s n (choices.Purge target) (replied replies.Purged)
+      (record { medium = without_in_star m target; step = purged deck n (choices.Purge target) })
+  no_such : (target : SysId) → next_order deck n ≡ Some (orders.Vary target) → is_live m target ≡ false →
       Came deck m s n (choices.Purge target) (replied replies.NoSuch)
       (record { medium = m; step = only (desk_told n saids.VaryNoSuch) })
-  refused : (target : SysId) → m.star ≡ true → next_order deck n ≡ Some (orders.Vary target) →
-      Came deck m s n (choices.Purge target) (replied replies.InStar)
-      (record { medium = m; step = only (desk_told n saids.VaryInStar) })
   -- or it acted by its part in star mode
   acted : (p : StarPart) → n.star ≡ Some p → (choice : Choice) (b : Result) (o : Turnout)
       → Acts deck m s n p choice b o → Came deck m s n choice b o

@@ -3,13 +3,13 @@ use Rattle.std.proofs.Common.{◌≡◌, ◌<◌, ℕ, Bool, true, false, cond, 
 use Rattle.std.proofs.Common.{◌∙◌, subst, arith, length}
 use Rattle.std.specs.Prelude.{◌==◌, nat_lt, slice_get}
 use Rattle.std.specs.List.{list_any}
-use Rattle.std.proofs.lemmas.Bool.{and_from, and_parts, eq-eqb, eqb-false, eqb-true, lt-ltb, ne_eqb, not-true}
+use Rattle.std.proofs.lemmas.Bool.{and_parts, eq-eqb, eqb-false, eqb-true, lt-ltb, ne_eqb, not-true}
 use Rattle.std.proofs.lemmas.Option.{same_Some, slice_get_within}
 use Rattle.grs_base.specs.declared.resource.SysId.{SysId}
 use Rattle.grs_medium.specs.Apply.{is_live as is_live_at, reply_to}
-use Rattle.grs_medium.specs.Causes.{is_heard, is_removed, is_uninformed, purges_in_star, purges_nobody}
+use Rattle.grs_medium.specs.Causes.{is_heard, is_removed, is_uninformed, purges_nobody}
 use Rattle.grs_medium.specs.Medium.{systems_of}
-use Rattle.grs_medium.proofs.CauseLaws.{in_star_comes, no_such_comes, removed_comes, stale_comes}
+use Rattle.grs_medium.proofs.CauseLaws.{never_in_star, no_such_comes, removed_comes, stale_comes}
 use Rattle.grs_node.specs.Node.{NodeState, next_order, prepare, purge_call}
 use Rattle.grs_node.specs.declared.prepared.Prepared.TheVariants.{Call, Nothing}
 use Rattle.grs_wire.specs.History.{removes}
@@ -162,36 +162,17 @@ module _ (deck : Deck) (fit : OrdersFit deck) (es : List Event) (e : Event) wher
       λ h.
           let r = replied_by replies.NoSuch h in
           let z = (no_such_comes w.medium c r.call).0 r.is in
-          let asks = call_asks target chose r.call r.made in
-          let both =
-          and_parts (not w.medium.star) (not (is_live_at w.medium target))
-          (ap (purges_nobody w.medium) (sym asks.is) ∙ z.1) in (
-            record { call = r.call; made = r.made; knows = heard_knows r.call z.0 },
-            not_false _ both.0,
-            twice_not _ (ap not (sym (gone_is target asks.below)) ∙ both.1),
-          ),
-      λ k.
-          let asks = call_asks target chose k.0.call k.0.made in
-          let out : is_live_at w.medium target ≡ false = gone_is target asks.below ∙ ap not k.2 in
-          reply_is replies.NoSuch k.0.call k.0.made ((no_such_comes w.medium c k.0.call).1 (
-            knows_heard k.0.call k.0.made k.0.knows,
-            ap (purges_nobody w.medium) asks.is
-                ∙ and_from (not w.medium.star) (not (is_live_at w.medium target)) (ap not k.1) (ap not out),
-          )),
-    );
-    in_star = λ target chose. (
-      λ h.
-          let r = replied_by replies.InStar h in
-          let z = (in_star_comes w.medium c r.call).0 r.is in
           let asks = call_asks target chose r.call r.made in (
             record { call = r.call; made = r.made; knows = heard_knows r.call z.0 },
-            ap (purges_in_star w.medium) (sym asks.is) ∙ z.1,
+            twice_not _ (ap not (sym (gone_is target asks.below)) ∙ (ap (purges_nobody w.medium) (sym asks.is) ∙ z.1)),
           ),
       λ k.
           let asks = call_asks target chose k.0.call k.0.made in
-          reply_is replies.InStar k.0.call k.0.made ((in_star_comes w.medium c k.0.call).1
-          (knows_heard k.0.call k.0.made k.0.knows, ap (purges_in_star w.medium) asks.is ∙ k.1)),
+          let out : is_live_at w.medium target ≡ false = gone_is target asks.below ∙ ap not k.1 in
+          reply_is replies.NoSuch k.0.call k.0.made ((no_such_comes w.medium c k.0.call).1
+          (knows_heard k.0.call k.0.made k.0.knows, ap (purges_nobody w.medium) asks.is ∙ ap not out)),
     );
+    in_star = λ h. let r = replied_by replies.InStar h in never_in_star w.medium c r.call r.is;
   }
     where
       by_idle : (o : Option NodeState) → slice_get w.nodes e.system.0 ≡ o → is_live w e.system ≡ false

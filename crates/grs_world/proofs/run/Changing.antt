@@ -9,9 +9,11 @@ use Rattle.grs_legal.specs.Asks.{lines_of}
 use Rattle.grs_medium.specs.Medium.{MediumState}
 use Rattle.grs_node.proofs.Keeping.{stays-task, stays-turned}
 use Rattle.grs_node.specs.Node.{NodeState, Step, desk_told, purged}
+use Rattle.grs_world.proofs.run.InRing.{purged-ring, removed_by}
 use Rattle.grs_node.specs.Star.{StarPart}
 use Rattle.grs_wire.specs.Unseen.{unseen}
 use Rattle.grs_wire.specs.declared.deck.Choice.{Choice}
+use Rattle.grs_wire.specs.declared.deck.Choice.TheVariants as choices
 use Rattle.grs_wire.specs.declared.deck.Deck.{Deck}
 use Rattle.grs_wire.specs.declared.deck.Event.{Event}
 use Rattle.grs_known.proofs.lists.Facts.{slice_get-set}
@@ -19,7 +21,8 @@ use Rattle.grs_world.specs.Changing.{ChangesFixNothing, has_moved, is_switch}
 use Rattle.grs_world.specs.World.{Turnout, World, first_world, fixed_by, happens, placed, run}
 use Rattle.grs_world.proofs.run.Each.{run-push}
 use Rattle.grs_world.proofs.run.Came.{Acts, Came, acted, already, began, changed, decided, informed, last_turn, left}
-use Rattle.grs_world.proofs.run.Came.{rejoined, no_part, no_such, nothing, refused, removes_one, sent, settled, told}
+use Rattle.grs_world.proofs.run.Came.{no_part, no_such, nothing, parted, removes_one, removes_star, sent, settled}
+use Rattle.grs_world.proofs.run.Came.{told}
 use Rattle.grs_world.proofs.run.Came.{took, turn, went_on, Result}
 use Rattle.grs_world.proofs.run.Chosen.{each_came}
 
@@ -28,43 +31,47 @@ module _ (deck : Deck) (m : MediumState) (s : SysId) (n : NodeState) where
   switch-none : (choice : Choice) (b : Result) (o : Turnout) → Came deck m s n choice b o → is_switch choice ≡ true
       → o.step.fixed ≡ []
   switch-none choice b o (nothing k r silent flags) h = refl
-  switch-none choice b o (informed k known) h = refl
+  switch-none choice b o (informed k) h = refl
   switch-none choice b o (went_on t may) h = absurd (cc)
   switch-none choice b o (turn flags alone unclosed here) h = absurd (cc)
   switch-none choice b o (last_turn flags alone shut here) h = refl
   switch-none choice b o (changed ring next seen) h = refl
   switch-none choice b o (already mode next) h = refl
   switch-none choice b o (removes_one target ring next lives) h = absurd (cc)
-  switch-none choice b o (no_such target ring next gone) h = refl
-  switch-none choice b o (refused target mode next) h = refl
+  switch-none choice b o (removes_star target mode next lives) h = absurd (cc)
+  switch-none choice b o (no_such target next gone) h = refl
   switch-none choice b o (acted p is k r x acts) h = by_acts k r x acts h
     where
       by_acts : (k : Choice) (r : Result) (x : Turnout) → Acts deck m s n p k r x → is_switch k ≡ true
           → x.step.fixed ≡ []
-      by_acts k r x (decided t a e asked mine) h = absurd (cc)
-      by_acts k r x (began t a e asked other none) h = absurd (cc)
-      by_acts k r x (rejoined t a e asked other to at same) h = absurd (cc)
-      by_acts k r x (sent t a e asked other to at apart) h = refl
+      by_acts k r x (decided t a e asked to at same) h = absurd (cc)
+      by_acts k r x (began t a e asked none) h = absurd (cc)
+      by_acts k r x (sent t a e asked to at apart) h = refl
       by_acts k r x (took mail rest at) h = absurd (cc)
-      by_acts k r x (settled q first serving) h = absurd (cc)
+      by_acts k r x (settled q first) h = absurd (cc)
       by_acts k r x (told e y first) h = refl
+      by_acts k r x (parted e to owes unknown) h = refl
       by_acts k r x (left e flags free by) h = refl
+
+  -- a system that hasn't changed still hasn't where it removed another one
+  still-alone : (target : SysId) → n.star ≡ None → (purged deck n (choices.Purge target)).node.star ≡ None
+  unfolding removed_by desk_told
+  still-alone target alone = ap (λ (z : Step). z.node.star) (purged-ring deck n target alone) ∙ alone
 
   -- an event of a system that hasn't changed: it still hasn't, or nothing is fixed
   moves-free : (choice : Choice) (b : Result) (o : Turnout) → Came deck m s n choice b o → n.star ≡ None
       → (o.step.node.star ≡ None) ⊎ (o.step.fixed ≡ [])
-  unfolding purged desk_told
   moves-free choice b o (nothing k r silent flags) alone = inr refl
-  moves-free choice b o (informed k known) alone = inr refl
+  moves-free choice b o (informed k) alone = inr refl
   moves-free choice b o (went_on t may) alone = inl ((stays-task deck.limit n t (lines_of deck t)).star ∙ alone)
   moves-free choice b o (turn flags by unclosed here) alone =
       inl ((stays-turned deck n (unseen s m.message.entries) (length (take most_additions n.outbox))).star ∙ alone)
   moves-free choice b o (last_turn flags by shut here) alone = inr refl
   moves-free choice b o (changed ring next seen) alone = inr refl
   moves-free choice b o (already mode next) alone = inr refl
-  moves-free choice b o (removes_one target ring next lives) alone = inl alone
-  moves-free choice b o (no_such target ring next gone) alone = inr refl
-  moves-free choice b o (refused target mode next) alone = inr refl
+  moves-free choice b o (removes_one target ring next lives) alone = inl (still-alone target alone)
+  moves-free choice b o (removes_star target mode next lives) alone = inl (still-alone target alone)
+  moves-free choice b o (no_such target next gone) alone = inr refl
   moves-free choice b o (acted p is k r x acts) alone = no_part n p is alone
 
   fixes-none : (choice : Choice) (b : Result) (o : Turnout) → Came deck m s n choice b o

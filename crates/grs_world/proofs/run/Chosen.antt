@@ -2,29 +2,33 @@
 -- table that answers it.
 use Rattle.std.proofs.Common.{◌≡◌, ℕ, Bool, true, false, cond, List, [], ◌∷◌, length, take, Option, Some, None, refl}
 use Rattle.std.proofs.Common.{ap, sym, ◌∙◌, subst}
-use Rattle.std.specs.Prelude.{slice_get, slice_set, not, ◌&&◌, ◌==◌}
+use Rattle.std.specs.Prelude.{slice_get, slice_set, nat_lt, not, ◌&&◌, ◌==◌}
 use Rattle.std.proofs.Math.Bool.{and-false}
 use Rattle.std.proofs.lemmas.List.{set-get_or}
-use Rattle.std.proofs.lemmas.Bool.{eqb-true}
+use Rattle.std.proofs.lemmas.Bool.{and_from, eqb-true, lt-ltb, true≢false}
+use Rattle.std.proofs.lemmas.Option.{slice_get_within}
 use Rattle.grs_base.specs.Limits.{most_additions}
 use Rattle.grs_base.specs.declared.resource.Res.{Res}
 use Rattle.grs_base.specs.declared.resource.SysId.{SysId}
 use Rattle.grs_base.specs.declared.resource.TaskId.{TaskId}
-use Rattle.grs_medium.specs.Apply.{is_live, joined, leave_row, mail_row, purge_row, rest_row, resting, row, submit_on}
-use Rattle.grs_medium.specs.Apply.{submit_row, switch_ring, switch_row, take_from, take_row, turn_row, without_system}
+use Rattle.grs_medium.specs.Apply.{is_live, is_noticed, joined, leave_row, mail_row, notice_reply, purge_row, rest_row}
+use Rattle.grs_medium.specs.Apply.{resting, row, submit_on, submit_row, switch_ring, switch_row, take_from, take_row}
+use Rattle.grs_medium.specs.Apply.{turn_row, without_in_star, without_system, without_target}
 use Rattle.grs_medium.specs.Inboxes.{with_mail, without_first}
 use Rattle.grs_medium.specs.Medium.{MediumState, all_rest, awake, inbox, live, medium_at_end}
 use Rattle.grs_node.proofs.InRing.{closed-turned, open-turned}
 use Rattle.grs_node.specs.Node.{NodeState, finish, finish_call, finish_quiet, finish_star, is_pending, may_go, may_send}
-use Rattle.grs_node.specs.Node.{next_order, only, own_words, prepare, prepared_by, purge_call, send_own, star_call}
+use Rattle.grs_node.specs.Node.{next_order, only, own_words, prepare, prepared_by, purge_call, star_call}
 use Rattle.grs_node.specs.Node.{star_need, star_step, switch_call, turn_call, turned as node_turned, with_star}
 use Rattle.grs_node.specs.Star.{StarPart, answer_for, begin_at, begun, decide_own, entry_asked, entry_for, first_held}
-use Rattle.grs_node.specs.Star.{fixing_none, manages, may_leave, own_step, rank_of, request_of, send_of, send_to}
-use Rattle.grs_node.specs.Star.{sent_to, serves, settle_by, settled_by, settled_first, tell_by, to_tell, told_by}
+use Rattle.grs_node.specs.Star.{fixing_none, may_leave, rank_of, request_of, send_of, send_to}
+use Rattle.grs_node.specs.Star.{sent_to, settle_by, settled_by, tell_by, to_tell, told_by}
 use Rattle.grs_node.specs.declared.prepared.Prepared.{Prepared}
 use Rattle.grs_node.specs.declared.prepared.Prepared.TheVariants.{Call, Nothing, Quiet}
+use Rattle.grs_node.specs.Names.{names_of}
+use Rattle.grs_node.specs.Star.{gathers, owed_to, part_by}
 use Rattle.grs_node.specs.declared.star.Need.{Need}
-use Rattle.grs_node.specs.declared.star.Need.TheVariants.{Alone, Asks, Idle}
+use Rattle.grs_node.specs.declared.star.Need.TheVariants.{Asks, Idle}
 use Rattle.grs_wire.proofs.WantLaws.{by_test}
 use Rattle.grs_wire.specs.LockWords.{epoch, interest, is_kept, is_manager, leave_changes, leave_reply, left_word}
 use Rattle.grs_wire.specs.LockWords.{lock_word, manager}
@@ -48,14 +52,18 @@ use Rattle.lock_structure.specs.Words.{left_words, route, route_by, submitted_wo
 use Rattle.lock_structure.specs.declared.word.Route.TheVariants as routes
 use Rattle.rsa_message.specs.Message.{Message, first_number, rest_after_turn, stands_at, turn_reply, turned}
 use Rattle.rsa_message.specs.Message.{turned_closed, turned_open}
+use Rattle.system_purge.specs.Gather.{part_of}
 use Rattle.task_state.specs.View.{state_of}
 use Rattle.task_state.specs.declared.state.Asked.{Asked}
+use Rattle.grs_world.specs.InStar.{is_purged, removes_in_star}
+use Rattle.grs_world.specs.Removing.{call_at, call_in, reply_by, reply_of}
+use Rattle.grs_world.specs.Running.{is_live as is_live_in}
 use Rattle.grs_world.specs.World.{Turnout, World, carry_out, chosen, counted, happens, placed}
 use Rattle.grs_world.proofs.run.Each.{each_heard, each_live}
-use Rattle.grs_world.proofs.run.Came.{Acts, Came, IsToSend, Result, acted, already, began, by_itself, changed, decided}
-use Rattle.grs_world.proofs.run.Came.{informed, is_silent, last_turn, left, no_such, nothing, refused, rejoined}
-use Rattle.grs_world.proofs.run.Came.{removes_one, replied, result_of, sent, settled, skipped, told, took, turn}
-use Rattle.grs_world.proofs.run.Came.{went_on}
+use Rattle.grs_world.proofs.run.Came.{Acts, Came, IsSpared, IsToSend, Result, acted, already, began}
+use Rattle.grs_world.proofs.run.Came.{by_itself, changed, decided, parted}
+use Rattle.grs_world.proofs.run.Came.{informed, is_silent, last_turn, left, no_such, nothing, replied, removes_star}
+use Rattle.grs_world.proofs.run.Came.{removes_one, result_of, sent, settled, skipped, told, took, turn, went_on}
 
 module _ (deck : Deck) (m : MediumState) (s : SysId) (n : NodeState) (alive : has m.removed s.0 ≡ false) where
   abbrev Comes : Choice → Result → Turnout → Type 0
@@ -75,7 +83,7 @@ module _ (deck : Deck) (m : MediumState) (s : SysId) (n : NodeState) (alive : ha
 
   told-removed : (choice : Choice) → ComesBy choice (replies.Stale m.removed, m)
   unfolding finish finish_call
-  told-removed choice = informed choice _
+  told-removed choice = informed choice
 
   called : (choice : Choice) (act : Act) → ComesBy choice (row m s act)
       → ComesOf choice (Call (record { known = n.known; act = act }))
@@ -88,19 +96,29 @@ module _ (deck : Deck) (m : MediumState) (s : SysId) (n : NodeState) (alive : ha
   same-part p is = ap (λ o. only (record n { star = o })) (sym is)
 
   same-step : (o : Option StarPart) → n.star ≡ o → (choice : Choice) (reply : Reply)
-      → ((p : StarPart) → star_step deck n.tasks p choice reply ≡ fixing_none n.tasks p)
+      → ((p : StarPart) → star_step deck n.known n.tasks p choice reply ≡ fixing_none n.tasks p)
       → finish_star deck n o choice reply ≡ only n
   unfolding finish_star
   same-step None is choice reply h = refl
   same-step (Some p) is choice reply h = ap (with_star n) (h p) ∙ same-part p is
 
   quiet : (flags : ℕ) (choice : Choice) (reply : Reply) → is_silent (replied reply) ≡ true
-      → ((p : StarPart) → star_step deck n.tasks p choice reply ≡ fixing_none n.tasks p)
+      → ((p : StarPart) → star_step deck n.known n.tasks p choice reply ≡ fixing_none n.tasks p)
       → Comes choice (replied reply)
       (record { medium = record m { rest = flags }; step = finish_star deck n n.star choice reply })
   quiet flags choice reply silent h =
       subst (λ st. Comes choice (replied reply) (record { medium = record m { rest = flags }; step = st }))
       (sym (same-step n.star refl choice reply h)) (nothing choice (replied reply) silent flags)
+
+  -- what a notice in its inbox answers says nothing new to the part
+  forestalled : (choice : Choice) (x : ℕ)
+      → ((p : StarPart) → star_step deck n.known n.tasks p choice replies.Yours ≡ fixing_none n.tasks p)
+      → ((p : StarPart) → star_step deck n.known n.tasks p choice replies.Old ≡ fixing_none n.tasks p)
+      → ComesBy choice (notice_reply m s x, m)
+  unfolding finish finish_call
+  forestalled choice x yours old =
+      by_test (λ r. ComesBy choice (r, m)) (is_manager (manager_at m.words x) s) replies.Yours replies.Old
+      (λ own. quiet m.rest choice replies.Yours refl yours) (λ other. quiet m.rest choice replies.Old refl old)
 
   -- ---- a task that goes on, a Rest, a Turn, and the desk
   by-task : (t : TaskId) → may_go deck n t ≡ true → ComesOf (choices.Task t) Quiet
@@ -182,12 +200,13 @@ module _ (deck : Deck) (m : MediumState) (s : SysId) (n : NodeState) (alive : ha
       → ComesBy (choices.Purge target) (row m s (acts.Purge target))
   unfolding row purge_row finish finish_call
   by-purge target next =
-      by_test (ComesBy (choices.Purge target)) m.star (replies.InStar, m)
-      (cond (is_live m target) (replies.Purged, without_system m s target) (replies.NoSuch, m))
-      (λ mode. refused target mode next)
-      (λ ring.
-      by_test (ComesBy (choices.Purge target)) (is_live m target) (replies.Purged, without_system m s target)
-      (replies.NoSuch, m) (λ lives. removes_one target ring next lives) (λ gone. no_such target ring next gone))
+      by_test (ComesBy (choices.Purge target)) (is_live m target) (replies.Purged, without_target m s target)
+      (replies.NoSuch, m)
+      (λ lives.
+      by_test (λ k. ComesBy (choices.Purge target) (replies.Purged, k)) m.star (without_in_star m target)
+      (without_system m s target) (λ mode. removes_star target mode next lives)
+      (λ ring. removes_one target ring next lives))
+      (λ gone. no_such target next gone)
 
   by-target : (target : SysId) (o : Option Order) → next_order deck n ≡ o
       → ComesOf (choices.Purge target) (purge_call n target o)
@@ -210,7 +229,7 @@ module _ (deck : Deck) (m : MediumState) (s : SysId) (n : NodeState) (alive : ha
     -- the part finishes it
     finished : (k : MediumState) (choice : Choice) (reply : Reply)
         → Comes choice (replied reply)
-        (record { medium = k; step = with_star n (star_step deck n.tasks p choice reply) })
+        (record { medium = k; step = with_star n (star_step deck n.known n.tasks p choice reply) })
         → Comes choice (replied reply) (record { medium = k; step = finish_star deck n n.star choice reply })
     unfolding finish_star
     finished k choice reply h =
@@ -219,88 +238,84 @@ module _ (deck : Deck) (m : MediumState) (s : SysId) (n : NodeState) (alive : ha
 
     -- what a task asks for goes where its entry's word says
     module _ (t : TaskId) (a : Asked) (x : ℕ) (asked : IsToSend deck n p t a x) where
-      alone : manages p x ≡ true → Needs (choices.Send t) Alone
-      unfolding carry_out finish finish_quiet
-      alone mine =
-          subst (λ o. Comes (choices.Send t) by_itself (record { medium = m; step = send_own n t o })) (sym is)
+      sole : (k : MediumState) → joined m s x ≡ k
+          → Acts deck m s n p (choices.Send t) (replied replies.Sole)
+          (record { medium = k; step = with_star n (decide_own n.tasks (begun p x) t a) })
+          →
+          Comes (choices.Send t) (replied replies.Sole)
+          (record { medium = joined m s x; step = finish_star deck n n.star (choices.Send t) replies.Sole })
+      sole k now acts =
+          finished (joined m s x) (choices.Send t) replies.Sole
           (subst (λ o.
-          Comes (choices.Send t) by_itself (record { medium = m; step = with_star n (own_step n.tasks p t o) }))
-          (sym asked.asks) (acted p is (choices.Send t) _ _ (decided t a x asked mine)))
+          Comes (choices.Send t) (replied replies.Sole)
+          (record { medium = joined m s x; step = with_star n (begin_at n.tasks p t o (entry_asked p o)) }))
+          (sym asked.asks)
+          (subst (λ o.
+          Comes (choices.Send t) (replied replies.Sole)
+          (record { medium = joined m s x; step = with_star n (begin_at n.tasks p t (Some a) o) }))
+          (sym asked.entry)
+          (subst (λ (z : MediumState).
+          Comes (choices.Send t) (replied replies.Sole)
+          (record { medium = z; step = with_star n (decide_own n.tasks (begun p x) t a) }))
+          (sym now) (acted p is (choices.Send t) _ _ acts))))
 
-      module _ (other : manages p x ≡ false) where
-        sole : (k : MediumState) → joined m s x ≡ k
-            → Acts deck m s n p (choices.Send t) (replied replies.Sole)
-            (record { medium = k; step = with_star n (decide_own n.tasks (begun p x) t a) })
-            →
-            Comes (choices.Send t) (replied replies.Sole)
-            (record { medium = joined m s x; step = finish_star deck n n.star (choices.Send t) replies.Sole })
-        sole k now acts =
-            finished (joined m s x) (choices.Send t) replies.Sole
-            (subst (λ o.
-            Comes (choices.Send t) (replied replies.Sole)
-            (record { medium = joined m s x; step = with_star n (begin_at n.tasks p t o (entry_asked p o)) }))
-            (sym asked.asks)
-            (subst (λ o.
-            Comes (choices.Send t) (replied replies.Sole)
-            (record { medium = joined m s x; step = with_star n (begin_at n.tasks p t (Some a) o) }))
-            (sym asked.entry)
-            (subst (λ (z : MediumState).
-            Comes (choices.Send t) (replied replies.Sole)
-            (record { medium = z; step = with_star n (decide_own n.tasks (begun p x) t a) }))
-            (sym now) (acted p is (choices.Send t) _ _ acts))))
+      -- the medium then, by whether the word names the system
+      joined-is : (b : Bool) → is_manager (manager_at m.words x) s ≡ b
+          → joined m s x ≡ cond b m (record m { words = submitted_words m.words x s; rest = awake m s })
+      joined-is b e = ap (λ d. cond d m (record m { words = submitted_words m.words x s; rest = awake m s })) e
 
-        -- the medium then, by whether the word names the system
-        joined-is : (b : Bool) → is_manager (manager_at m.words x) s ≡ b
-            → joined m s x ≡ cond b m (record m { words = submitted_words m.words x s; rest = awake m s })
-        joined-is b e = ap (λ d. cond d m (record m { words = submitted_words m.words x s; rest = awake m s })) e
+      sends : (to : SysId) → manager_at m.words x ≡ Some to → (to.0 == s.0) ≡ false →
+          Comes (choices.Send t) (replied replies.Sent) (record {
+            medium =
+                record (joined m s x) { inboxes = with_mail m.inboxes to.0 (mails.Request x s (request_of t a)) };
+            step = finish_star deck n n.star (choices.Send t) replies.Sent;
+          })
+      sends to at apart =
+          let boxes : List (List Mail) = with_mail m.inboxes to.0 (mails.Request x s (request_of t a)) in
+          let now : MediumState =
+          record m { words = submitted_words m.words x s; inboxes = boxes; rest = awake m s } in
+          subst (λ (k : MediumState).
+          Comes (choices.Send t) (replied replies.Sent) (record {
+            medium = record k { inboxes = boxes };
+            step = finish_star deck n n.star (choices.Send t) replies.Sent;
+          }))
+          (sym (joined-is false (ap (λ o. is_manager o s) at ∙ apart)))
+          (finished now (choices.Send t) replies.Sent
+          (subst (λ o.
+          Comes (choices.Send t) (replied replies.Sent)
+          (record { medium = now; step = with_star n (sent_to n.tasks p t o) }))
+          (sym (ap (entry_asked p) asked.asks ∙ asked.entry))
+          (acted p is (choices.Send t) _ _ (sent t a x asked to at apart))))
 
-        sends : (to : SysId) → manager_at m.words x ≡ Some to → (to.0 == s.0) ≡ false →
-            Comes (choices.Send t) (replied replies.Sent) (record {
-              medium =
-                  record (joined m s x) { inboxes = with_mail m.inboxes to.0 (mails.Request x s (request_of t a)) };
-              step = finish_star deck n n.star (choices.Send t) replies.Sent;
-            })
-        sends to at apart =
-            let boxes : List (List Mail) = with_mail m.inboxes to.0 (mails.Request x s (request_of t a)) in
-            let now : MediumState =
-            record m { words = submitted_words m.words x s; inboxes = boxes; rest = awake m s } in
-            subst (λ (k : MediumState).
-            Comes (choices.Send t) (replied replies.Sent) (record {
-              medium = record k { inboxes = boxes };
-              step = finish_star deck n n.star (choices.Send t) replies.Sent;
-            }))
-            (sym (joined-is false (ap (λ o. is_manager o s) at ∙ apart)))
-            (finished now (choices.Send t) replies.Sent
-            (subst (λ o.
-            Comes (choices.Send t) (replied replies.Sent)
-            (record { medium = now; step = with_star n (sent_to n.tasks p t o) }))
-            (sym (ap (entry_asked p) asked.asks ∙ asked.entry))
-            (acted p is (choices.Send t) _ _ (sent t a x asked other to at apart))))
+      by-word : (o : Option SysId) → manager_at m.words x ≡ o
+          → ComesBy (choices.Send t) (submit_on m s x (request_of t a) (route_by o s))
+      unfolding finish finish_call
+      by-word None at =
+          sole _ (joined-is false (ap (λ o. is_manager o s) at)) (began t a x asked at)
+      by-word (Some to) at =
+          by_test (λ r. ComesBy (choices.Send t) (submit_on m s x (request_of t a) r)) (to.0 == s.0) routes.Sole
+          (routes.To to)
+          (λ same.
+          sole m (joined-is true (ap (λ o. is_manager o s) at ∙ same)) (decided t a x asked to at same))
+          (λ apart. sends to at apart)
 
-        by-word : (o : Option SysId) → manager_at m.words x ≡ o
-            → ComesBy (choices.Send t) (submit_on m s x (request_of t a) (route_by o s))
-        unfolding finish finish_call
-        by-word None at =
-            sole _ (joined-is false (ap (λ o. is_manager o s) at)) (began t a x asked other at)
-        by-word (Some to) at =
-            by_test (λ r. ComesBy (choices.Send t) (submit_on m s x (request_of t a) r)) (to.0 == s.0) routes.Sole
-            (routes.To to)
-            (λ same.
-            sole m (joined-is true (ap (λ o. is_manager o s) at ∙ same)) (rejoined t a x asked other to at same))
-            (λ apart. sends to at apart)
-
-        submits : ComesBy (choices.Send t) (row m s (acts.Submit x (request_of t a)))
-        unfolding row submit_row route
-        submits = by-word (manager_at m.words x) refl
+      submits : ComesBy (choices.Send t) (row m s (acts.Submit x (request_of t a)))
+      unfolding row submit_row route
+      submits =
+          by_test (ComesBy (choices.Send t)) (is_noticed m s x) (notice_reply m s x, m)
+          (submit_on m s x (request_of t a) (route_by (manager_at m.words x) s))
+          (λ noticed. forestalled (choices.Send t) x (λ k. refl) (λ k. refl))
+          (λ heard. by-word (manager_at m.words x) refl)
 
     by-entry : (t : TaskId) (a : Asked) → may_send deck n t ≡ true → (state_of n.tasks t).outstanding ≡ Some a
         → (o : Option ℕ) → entry_for p a.req.want ≡ o → Needs (choices.Send t) (send_to p (request_of t a) o)
     by-entry t a may asks None e = idle (choices.Send t)
     by-entry t a may asks (Some x) e =
-        let asked : IsToSend deck n p t a x = record { may = may; asks = asks; entry = e } in
-        by_test (Needs (choices.Send t)) (manages p x) Alone (Asks (acts.Submit x (request_of t a)))
-        (λ mine. alone t a x asked mine)
-        (λ other. called (choices.Send t) (acts.Submit x (request_of t a)) (submits t a x asked other))
+        by_test (Needs (choices.Send t)) (gathers p x) Idle (Asks (acts.Submit x (request_of t a)))
+        (λ busy. idle (choices.Send t))
+        (λ free.
+        called (choices.Send t) (acts.Submit x (request_of t a))
+        (submits t a x (record { may = may; asks = asks; entry = e; settled = free })))
 
     by-asked : (t : TaskId) → may_send deck n t ≡ true → (o : Option Asked) → (state_of n.tasks t).outstanding ≡ o
         → Needs (choices.Send t) (send_of p t o)
@@ -318,12 +333,12 @@ module _ (deck : Deck) (m : MediumState) (s : SysId) (n : NodeState) (alive : ha
             finished (record m { inboxes = without_first m.inboxes s.0; rest = awake m s }) choices.Take
             (replies.Taken mail) (acted p is choices.Take _ _ (took mail rest e))
 
-    -- the request that was held first is settled
-    settles : (q : Req) → first_held p ≡ Some q → serves p q ≡ true
-        → ComesBy choices.Settle (row m s
-        (acts.Settle q.task.system (mails.Answered q.task (answer_for p q) (rank_of p q))))
+    -- the first request held of an entry that isn't gathered is settled
+    settles : (q : Req) → first_held p ≡ Some q
+        → ComesBy choices.Settle
+        (row m s (acts.Settle q.task.system (mails.Answered q.task (answer_for p q) (rank_of p q))))
     unfolding row mail_row finish finish_call
-    settles q e h =
+    settles q e =
         let now : MediumState = record m {
           inboxes = with_mail m.inboxes q.task.system.0 (mails.Answered q.task (answer_for p q) (rank_of p q));
           rest = awake m s;
@@ -332,23 +347,13 @@ module _ (deck : Deck) (m : MediumState) (s : SysId) (n : NodeState) (alive : ha
         (subst (λ o.
         Comes choices.Settle (replied replies.Settled)
         (record { medium = now; step = with_star n (settled_by n.tasks p o) }))
-        (sym e)
-        (subst (λ b.
-        Comes choices.Settle (replied replies.Settled) (record {
-          medium = now;
-          step = with_star n (cond b (settled_first n.tasks p q) (fixing_none n.tasks p));
-        }))
-        (sym h) (acted p is choices.Settle _ _ (settled q e h))))
+        (sym e) (acted p is choices.Settle _ _ (settled q e)))
 
     by-held : (o : Option Req) → first_held p ≡ o → Needs choices.Settle (settle_by p o)
     by-held None e = idle choices.Settle
     by-held (Some q) e =
-        by_test (Needs choices.Settle) (serves p q)
-        (Asks (acts.Settle q.task.system (mails.Answered q.task (answer_for p q) (rank_of p q)))) Idle
-        (λ h.
         called choices.Settle (acts.Settle q.task.system (mails.Answered q.task (answer_for p q) (rank_of p q)))
-        (settles q e h))
-        (λ h. idle choices.Settle)
+        (settles q e)
 
     -- an owner of another system is told
     tells : (e : ℕ) (x : TaskId × Res) → to_tell p e ≡ Some x
@@ -362,6 +367,27 @@ module _ (deck : Deck) (m : MediumState) (s : SysId) (n : NodeState) (alive : ha
         Comes (choices.Tell e) (replied replies.Told)
         (record { medium = now; step = with_star n (fixing_none n.tasks (told_by p o)) }))
         (sym is_next) (acted p is (choices.Tell e) _ _ (told e x is_next)))
+
+    -- the part of an entry is sent
+    abbrev part_at : ℕ → Mail
+    part_at e =
+        mails.Part e p.manager.system
+        (part_of (length p.manager.entries) e (names_of deck n.tasks.system) n.tasks)
+
+    parts : (e : ℕ) (to : SysId) → owed_to p e ≡ Some to → has n.known to.0 ≡ false
+        → ComesBy (choices.Part e) (row m s (acts.Tell to (part_at e)))
+    unfolding row mail_row finish finish_call
+    parts e to owes unknown =
+        finished (record m { inboxes = with_mail m.inboxes to.0 (part_at e); rest = awake m s }) (choices.Part e)
+        replies.Told (acted p is (choices.Part e) _ _ (parted e to owes unknown))
+
+    by-owed : (e : ℕ) (o : Option SysId) → owed_to p e ≡ o
+        → Needs (choices.Part e) (part_by (names_of deck n.tasks.system) n.known p n.tasks e o)
+    by-owed e None owes = idle (choices.Part e)
+    by-owed e (Some to) owes =
+        by_test (Needs (choices.Part e)) (has n.known to.0) Idle (Asks (acts.Tell to (part_at e)))
+        (λ gone. idle (choices.Part e))
+        (λ there. called (choices.Part e) (acts.Tell to (part_at e)) (parts e to owes there))
 
     by-owner : (e : ℕ) (o : Option (TaskId × Res)) → to_tell p e ≡ o → Needs (choices.Tell e) (tell_by o)
     by-owner e None is_next = idle (choices.Tell e)
@@ -426,9 +452,13 @@ module _ (deck : Deck) (m : MediumState) (s : SysId) (n : NodeState) (alive : ha
       by-leave : ComesBy (choices.Leave x) (row m s (acts.Leave x))
       unfolding row leave_row leave_reply finish finish_call
       by-leave =
+          by_test (ComesBy (choices.Leave x)) (is_noticed m s x) (notice_reply m s x, m)
+          (cond (is_kept w s) (replies.Kept (interest w)) replies.Left, cond (leave_changes w s) leaving m)
+          (λ noticed. forestalled (choices.Leave x) x (λ k. refl) (λ k. refl))
+          (λ heard.
           by_test (λ reply. ComesBy (choices.Leave x) (reply, cond (leave_changes w s) leaving m)) (is_kept w s)
           (replies.Kept (interest w)) replies.Left (λ kept. by-kept (interest w) kept)
-          (λ goes. by-left (ap (λ b. cond b (replies.Kept (interest w)) replies.Left) goes))
+          (λ goes. by-left (ap (λ b. cond b (replies.Kept (interest w)) replies.Left) goes)))
 
   by-part : (choice : Choice)
       → ((p : StarPart) → n.star ≡ Some p → ComesOf choice (prepared_by n.known (star_need deck n p choice)))
@@ -463,7 +493,7 @@ module _ (deck : Deck) (m : MediumState) (s : SysId) (n : NodeState) (alive : ha
   came choices.Take = by-part choices.Take (λ p is. called choices.Take acts.Take (by-mail p is))
   came choices.Settle = by-part choices.Settle (λ p is. by-held p is (first_held p) refl)
   came (choices.Tell e) = by-part (choices.Tell e) (λ p is. by-owner p is e (to_tell p e) refl)
-  came (choices.Part e) = by-part (choices.Part e) (λ p is. idle (choices.Part e))
+  came (choices.Part e) = by-part (choices.Part e) (λ p is. by-owed p is e (owed_to p e) refl)
   came (choices.Leave x) =
       by-part (choices.Leave x) (λ p is.
       by_test (Needs p is (choices.Leave x)) (may_leave p n.tasks x) (Asks (acts.Leave x)) Idle
@@ -477,3 +507,35 @@ pub each_came : (deck : Deck) (w : World) (e : Event) (P : World → Type 0) →
     → P (happens deck w e)
 each_came deck w e P idle comes =
     each_live deck w e P idle (λ n at alive. comes n _ _ at alive (came deck w.medium e.system n alive e.choice))
+
+-- ---- an event that removes no system in star mode
+-- the reply to its call, if it made one
+abbrev reply_in : Result → Option Reply
+reply_in skipped = None
+reply_in by_itself = None
+reply_in (replied r) = Some r
+
+reply-in : (m : MediumState) (s : SysId) (p : Prepared) → reply_in (result_of m s p) ≡ reply_by m s (call_in p)
+reply-in m s Nothing = refl
+reply-in m s Quiet = refl
+reply-in m s (Call call) = refl
+
+pub removes-none : (deck : Deck) (w : World) (e : Event) → removes_in_star deck w e ≡ false → (n : NodeState)
+    → slice_get w.nodes e.system.0 ≡ Some n → has w.medium.removed e.system.0 ≡ false
+    → IsSpared deck w.medium e.system n e.choice
+removes-none deck w e none n at alive star is =
+    true≢false (sym (and_from w.medium.star (is_purged (reply_of deck w e)) star purged) ∙ none)
+  where
+    s : SysId
+    s = e.system
+
+    there : is_live_in w e.system ≡ true
+    there =
+        and_from (nat_lt s.0 (length w.nodes)) (not (has w.medium.removed s.0))
+        (lt-ltb s.0 (length w.nodes) (slice_get_within w.nodes s.0 n at)) (ap not alive)
+
+    purged : is_purged (reply_of deck w e) ≡ true
+    purged =
+        ap (λ o. is_purged (reply_by w.medium s (call_at deck w e o))) at
+        ∙ (ap (λ b. is_purged (reply_by w.medium s (cond b (call_in (prepare deck n e.choice)) None))) there
+        ∙ (ap is_purged (sym (reply-in w.medium s (prepare deck n e.choice))) ∙ ap (λ b. is_purged (reply_in b)) is))

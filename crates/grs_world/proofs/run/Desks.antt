@@ -56,9 +56,6 @@ pub data EventTells (deck : Deck) (c : SysId) (H : List HistEntry) (fixed : List
       → k.tasks.told ≡ n.tasks.told ++ lines.Desk (n.done + 1) saids.VaryNoSuch ∷ [] → k.done ≡ n.done + 1
       → after ≡ before → (OrdersFit deck → list_any (removes target) H ≡ true)
       → EventTells deck c H fixed n k before after
-  tells_in_star : (target : SysId) → next_order deck n ≡ Some (orders.Vary target)
-      → k.tasks.told ≡ n.tasks.told ++ lines.Desk (n.done + 1) saids.VaryInStar ∷ [] → k.done ≡ n.done + 1
-      → before ≡ true → after ≡ true → EventTells deck c H fixed n k before after
 
 -- whether a line isn't told at this system's desk, or is of a desk line before this one
 abbrev pub is_desk_told : ℕ → ℕ → Told → Bool
@@ -150,10 +147,6 @@ module _ (deck : Deck) (es : List Event) (w : World) (g : GoodTold deck es w) (d
       at_desk (n.done + 1) saids.VaryNoSuch told (λ m is fit.
       by_cause m (orders.Vary target) saids.VaryNoSuch next is.before
       (ap (list_any (removes target)) is.history ∙ gone fit))
-  desk-agrees H fixed k after (tells_in_star target next told done before now) =
-      at_desk (n.done + 1) saids.VaryInStar told (λ m is fit.
-      by_cause m (orders.Vary target) saids.VaryInStar next is.before
-      (ap (was_star deck (w.events + 1)) is.before ∙ was_star-is before))
 
 -- ---- one event more
 pub desks-counted : (deck : Deck) (w : World) → GoodDesks deck w → GoodDesks deck (counted w)
@@ -340,7 +333,3 @@ module _ (deck : Deck) (w : World) (d : GoodDesks deck w) (c : SysId) (n : NodeS
       desks-behind (lines.Desk (n.done + 1) saids.VaryNoSuch ∷ []) told
       (or-false (w.medium.star && not deck.star) ∙ ap (λ b. b && not deck.star) (sym mode)) (more-done done)
       (one-desk saids.VaryNoSuch done) (next-told saids.VaryNoSuch done)
-  desks-after H (tells_in_star target next told done before now) =
-      desks-behind (lines.Desk (n.done + 1) saids.VaryInStar ∷ []) told
-      (or-false (w.medium.star && not deck.star) ∙ ap (λ b. b && not deck.star) (before ∙ sym now)) (more-done done)
-      (one-desk saids.VaryInStar done) (next-told saids.VaryInStar done)

@@ -13,8 +13,8 @@ use Rattle.grs_medium.specs.Medium.{MediumState}
 use Rattle.grs_node.proofs.Fits.{by-reply}
 use Rattle.grs_node.specs.Node.{NodeState, Step, ask, decide, end_step, is_for_deck, is_of_deck, look_home, may_go}
 use Rattle.grs_node.specs.Node.{phase_step, post, prepare, purged, put_in, read_entries, read_entry, ready_step, show}
-use Rattle.grs_node.specs.Node.{take_line, take_mail, task_step, with_tasks}
-use Rattle.grs_node.specs.Star.{StarPart, StarStep, decide_own, fixing_none, took_mail}
+use Rattle.grs_node.specs.Node.{take_line, take_mail, task_step, took_mail, with_tasks}
+use Rattle.grs_node.specs.Star.{StarPart, StarStep, decide_own, fixing_none}
 use Rattle.grs_node.specs.declared.prepared.Prepared.{Prepared}
 use Rattle.grs_node.specs.declared.prepared.Prepared.TheVariants.{Quiet, Call, Nothing}
 use Rattle.grs_wire.specs.Masks.{has}
@@ -45,7 +45,7 @@ use Rattle.grs_world.specs.World.{World, chosen, counted, first_world, fixed_by,
 use Rattle.grs_world.specs.World.{Turnout}
 use Rattle.grs_world.proofs.run.Each.{run-push}
 use Rattle.grs_world.proofs.run.Came.{Acts, Came, Result, acted, already, began, by_itself, changed, decided, informed}
-use Rattle.grs_world.proofs.run.Came.{is_silent, last_turn, left, rejoined, no_such, nothing, refused, removes_one}
+use Rattle.grs_world.proofs.run.Came.{is_silent, last_turn, left, no_such, nothing, parted, removes_one, removes_star}
 use Rattle.grs_world.proofs.run.Came.{replied, result_of, sent, settled, skipped, told, took, turn, went_on}
 use Rattle.grs_base.specs.Limits.{most_additions}
 use Rattle.grs_wire.specs.Unseen.{unseen}
@@ -146,19 +146,20 @@ outbox-entries deck [] n = refl
 outbox-entries deck (e ∷ es) n = outbox-entries deck es (read_entry deck n e.body) ∙ outbox-entry deck n e.body
 
 -- ---- a system acts by its part in star mode
-by_mail : (deck : Deck) (v : TasksView) (p : StarPart) (m : Mail) → (take_mail deck v p m).fixed ≡ []
+by_kind : (deck : Deck) (known : ℕ) (v : TasksView) (p : StarPart) (m : Mail)
+    → (took_mail deck known v p m).fixed ≡ []
 unfolding took_mail
-by_mail deck v p (mails.Request e from q) =
-    by_test (λ (s : StarStep). s.fixed ≡ []) (is_for_deck deck (mails.Request e from q)) _ (fixing_none v p)
-    (λ h. refl) (λ h. refl)
-by_mail deck v p (mails.Answered t answer rank) =
-    by_test (λ (s : StarStep). s.fixed ≡ []) (is_for_deck deck (mails.Answered t answer rank)) _ (fixing_none v p)
-    (λ h. refl) (λ h. refl)
-by_mail deck v p (mails.Granted t r) =
-    by_test (λ (s : StarStep). s.fixed ≡ []) (is_for_deck deck (mails.Granted t r)) _ (fixing_none v p) (λ h. refl)
-    (λ h. refl)
-by_mail deck v p (mails.Notice target moved) = refl
-by_mail deck v p (mails.Part e from records) = refl
+by_kind deck known v p (mails.Request e from q) = refl
+by_kind deck known v p (mails.Answered t answer rank) = refl
+by_kind deck known v p (mails.Granted t r) = refl
+by_kind deck known v p (mails.Notice target moved) = refl
+by_kind deck known v p (mails.Part e from records) = refl
+
+pub fixed-mail : (deck : Deck) (known : ℕ) (v : TasksView) (p : StarPart) (m : Mail)
+    → (take_mail deck known v p m).fixed ≡ []
+fixed-mail deck known v p m =
+    by_test (λ (s : StarStep). s.fixed ≡ []) (is_for_deck deck m) (took_mail deck known v p m) (fixing_none v p)
+    (λ h. by_kind deck known v p m) (λ h. refl)
 
 -- what an event fixes by what it was
 abbrev by_result : Deck → NodeState → Choice → Result → List Fixed
@@ -187,13 +188,13 @@ by_acts : (deck : Deck) (m : MediumState) (s : SysId) (n : NodeState) (p : StarP
     → (choice : Choice) (b : Result) (o : Turnout) → Acts deck m s n p choice b o
     → o.step.fixed ≡ by_result deck n choice b
 unfolding decide_own
-by_acts deck m s n p is choice b o (decided t a x asked mine) = sym (ap (asks_for t) asked.asks)
-by_acts deck m s n p is choice b o (began t a x asked other none) = sym (ap (asks_for t) asked.asks)
-by_acts deck m s n p is choice b o (rejoined t a x asked other to at same) = sym (ap (asks_for t) asked.asks)
-by_acts deck m s n p is choice b o (sent t a x asked other to at apart) = refl
-by_acts deck m s n p is choice b o (took mail rest at) = by_mail deck n.tasks p mail
-by_acts deck m s n p is choice b o (settled q first serving) = sym (ap held_first is ∙ ap one_request first)
+by_acts deck m s n p is choice b o (decided t a x asked to at same) = sym (ap (asks_for t) asked.asks)
+by_acts deck m s n p is choice b o (began t a x asked none) = sym (ap (asks_for t) asked.asks)
+by_acts deck m s n p is choice b o (sent t a x asked to at apart) = refl
+by_acts deck m s n p is choice b o (took mail rest at) = fixed-mail deck n.known n.tasks p mail
+by_acts deck m s n p is choice b o (settled q first) = sym (ap held_first is ∙ ap one_request first)
 by_acts deck m s n p is choice b o (told e x first) = refl
+by_acts deck m s n p is choice b o (parted e to owes unknown) = refl
 by_acts deck m s n p is choice b o (left x flags free by) = refl
 
 -- ---- any event
@@ -201,7 +202,7 @@ by_came : (deck : Deck) (m : MediumState) (s : SysId) (n : NodeState) (choice : 
     → Came deck m s n choice b o → o.step.fixed ≡ by_result deck n choice b
 unfolding put_in purged
 by_came deck m s n choice b o (nothing k r silent flags) = sym (by_silence deck n choice b silent)
-by_came deck m s n choice b o (informed k known) = refl
+by_came deck m s n choice b o (informed k) = refl
 by_came deck m s n choice b o (went_on t may) =
     by_task deck.limit n t (may_go-task deck n t may) (lines_of deck t)
 by_came deck m s n choice b o (turn flags alone unclosed here) =
@@ -211,8 +212,8 @@ by_came deck m s n choice b o (last_turn flags alone shut here) = sym (ap (map A
 by_came deck m s n choice b o (changed ring next seen) = refl
 by_came deck m s n choice b o (already mode next) = refl
 by_came deck m s n choice b o (removes_one target ring next lives) = refl
-by_came deck m s n choice b o (no_such target ring next gone) = refl
-by_came deck m s n choice b o (refused target mode next) = refl
+by_came deck m s n choice b o (removes_star target mode next lives) = refl
+by_came deck m s n choice b o (no_such target next gone) = refl
 by_came deck m s n choice b o (acted p is k r x acts) = by_acts deck m s n p is k r x acts
 
 fixes-chosen : (deck : Deck) (m : MediumState) (s : SysId) (n : NodeState) (choice : Choice)

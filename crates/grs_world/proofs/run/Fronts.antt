@@ -19,6 +19,7 @@ use Rattle.grs_known.specs.Parts.{systems_part}
 use Rattle.grs_known.proofs.known.Histories.{items-append, count-front, IsHistory}
 use Rattle.grs_known.proofs.known.ItemLaws.{items_are_history, lists_are_replayed}
 use Rattle.grs_known.proofs.ring.Reading.{table-is}
+use Rattle.grs_world.specs.InStar.{NoneInStar}
 use Rattle.grs_world.specs.Tables.{before_number, processed, TablesAreFronts}
 use Rattle.grs_world.specs.World.{World, run}
 use Rattle.grs_world.proofs.message.Stands.{Bodies, waits_live, first_number-seen}
@@ -145,9 +146,9 @@ module _ (deck : Deck) (w : World) (right : IsHistory deck (items w.fixed)) (bef
       ∙ table-is (items front)
       ∙ ap systems_part (replayed ∙ ap (λ fs. replay deck.limit (answered fs)) (sym is))
 
-pub tables_fronts : (deck : Deck) → (may_be_star deck ≡ true → FitsStar deck) → (es : List Event)
+pub tables_fronts : (deck : Deck) → (may_be_star deck ≡ true → FitsStar deck) → (es : List Event) → NoneInStar deck es
     → TablesAreFronts deck es
-tables_fronts deck fits es s n at keeps = by_run (every_run deck fits es)
+tables_fronts deck fits es none s n at keeps = by_run (every_run deck fits es none)
   where
     w : World
     w = run deck es

@@ -34,7 +34,7 @@ has_unseen es x s c h = one-passes (is_unseen s) x h es c.0 c.1 c.2
 
 module _ (deck : Deck) where
   -- there are as many systems as at the start
-  as_many : (es : List Event) → length (run deck es).nodes ≡ length deck.systems
+  pub as_many : (es : List Event) → length (run deck es).nodes ≡ length deck.systems
   unfolding placed first_world
   as_many es = each_run deck (λ us w. length w.nodes ≡ length deck.systems) (count_first deck 0 deck.systems)
       (λ us e g.

@@ -17,7 +17,7 @@ use Rattle.grs_wire.specs.declared.medium.RingEntry.{RingEntry}
 use Rattle.grs_wire.specs.declared.request.Req.{Req}
 use Rattle.grs_wire.proofs.WantLaws.{by_test}
 use Rattle.rsa_message.specs.Message.{Message, stands_at, opened, never_opened, left_by, cleared, dropped, stamped}
-use Rattle.rsa_message.specs.Message.{closed_by, turned, turned_closed}
+use Rattle.rsa_message.specs.Message.{closed_by, departed, turned, turned_closed}
 use Rattle.grs_known.proofs.lists.Facts.{all-behind, take-none}
 use Rattle.grs_world.specs.World.{World, Turnout, placed, happens, run, first_world}
 use Rattle.grs_world.proofs.run.InRing.{CameInRing, IsRing, changed, each_in_ring, each_in_star, informed, live-there}
@@ -28,7 +28,8 @@ use Rattle.grs_world.proofs.move.Changing.{IsChanging}
 use Rattle.grs_world.proofs.move.Sound.{GoodRun, every_run, in_ring, in_star}
 use Rattle.grs_world.specs.Decks.{FitsStar, may_be_star}
 use Rattle.grs_world.proofs.run.Runs.{GoodWorld}
-use Rattle.grs_world.proofs.run.Each.{each_run}
+use Rattle.grs_world.proofs.run.Spared.{each_spared, none_before}
+use Rattle.grs_world.specs.InStar.{NoneInStar}
 use Rattle.grs_known.proofs.system.Says.{is_home_at, own_requests}
 
 -- ---- what stands in the message
@@ -55,6 +56,10 @@ home_cleared c (e ∷ es) a = go (not (e.mask == only c.0)) (home_cleared c es a
         (cond b (e ∷ filter (λ x. not (x.mask == only c.0)) es) (filter (λ x. not (x.mask == only c.0)) es)))
     go true ih = (a.0, ih)
     go false ih = ih
+
+home_departed : (m : Message) (t : SysId) → AllHome m.entries → AllHome (departed m t).entries
+unfolding departed
+home_departed m t h = home_cleared t m.entries h
 
 -- So is a request of the outbox.
 home_put : (deck : Deck) (c : SysId) (number mask k : ℕ) (qs : List Req)
@@ -97,6 +102,7 @@ module _ (deck : Deck) (fits : may_be_star deck ≡ true → FitsStar deck) wher
 
     in_star_next : IsChanging deck (run deck es) → AllHome (happens deck (run deck es) e).medium.message.entries
     in_star_next g = each_in_star deck (run deck es) e g.whole.roles.mode (λ m b. AllHome m.entries) h turns
+        (λ target. home_departed (run deck es).medium.message target h)
       where
         turns : (out : List Req)
             → AllHome (turned (run deck es).medium.message e.system out (live (run deck es).medium)
@@ -118,7 +124,7 @@ module _ (deck : Deck) (fits : may_be_star deck ≡ true → FitsStar deck) wher
       by_test (λ (m : Message). AllHome m.entries) deck.star (never_opened (length deck.systems))
       (opened (length deck.systems)) (λ b. tt) (λ b. tt)
 
-  pub all_home : (es : List Event) → AllHome (run deck es).medium.message.entries
+  pub all_home : (es : List Event) → NoneInStar deck es → AllHome (run deck es).medium.message.entries
   all_home =
-      each_run deck (λ es (w : World). AllHome w.medium.message.entries) first_home
-      (λ es e h. home_next es e h (every_run deck fits es))
+      each_spared deck (λ es (w : World). AllHome w.medium.message.entries) first_home
+      (λ es e none h. home_next es e h (every_run deck fits es (none_before deck es e none)))

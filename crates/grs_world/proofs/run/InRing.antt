@@ -6,6 +6,8 @@ use Rattle.std.specs.Prelude.{slice_get, nat_lt, replicate}
 use Rattle.grs_base.specs.declared.resource.SysId.{SysId}
 use Rattle.grs_medium.specs.Apply.{is_live, without_system}
 use Rattle.grs_medium.specs.Medium.{MediumState, awake, live}
+use Rattle.grs_node.specs.Removal.{members, without_those}
+use Rattle.grs_node.specs.Node.{known_from, losing, losing_in, stale}
 use Rattle.grs_node.specs.Node.{NodeState, Step, first_node, may_go, next_order, own_words, desk_told, purged, put_in}
 use Rattle.grs_node.specs.Node.{read_entries, switched, only, task_step}
 use Rattle.grs_base.specs.Limits.{most_additions}
@@ -29,9 +31,10 @@ use Rattle.grs_wire.specs.Masks.{has, lives, with_also}
 use Rattle.grs_wire.specs.declared.deck.Choice.TheVariants as choices
 use Rattle.grs_node.proofs.Keeping.{stays-task, stays-turned}
 use Rattle.grs_base.specs.declared.resource.TaskId.{TaskId}
+use Rattle.grs_wire.specs.declared.request.Fixed.TheVariants.{Purged}
 use Rattle.grs_wire.specs.declared.told.Said.TheVariants as saids
 use Rattle.rsa_message.specs.Message.{closed_by, dropped, first_number, stands_at, never_opened, turned, turned_closed}
-use Rattle.rsa_message.specs.Message.{turned_open, Message, opened}
+use Rattle.rsa_message.specs.Message.{turned_open, Message, departed, opened}
 use Rattle.grs_wire.specs.Unseen.{unseen}
 use Rattle.grs_legal.specs.Asks.{lines_of}
 use Rattle.grs_world.proofs.run.Came.{Came, acts-keep, no_part, Result}
@@ -70,6 +73,13 @@ live-is deck w g s =
     has-live w.medium.message.systems w.medium.removed s
     ∙ ap (λ i. lives i w.medium.removed s) (g.around ∙ sym g.systems)
 
+-- what the removal of a system leaves of the one whose desk removed it
+unfoldable pub removed_by : NodeState → SysId → Step
+removed_by n target = record {
+  node = record (desk_told n saids.VaryDone) { known = with_also n.known target.0 };
+  fixed = Purged target ∷ [];
+}
+
 -- ---- What came of an event of a system of the ring: nothing but a flag of rest, a task that went on, its Turn, the
 -- change to star mode, or what has to do with removals: it was told who was removed, it removed another, or there was
 -- no such system.
@@ -101,23 +111,50 @@ pub data CameInRing (deck : Deck) (w : World) (s : SysId) (n : NodeState) : Turn
       → CameInRing deck w s n (record { medium = w.medium; step = only (record n { known = known }) })
   removes_one : (target : SysId) → next_order deck n ≡ Some (orders.Vary target) → is_live w.medium target ≡ true →
       CameInRing deck w s n
-      (record { medium = without_system w.medium s target; step = purged n (choices.Purge target) })
+      (record { medium = without_system w.medium s target; step = removed_by n target })
   no_such : (target : SysId) → next_order deck n ≡ Some (orders.Vary target) → is_live w.medium target ≡ false →
       CameInRing deck w s n (record { medium = w.medium; step = only (desk_told n saids.VaryNoSuch) })
+
+-- a system of the ring has no part to lose anything
+pub purged-ring : (deck : Deck) (n : NodeState) (target : SysId) → n.star ≡ None
+    → purged deck n (choices.Purge target) ≡ removed_by n target
+unfolding purged losing desk_told removed_by
+purged-ring deck n target alone =
+    ap (λ o. let z : Step = record {
+      node =
+          losing_in deck (record (desk_told n saids.VaryDone) { known = with_also n.known target.0 }) o
+          (target ∷ []);
+      fixed = Purged target ∷ [];
+    } in z)
+    alone
+
+pub told-ring : (deck : Deck) (n : NodeState) (set : ℕ) → n.star ≡ None
+    → stale deck n set ≡ record n { known = known_from deck n.known set }
+unfolding stale losing
+told-ring deck n set alone =
+    ap (λ o.
+    losing_in deck (record n { known = known_from deck n.known set }) o
+    (members (without_those n.known (known_from deck n.known set))))
+    alone
 
 in-ring : (deck : Deck) (w : World) → IsRing deck w → (s : SysId) (n : NodeState) → slice_get w.nodes s.0 ≡ Some n
     → (choice : Choice) (b : Result) (o : Turnout) → Came deck w.medium s n choice b o → CameInRing deck w s n o
 in-ring deck w g s n at choice b o (any.nothing k r silent flags) = nothing flags
-in-ring deck w g s n at choice b o (any.informed k known) = informed known
+in-ring deck w g s n at choice b o (any.informed k) =
+    subst (λ z. CameInRing deck w s n (record { medium = w.medium; step = only z }))
+    (sym (told-ring deck n w.medium.removed (g.alone s.0 n at)))
+    (informed (known_from deck n.known w.medium.removed))
 in-ring deck w g s n at choice b o (any.went_on t may) = went_on t may
 in-ring deck w g s n at choice b o (any.turn flags alone unclosed here) = turn flags here
 in-ring deck w g s n at choice b o (any.last_turn flags alone shut here) =
     no_truth w.medium.message.closed shut g.unclosed
 in-ring deck w g s n at choice b o (any.changed ring next seen) = changed next seen
 in-ring deck w g s n at choice b o (any.already star next) = no_truth w.medium.star star g.mode
-in-ring deck w g s n at choice b o (any.removes_one target ring next lives) = removes_one target next lives
-in-ring deck w g s n at choice b o (any.no_such target ring next gone) = no_such target next gone
-in-ring deck w g s n at choice b o (any.refused target star next) = no_truth w.medium.star star g.mode
+in-ring deck w g s n at choice b o (any.removes_one target ring next lives) =
+    subst (λ z. CameInRing deck w s n (record { medium = without_system w.medium s target; step = z }))
+    (sym (purged-ring deck n target (g.alone s.0 n at))) (removes_one target next lives)
+in-ring deck w g s n at choice b o (any.removes_star target star next lives) = no_truth w.medium.star star g.mode
+in-ring deck w g s n at choice b o (any.no_such target next gone) = no_such target next gone
 in-ring deck w g s n at choice b o (any.acted p is k r x acts) = no_part n p is (g.alone s.0 n at)
 
 -- What holds where an event is only counted, and whatever comes of it at a system, holds behind the event.
@@ -145,7 +182,7 @@ module _ (deck : Deck) (w : World) (g : IsRing deck w) where
   pub ring-placed : (c : SysId) (n : NodeState) → slice_get w.nodes c.0 ≡ Some n → (o : Turnout)
       → CameInRing deck w c n o
       → o.medium.star ≡ false → IsRing deck (placed w c n o)
-  unfolding placed purged desk_told dropped
+  unfolding placed removed_by desk_told dropped
   ring-placed c n at o h mode = go o h mode
     where
       kept : (m : MediumState) (st : Step) → m.star ≡ false → m.message.closed ≡ false
@@ -186,13 +223,14 @@ module _ (deck : Deck) (w : World) (g : IsRing deck w) where
           kept o.medium o.step g.mode g.unclosed g.around refl refl (with_target target there)
       go o (no_such target next gone) h = kept o.medium o.step g.mode g.unclosed g.around refl refl g.within
 
--- ---- once the medium is in star mode the mode stays, and the message changes by Turns alone
+-- ---- once the medium is in star mode the mode stays, and the message changes by Turns, and where a system is removed
 pub each_in_star : (deck : Deck) (w : World) (e : Event) → w.medium.star ≡ true → (P : Message → Bool → Type 0)
     → P w.medium.message w.medium.star
-    → ((out : List Req) → P (turned w.medium.message e.system out (live w.medium) w.medium.rest) w.medium.star) →
+    → ((out : List Req) → P (turned w.medium.message e.system out (live w.medium) w.medium.rest) w.medium.star)
+    → ((target : SysId) → P (departed w.medium.message target) w.medium.star) →
     P (happens deck w e).medium.message (happens deck w e).medium.star
 unfolding placed turned
-each_in_star deck w e star P same turns =
+each_in_star deck w e star P same turns departs =
     each_came deck w e (λ (x : World). P x.medium.message x.medium.star) same
     (λ n b o at alive. by_case n e.choice b o)
   where
@@ -219,7 +257,7 @@ each_in_star deck w e star P same turns =
     by_case : (n : NodeState) (choice : Choice) (b : Result) (o : Turnout) → Came deck w.medium e.system n choice b o
         → P o.medium.message o.medium.star
     by_case n choice b o (any.nothing k r silent flags) = same
-    by_case n choice b o (any.informed k known) = same
+    by_case n choice b o (any.informed k) = same
     by_case n choice b o (any.went_on t may) = same
     by_case n choice b o (any.turn flags alone unclosed here) =
         turns_to (take most_additions n.outbox) false unclosed here
@@ -227,14 +265,14 @@ each_in_star deck w e star P same turns =
     by_case n choice b o (any.changed ring next seen) = no_truth m.star star ring
     by_case n choice b o (any.already k next) = same
     by_case n choice b o (any.removes_one target ring next lives) = no_truth m.star star ring
-    by_case n choice b o (any.no_such target ring next gone) = same
-    by_case n choice b o (any.refused target k next) = same
+    by_case n choice b o (any.removes_star target k next lives) = departs target
+    by_case n choice b o (any.no_such target next gone) = same
     by_case n choice b o (any.acted p is k r x acts) =
         let kept = acts-keep deck m e.system n p k r x acts in
         subst (λ z. P z o.medium.star) (sym kept.message) (subst (P m.message) (sym kept.star) same)
 
 pub star-stays : (deck : Deck) (w : World) (e : Event) → w.medium.star ≡ true → (happens deck w e).medium.star ≡ true
-star-stays deck w e star = each_in_star deck w e star (λ m b. b ≡ true) star (λ out. star)
+star-stays deck w e star = each_in_star deck w e star (λ m b. b ≡ true) star (λ out. star) (λ target. star)
 
 -- ---- at the start
 first_node_at : (deck : Deck) → deck.star ≡ false → (k : ℕ) (ds : List SystemDef) (s : ℕ) (n : NodeState)

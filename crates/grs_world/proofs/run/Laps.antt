@@ -2,7 +2,7 @@
 -- of its own is left to it alone.
 use Rattle.std.proofs.Common.{ℕ, ◌≡◌, ◌<◌, not, Bool, true, false, cond, ◌&&◌, List, [], ◌∷◌, ◌++◌, length, Option}
 use Rattle.std.proofs.Common.{Some, None, refl, sym, ap, subst, arith, ◌∙◌}
-use Rattle.std.specs.Prelude.{slice_get, take, nat_lt}
+use Rattle.std.specs.Prelude.{◌≢◌, slice_get, take, nat_lt}
 use Rattle.std.proofs.lemmas.Bool.{and_parts, and_right, ltb-true}
 use Rattle.grs_base.specs.declared.resource.SysId.{SysId}
 use Rattle.grs_wire.specs.Masks.{has, others, with_also}
@@ -11,26 +11,28 @@ use Rattle.grs_wire.specs.declared.deck.Deck.{Deck}
 use Rattle.grs_wire.specs.declared.deck.Event.{Event}
 use Rattle.grs_wire.specs.declared.medium.Act.{Act}
 use Rattle.grs_wire.specs.declared.medium.Act.TheVariants.{Turn, Rest, Switch, Submit, Take, Settle, Tell, Leave, Purge}
-use Rattle.grs_wire.specs.declared.medium.Reply.TheVariants.{Turned, NotYours, Resting, Over, Already, InStar, Kept}
-use Rattle.grs_wire.specs.declared.medium.Reply.TheVariants.{Left, NoSuch, Purged}
+use Rattle.grs_wire.specs.declared.medium.Reply.TheVariants.{Turned, NotYours, Resting, Over, Already, Kept}
+use Rattle.grs_wire.specs.declared.medium.Reply.TheVariants.{Left, NoSuch, Purged, Yours, Old}
 use Rattle.grs_wire.specs.declared.medium.RingBody.TheVariants.{Request}
 use Rattle.grs_wire.specs.declared.medium.RingEntry.{RingEntry}
 use Rattle.grs_wire.specs.declared.request.Req.{Req}
 use Rattle.grs_wire.proofs.WantLaws.{by_test}
 use Rattle.rsa_message.specs.Message.{Message, stands_at, opened, never_opened, turn_reply, turned, turned_open}
-use Rattle.rsa_message.specs.Message.{turned_closed, any_unseen, closed_by, dropped, first_number}
+use Rattle.rsa_message.specs.Message.{turned_closed, any_unseen, closed_by, departed, dropped, first_number}
 use Rattle.grs_wire.specs.Unseen.{unseen}
 use Rattle.rsa_message.proofs.OrderLaws.{stands_at-exact}
 use Rattle.grs_medium.specs.Medium.{MediumState, first_medium, live, all_rest, medium_at_end, inbox, word}
-use Rattle.grs_medium.specs.Apply.{turn_row, resting, rest_row, row, is_live, leave_row, mail_row, purge_row, submit_on}
+use Rattle.grs_medium.specs.Apply.{turn_row, resting, rest_row, row, is_live, is_noticed, leave_row, mail_row, manages}
+use Rattle.grs_medium.specs.Apply.{notice_reply, purge_row, submit_on}
 use Rattle.grs_medium.specs.Apply.{submit_row, switch_ring, switch_row, take_from, take_row, without_system}
+use Rattle.grs_medium.specs.Apply.{without_target}
 use Rattle.grs_node.specs.Node.{NodeState, prepare}
 use Rattle.grs_base.specs.Limits.{most_additions}
 use Rattle.grs_world.proofs.run.Each.{each_answer, each_run}
 use Rattle.grs_world.specs.Laps.{OnlyLeft, ComesBackLast, given_by, given_when, given_at, ProcessedLast}
 use Rattle.grs_world.specs.World.{World, first_world, placed, happens, run, Turnout}
 use Rattle.grs_world.proofs.message.LapsMessage.{Round, left_at_home, last_at_home, unseen_awaited, closed_round}
-use Rattle.grs_world.proofs.message.LapsMessage.{closed_turn, dropped_round, none_unseen, open_round}
+use Rattle.grs_world.proofs.message.LapsMessage.{closed_turn, departed_round, dropped_round, none_unseen, open_round}
 use Rattle.grs_medium.proofs.GoesOn.{masks_of}
 use Rattle.grs_medium.proofs.LiveLaws.{has-live}
 use Rattle.grs_medium.specs.GoesOn.{WaitsForLive}
@@ -43,10 +45,14 @@ use Rattle.lock_structure.specs.declared.word.Route.{Route}
 use Rattle.lock_structure.specs.declared.word.Route.TheVariants as routes
 use Rattle.grs_node.specs.declared.prepared.Prepared.{Prepared}
 use Rattle.grs_node.specs.declared.prepared.Prepared.TheVariants.{Call, Nothing, Quiet}
-use Rattle.grs_world.proofs.run.InRing.{CameInRing, IsRing, changed, each_in_ring, each_in_star, informed, is_ring}
+use Rattle.grs_world.proofs.run.InRing.{CameInRing, IsRing, changed, each_in_ring, informed, is_ring}
 use Rattle.grs_world.proofs.run.InRing.{live-there}
 use Rattle.grs_world.proofs.run.InRing.{no_such, nothing, removes_one, star-stays, turn, went_on}
-use Rattle.grs_world.proofs.run.Purges.{star_keeps}
+use Rattle.grs_world.proofs.run.Came as any
+use Rattle.grs_world.proofs.run.Came.{Came, Result, acts-keep}
+use Rattle.grs_world.proofs.run.Chosen.{each_came}
+use Rattle.grs_known.proofs.lists.Truths.{no_truth}
+use Rattle.grs_wire.specs.declared.deck.Choice.{Choice}
 
 -- This holds of the medium in a run of so many systems.
 pub record Goes (count : ℕ) (m : MediumState) : Type 0 where
@@ -92,31 +98,70 @@ unfolding turned
 turned_shut m c out live rest shut =
     ap (λ b. cond (stands_at m.holder c) (cond b (turned_closed m c) (turned_open m c out live rest)) m) shut
 
--- what stays so of the message in star mode
-abbrev Stays : Message → ℕ → Message → Type 0
-Stays m live x = Round x live × (x.closed ≡ true) × (x.systems ≡ m.systems)
+-- the systems that are live once a live one is removed
+module _ (m : MediumState) (target : SysId) where
+  abbrev now : ℕ
+  now = others m.message.systems (with_also m.removed target.0)
 
-shut_goes : (m : Message) (c : SysId) (out : List Req) (live rest : ℕ) → Round m live → m.closed ≡ true
-    → Stays m live (turned m c out live rest)
-shut_goes m c out live rest round shut = subst (Stays m live) (sym (turned_shut m c out live rest shut))
-    (by_test (Stays m live) (stands_at m.holder c) (turned_closed m c) m
-    (λ here. (closed_turn m c live round (stands_at-exact m.holder c here) shut, shut, refl))
-    (λ away. (round, shut, refl)))
+  gone_now : has now target.0 ≡ false
+  gone_now =
+      has-live m.message.systems (with_also m.removed target.0) target.0
+      ∙ and_right (nat_lt target.0 m.message.systems) (not (has (with_also m.removed target.0) target.0))
+      (ap not (has-with_same m.removed target.0))
+
+  same_now : (u : ℕ) → u ≢ target.0 → has now u ≡ has (live m) u
+  same_now u ne =
+      has-live m.message.systems (with_also m.removed target.0) u
+      ∙ (ap (λ b. nat_lt u m.message.systems && not b) (has-with_other m.removed target.0 u ne)
+      ∙ sym (has-live m.message.systems m.removed u))
 
 star_goes : (deck : Deck) (w : World) (e : Event) → w.medium.star ≡ true → Goes (length deck.systems) w.medium
     → Goes (length deck.systems) (happens deck w e).medium
+unfolding placed departed
 star_goes deck w e star g =
-    let all =
-    each_in_star deck w e star (λ x b. Stays w.medium.message (live w.medium) x) (g.round, g.closed star, refl)
-    (λ out. shut_goes w.medium.message e.system out (live w.medium) w.medium.rest g.round (g.closed star)) in
-    let same : live (happens deck w e).medium ≡ live w.medium =
-    ap (λ i. others i (happens deck w e).medium.removed) all.2
-    ∙ ap (others w.medium.message.systems) (star_keeps deck w e star) in
-    record {
-      round = subst (Round (happens deck w e).medium.message) (sym same) all.0;
-      closed = λ z. all.1;
-      around = all.2 ∙ g.around;
+    each_came deck w e (λ (x : World). Goes (length deck.systems) x.medium)
+    (record { round = g.round; closed = g.closed; around = g.around })
+    (λ n b o at alive came. by_case n e.choice b o came)
+  where
+    m : MediumState
+    m = w.medium
+
+    by_case : (n : NodeState) (choice : Choice) (b : Result) (o : Turnout) → Came deck w.medium e.system n choice b o
+        → Goes (length deck.systems) o.medium
+    by_case n choice b o (any.nothing k r silent flags) =
+        record { round = g.round; closed = g.closed; around = g.around }
+    by_case n choice b o (any.informed k) = g
+    by_case n choice b o (any.went_on t may) = g
+    by_case n choice b o (any.turn flags alone unclosed here) = no_truth m.message.closed (g.closed star) unclosed
+    by_case n choice b o (any.last_turn flags alone shut here) = record {
+      round = closed_turn m.message e.system (live m) g.round (stands_at-exact m.message.holder e.system here) shut;
+      closed = λ z. shut;
+      around = g.around;
     }
+    by_case n choice b o (any.changed ring next seen) = no_truth m.star star ring
+    by_case n choice b o (any.already mode next) = g
+    by_case n choice b o (any.removes_one target ring next lives) = no_truth m.star star ring
+    by_case n choice b o (any.removes_star target mode next lives) = record {
+      round =
+          departed_round m.message target (live m) (now m target) g.round (g.closed star) (gone_now m target)
+          (same_now m target);
+      closed = λ z. g.closed star;
+      around = g.around;
+    }
+    by_case n choice b o (any.no_such target next gone) = g
+    by_case n choice b o (any.acted p is k r x acts) =
+        let kept = acts-keep deck m e.system n p k r x acts in
+        let same : live o.medium ≡ live m =
+        ap (λ (z : Message). others z.systems o.medium.removed) kept.message
+        ∙ ap (others m.message.systems) kept.removed
+        in
+        record {
+          round =
+              subst (Round o.medium.message) (sym same)
+              (subst (λ (z : Message). Round z (live m)) (sym kept.message) g.round);
+          closed = λ z. ap (λ (x : Message). x.closed) kept.message ∙ g.closed star;
+          around = ap (λ (x : Message). x.systems) kept.message ∙ g.around;
+        }
 
 ring_goes : (deck : Deck) (w : World) (e : Event) → IsRing deck w → WaitsForLive w.medium
     → Goes (length deck.systems) w.medium → Goes (length deck.systems) (happens deck w e).medium
@@ -132,25 +177,14 @@ ring_goes deck w e ring waits g =
         (not (has w.medium.removed u)) (sym (has-live w.medium.message.systems w.medium.removed u) ∙ h)).0
 
     -- a system is removed
-    without_one : (target : SysId) → is_live w.medium target ≡ true
-        → Goes (length deck.systems) (without_system w.medium e.system target)
-    without_one target lives =
-        let n : ℕ = w.medium.message.systems in
-        let now : ℕ = with_also w.medium.removed target.0 in
-        record {
-          round =
-              dropped_round w.medium.message e.system target (live w.medium) (others n now) g.round
-              (masks_of w.medium waits) ring.unclosed
-              (has-live n now target.0
-              ∙ and_right (nat_lt target.0 n) (not (has now target.0))
-              (ap not (has-with_same w.medium.removed target.0)))
-              (λ u ne.
-              has-live n now u
-              ∙ (ap (λ b. nat_lt u n && not b) (has-with_other w.medium.removed target.0 u ne)
-              ∙ sym (has-live n w.medium.removed u)));
-          closed = λ z. absurd (let no : true ≡ false = sym z ∙ ring.mode in cc);
-          around = g.around;
-        }
+    without_one : (target : SysId) → Goes (length deck.systems) (without_system w.medium e.system target)
+    without_one target = record {
+      round =
+          dropped_round w.medium.message e.system target (live w.medium) (now w.medium target) g.round
+          (masks_of w.medium waits) ring.unclosed (gone_now w.medium target) (same_now w.medium target);
+      closed = λ z. absurd (let no : true ≡ false = sym z ∙ ring.mode in cc);
+      around = g.around;
+    }
 
     by_case : (n : NodeState) (o : Turnout) → has (live w.medium) e.system.0 ≡ true → CameInRing deck w e.system n o
         → Goes (length deck.systems) o.medium
@@ -158,7 +192,7 @@ ring_goes deck w e ring waits g =
     by_case n o alive (went_on t may) = g
     by_case n o alive (informed known) = g
     by_case n o alive (no_such target next gone) = g
-    by_case n o alive (removes_one target next there) = without_one target there
+    by_case n o alive (removes_one target next there) = without_one target
     by_case n o alive (turn flags here) = record {
       round =
           open_round w.medium.message e.system (take most_additions n.outbox) (live w.medium) w.medium.rest g.round
@@ -187,7 +221,7 @@ goes deck h = each_run deck (λ es (w : World). Goes (length deck.systems) w.med
         go false is = ring_goes deck (run deck es) e (is_ring deck h es is) (run_waits deck es) g
 
 -- So it is of a deck that begins in star mode, which stays in it.
-stays_star : (deck : Deck) → deck.star ≡ true → (es : List Event)
+pub stays_star : (deck : Deck) → deck.star ≡ true → (es : List Event)
     → ((run deck es).medium.star ≡ true) × Goes (length deck.systems) (run deck es).medium
 unfolding first_world
 stays_star deck h =
@@ -228,6 +262,16 @@ turn_gift m s out round =
     is body from)
     (λ away. no_gift s)
 
+-- What a notice answers gives none.
+noticed_gift : (m : MediumState) (s : SysId) (entry : ℕ) (x : Reply × MediumState) → Gives s (given_by x.0)
+    → Gives s (given_by (cond {A = Reply × MediumState} (is_noticed m s entry) (notice_reply m s entry, m) x).0)
+noticed_gift m s entry x other = go (is_noticed m s entry) (manages m s entry)
+  where
+    go : (b d : Bool) → Gives s (given_by (cond {A = Reply × MediumState} b (cond d Yours Old, m) x).0)
+    go true true = no_gift s
+    go true false = no_gift s
+    go false d = other
+
 -- No other call gives any.
 row_gift : (m : MediumState) (s : SysId) (act : Act) → Round m.message (live m) → Gives s (given_by (row m s act).0)
 unfolding row switch_row submit_row take_row mail_row leave_row leave_reply purge_row rest_row
@@ -239,7 +283,7 @@ row_gift m s (Switch words) round = go m.star (first_number (unseen s m.message.
     go true o = no_gift s
     go false (Some first) = no_gift s
     go false None = no_gift s
-row_gift m s (Submit entry q) round = go (route (word m entry) s)
+row_gift m s (Submit entry q) round = noticed_gift m s entry _ (go (route (word m entry) s))
   where
     go : (r : Route) → Gives s (given_by (submit_on m s entry q r).0)
     go routes.Sole = no_gift s
@@ -252,16 +296,13 @@ row_gift m s Take round = go (inbox m s.0)
 row_gift m s (Settle to mail) round = no_gift s
 row_gift m s (Tell to mail) round = no_gift s
 row_gift m s (Leave entry) round =
-    by_test (λ r. Gives s (given_by r)) (is_kept (word m entry) s) (Kept (interest (word m entry))) Left
-    (λ t. no_gift s) (λ t. no_gift s)
-row_gift m s (Purge target) round = go m.star (is_live m target)
-  where
-    go : (b d : Bool)
-        → Gives s (given_by
-        (cond {A = Reply × MediumState} b (InStar, m) (cond d (Purged, without_system m s target) (NoSuch, m))).0)
-    go true d = no_gift s
-    go false true = no_gift s
-    go false false = no_gift s
+    noticed_gift m s entry _
+    (by_test (λ r. Gives s (given_by r)) (is_kept (word m entry) s) (Kept (interest (word m entry))) Left
+    (λ t. no_gift s) (λ t. no_gift s))
+row_gift m s (Purge target) round =
+    by_test {X = Reply × MediumState} (λ x. Gives s (given_by x.0)) (is_live m target)
+    (Purged, without_target m s target) (NoSuch, m)
+    (λ lives. no_gift s) (λ gone. no_gift s)
 row_gift m s Rest round =
     by_test (λ r. Gives s (given_by r)) (all_rest (resting m s) && medium_at_end (resting m s)) Over Resting
     (λ t. no_gift s) (λ t. no_gift s)

@@ -52,12 +52,12 @@ use Rattle.grs_world.proofs.system.AtNode.{QuietStep, keeps, fixes}
 use Rattle.grs_world.proofs.system.Quiet.{quiet}
 use Rattle.grs_known.proofs.system.Says.{ToldBy, askers, own_asked, own_requests, is_line_of}
 use Rattle.grs_world.proofs.run.Home.{IsHome, AllHome, all_home}
-use Rattle.grs_world.proofs.run.Desks.{EventTells, tells_already, tells_done, tells_in_star, tells_no_such}
+use Rattle.grs_world.proofs.run.Desks.{EventTells, tells_already, tells_done, tells_no_such}
 use Rattle.grs_world.proofs.run.Desks.{tells_removed, tells_tasks}
 use Rattle.grs_world.proofs.move.Late.{CameLate, came_late, desk_late, informed_late, nothing_late, task_late}
 use Rattle.grs_world.proofs.move.Late.{turn_late, vary_late}
 use Rattle.grs_world.proofs.move.Changing.{IsChanging, Shown, Waits, has_changed, waits_yet}
-use Rattle.grs_world.proofs.move.Begin.{switch-moved}
+use Rattle.grs_world.proofs.move.Begin.{switched-moved}
 use Rattle.grs_world.proofs.move.Decks.{order-may}
 use Rattle.grs_world.proofs.move.Moved.{alive, event-moved}
 use Rattle.grs_world.proofs.move.Sound.{GoodRun, every_run, in_ring, in_star}
@@ -72,7 +72,14 @@ use Rattle.grs_wire.specs.declared.told.Told.{Told}
 use Rattle.std.proofs.lemmas.Option.{slice_get_within}
 use Rattle.grs_world.proofs.run.InRing.{CameInRing, IsRing, changed, each_in_ring, informed, live-there, no_such}
 use Rattle.grs_world.proofs.run.InRing.{nothing, removes_one, turn, went_on}
-use Rattle.grs_world.proofs.run.Removals.{taken_out}
+use Rattle.grs_world.proofs.run.Came.{IsSpared}
+use Rattle.grs_world.proofs.run.Chosen.{removes-none}
+use Rattle.grs_world.proofs.run.Knowing.{known_run}
+use Rattle.grs_world.proofs.move.Waiting.{change-stays}
+use Rattle.grs_world.proofs.star.Usual.{usual}
+use Rattle.grs_world.proofs.run.Removals.{gone_are_removed, taken_out}
+use Rattle.grs_world.proofs.run.Spared.{none_before, none_next}
+use Rattle.grs_world.specs.InStar.{NoneInStar}
 use Rattle.grs_world.proofs.run.Sound.{removed-told}
 use Rattle.grs_world.proofs.run.Site.{at_site}
 
@@ -143,7 +150,7 @@ desk_answers t k said = refl
 
 -- ---- one event
 module _ (deck : Deck) (begins : deck.star ≡ false) (fits : may_be_star deck ≡ true → FitsStar deck) (es : List Event)
-    (e : Event) where
+    (e : Event) (spared : NoneInStar deck (es ++ e ∷ [])) where
   abbrev w : World
   w = run deck es
 
@@ -174,7 +181,7 @@ module _ (deck : Deck) (begins : deck.star ≡ false) (fits : may_be_star deck �
   at_home here t home before behind entry q is body same =
       let m = w.medium.message in
       let mine : IsHome entry.from entry.body =
-      home_of before behind entry (subst AllHome is (all_home deck fits es)) in
+      home_of before behind entry (subst AllHome is (all_home deck fits es (none_before deck es e spared))) in
       let from : entry.from ≡ t.system =
       ap (λ (x : ℕ). let y : SysId = record { 0 = x } in y) (from_home t entry q body same mine) in
       left_at_home m.systems t.system m.entries before behind entry q
@@ -201,7 +208,8 @@ module _ (deck : Deck) (begins : deck.star ≡ false) (fits : may_be_star deck �
       where
         mine : entry.from.0 ≡ e.system.0
         mine =
-            from_home t entry q body same (home_of before behind entry (subst AllHome is (all_home deck fits es)))
+            from_home t entry q body same
+            (home_of before behind entry (subst AllHome is (all_home deck fits es (none_before deck es e spared))))
             ∙ home
 
         split : is_unseen e.system entry ≡ true
@@ -284,8 +292,6 @@ module _ (deck : Deck) (begins : deck.star ≡ false) (fits : may_be_star deck �
         by_desk o (n.done + 1) saids.VaryDone told
     by_tells H o before after (tells_no_such target next told done mode gone) each =
         by_desk o (n.done + 1) saids.VaryNoSuch told
-    by_tells H o before after (tells_in_star target next told done was now) each =
-        by_desk o (n.done + 1) saids.VaryInStar told
 
   -- ---- in ring mode
   module _ (ring : IsRing deck w) (g : GoodWorld deck es w) (n : NodeState) (at : slice_get w.nodes e.system.0 ≡ Some n)
@@ -324,8 +330,8 @@ module _ (deck : Deck) (begins : deck.star ≡ false) (fits : may_be_star deck �
     right o (changed next idle) =
         let f : FitsStar deck = fits (order-may deck n next) in
         let moved =
-        switch-moved deck begins (entries_some deck.entries f.entries) f.few w ring g.history (taken_out deck es)
-        g.before g.later g.whole g.message g.systems e.system n at there next idle in
+        switched-moved deck begins (entries_some deck.entries f.entries) f.few w ring g.history (taken_out deck es)
+        g.before g.later g.whole g.message g.systems e.system n at there next idle (known_run deck es s n at) in
         changes (history (items (w.fixed ++ fixed_by e.system []))) o moved.news
       where
         changes : (H : List HistEntry) (x : Turnout)
@@ -339,8 +345,6 @@ module _ (deck : Deck) (begins : deck.star ≡ false) (fits : may_be_star deck �
             absurd (let z : true ≡ false = mode ∙ ring.mode in cc)
         changes H x (tells_no_such target next told done mode gone) =
             absurd (let z : true ≡ false = mode ∙ ring.mode in cc)
-        changes H x (tells_in_star target next told done was now) =
-            by_desk n alive_here (g.later s) given x (n.done + 1) saids.VaryInStar told
 
   -- ---- once the medium is in star mode
   module _ (f : FitsStar deck) (g : IsChanging deck w) where
@@ -354,6 +358,9 @@ module _ (deck : Deck) (begins : deck.star ≡ false) (fits : may_be_star deck �
     module _ (unremoved : has w.medium.removed e.system.0 ≡ false) where
       lives_at : (n : NodeState) → slice_get w.nodes e.system.0 ≡ Some n → has (live w.medium) e.system.0 ≡ true
       lives_at n at = alive deck w g e.system n at unremoved
+
+      kept : (n : NodeState) → slice_get w.nodes e.system.0 ≡ Some n → IsSpared deck w.medium e.system n e.choice
+      kept n at = removes-none deck w e (none_next deck es e spared) n at unremoved
 
       -- a system that hasn't changed
       late_right : (n : NodeState) (at : slice_get w.nodes e.system.0 ≡ Some n)
@@ -378,9 +385,9 @@ module _ (deck : Deck) (begins : deck.star ≡ false) (fits : may_be_star deck �
       late_right n at h o (desk_late next) tells =
           by_desk n (lives_at n at) (g.due s) (given_star (lives_at n at)) o (n.done + 1) saids.StarAlready
           (desk-told n saids.StarAlready)
-      late_right n at h o (vary_late target next) tells =
-          by_desk n (lives_at n at) (g.due s) (given_star (lives_at n at)) o (n.done + 1) saids.VaryInStar
-          (desk-told n saids.VaryInStar)
+      late_right n at h o (vary_late target next gone) tells =
+          by_desk n (lives_at n at) (g.due s) (given_star (lives_at n at)) o (n.done + 1) saids.VaryNoSuch
+          (desk-told n saids.VaryNoSuch)
 
       star_right : (n : NodeState) (at : slice_get w.nodes e.system.0 ≡ Some n)
           → Right (placed w e.system n (chosen deck w.medium e.system n e.choice))
@@ -397,24 +404,32 @@ module _ (deck : Deck) (begins : deck.star ≡ false) (fits : may_be_star deck �
               → Right (placed w e.system m (chosen deck w.medium e.system m e.choice))
           by_shown k m here there (waits_yet x h is empty) =
               late_right x here h (chosen deck w.medium e.system x e.choice)
-              (came_late deck w g.whole.roles.mode g.closed e.system x h.alone unremoved e.choice)
-              (event-moved deck some w g e.system (inside x here) x here unremoved e.choice).news
+              (came_late deck w g.whole.roles.mode g.closed e.system x h.alone unremoved
+              (change-stays deck w g e.system x here unremoved k there h is empty (lives_at x here)
+              (known_run deck es s x here))
+              e.choice (kept x here))
+              (event-moved deck some w g e.system (inside x here) x here unremoved e.choice
+              (gone_are_removed deck es) (known_run deck es s x here) (kept x here)).news
           by_shown k m here there (has_changed none) =
               let o : Turnout = chosen deck w.medium e.system k e.choice in
               let step : IsStep deck (record w { nodes = g.view }) e.system k o =
               good_choice deck some (record w { nodes = g.view }) e.system (inside k here) k
-              (at_site there unremoved) g.whole.roles (g.whole.roles.node s k (at_site there unremoved)) e.choice in
+              (at_site there unremoved) g.whole.roles (g.whole.roles.node s k (at_site there unremoved))
+              (usual deck (record w { nodes = g.view }) g.whole e.system k (at_site there unremoved)
+              (known_run deck es s k here)) e.choice
+              (kept k here) in
               let rest : (t : TaskId) → t.system.0 ≡ s
               → Last t = λ t home.
               at_rest k (lives_at k here) (g.due s) (given_star (lives_at k here)) t home
               (ap (λ xs. is_among t (askers (own_requests s xs))) none) in
               by_tells k (lives_at k here) (g.due s) (given_star (lives_at k here))
               (history (items (w.fixed ++ fixed_by e.system o.step.fixed))) o w.medium.star o.medium.star
-              (event-moved deck some w g e.system (inside k here) k here unremoved e.choice).news
+              (event-moved deck some w g e.system (inside k here) k here unremoved e.choice
+              (gone_are_removed deck es) (known_run deck es s k here) (kept k here)).news
               (λ t home. (rest t home, subst (λ (x : Message). LeftHome t x.entries) (sym step.message) (rest t home)))
 
   answers_right : Right (happens deck w e)
-  answers_right = by_run (every_run deck fits es)
+  answers_right = by_run (every_run deck fits es (none_before deck es e spared))
     where
       idle : Right (counted w)
       idle t a =
@@ -430,7 +445,7 @@ module _ (deck : Deck) (begins : deck.star ≡ false) (fits : may_be_star deck �
       by_run (in_star f g told d) = each_live deck w e Right idle (λ n at alive. star_right f g alive n at)
 
 pub answered_last : (deck : Deck) → deck.star ≡ false → (may_be_star deck ≡ true → FitsStar deck)
-    → (es : List Event) (e : Event) → AnsweredLast deck es e
-answered_last deck begins fits es e t a =
-    subst (Right deck begins fits es e) (sym (run-push deck es (first_world deck) e))
-    (answers_right deck begins fits es e) t a
+    → (es : List Event) (e : Event) → NoneInStar deck (es ++ e ∷ []) → AnsweredLast deck es e
+answered_last deck begins fits es e none t a =
+    subst (Right deck begins fits es e none) (sym (run-push deck es (first_world deck) e))
+    (answers_right deck begins fits es e none) t a

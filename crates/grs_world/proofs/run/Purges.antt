@@ -1,7 +1,7 @@
 -- What an event removes: nobody, or the system that its choice names, where the medium answers so. It needs nothing of
 -- the run.
-use Rattle.std.proofs.Common.{◌≡◌, ℕ, Bool, true, false, cond, List, [], ◌∷◌, map, take, Option, Some, None, refl}
-use Rattle.std.proofs.Common.{length, is_some, sym, subst}
+use Rattle.std.proofs.Common.{◌≡◌, ℕ, true, false, cond, List, [], ◌∷◌, map, take, Option, Some, None, refl}
+use Rattle.std.proofs.Common.{ap, length, is_some, sym, subst}
 use Rattle.std.specs.List.{list_any}
 use Rattle.grs_base.specs.Limits.{most_additions}
 use Rattle.grs_base.specs.declared.resource.SysId.{SysId}
@@ -9,41 +9,36 @@ use Rattle.grs_base.specs.declared.resource.TaskId.{TaskId}
 use Rattle.grs_legal.specs.Asks.{lines_of}
 use Rattle.grs_legal.specs.declared.meaning.Meaning.{Meaning}
 use Rattle.grs_legal.specs.declared.meaning.Meaning.TheVariants as lines
-use Rattle.grs_medium.specs.Apply.{is_live, without_system}
+use Rattle.grs_medium.specs.Apply.{is_live, without_in_star, without_system, without_target}
 use Rattle.grs_medium.specs.Medium.{MediumState}
-use Rattle.grs_node.specs.Node.{NodeState, is_for_deck, next_order, purged, put_in, read_entries, take_mail, has_most}
-use Rattle.grs_node.specs.Star.{StarPart, StarStep, decide_own, fixing_none, request_of, took_mail}
+use Rattle.grs_node.specs.Node.{NodeState, has_most, next_order, purged, put_in, read_entries}
+use Rattle.grs_node.specs.Star.{StarPart, decide_own, request_of}
 use Rattle.grs_wire.specs.Unseen.{unseen}
 use Rattle.grs_wire.specs.Wants.{res_wanted}
 use Rattle.grs_wire.specs.declared.deck.Choice.{Choice}
 use Rattle.grs_wire.specs.declared.deck.Choice.TheVariants as choices
 use Rattle.grs_wire.specs.declared.deck.Deck.{Deck}
-use Rattle.grs_wire.specs.declared.deck.Event.{Event}
 use Rattle.grs_wire.specs.declared.deck.Order.TheVariants as orders
-use Rattle.grs_wire.specs.declared.medium.Mail.{Mail}
-use Rattle.grs_wire.specs.declared.medium.Mail.TheVariants as mails
 use Rattle.grs_wire.specs.declared.request.Fixed.{Fixed}
 use Rattle.grs_wire.specs.declared.request.Fixed.TheVariants.{Asked, LocalLook}
 use Rattle.grs_wire.specs.declared.request.Req.{Req}
 use Rattle.grs_wire.specs.declared.request.Want.{Want}
 use Rattle.grs_wire.specs.declared.request.Want.TheVariants as wants
 use Rattle.ring_mode.specs.Ring.{is_for_all}
-use Rattle.task_state.specs.View.{TasksView, state_of}
+use Rattle.task_state.specs.View.{state_of}
 use Rattle.task_state.specs.declared.state.Phase.{Phase}
 use Rattle.task_state.specs.declared.state.Phase.TheVariants as phases
 use Rattle.task_state.specs.declared.state.Rec.{Rec}
 use Rattle.grs_world.specs.Agree.{is_purge}
-use Rattle.grs_known.proofs.lists.Truths.{no_truth}
-use Rattle.grs_world.specs.World.{World, Turnout, chosen, happens, placed}
-use Rattle.grs_world.proofs.run.Each.{each_live}
+use Rattle.grs_world.specs.World.{Turnout, chosen}
 use Rattle.grs_world.proofs.run.Came as any
 use Rattle.grs_world.proofs.run.Came.{Acts, Came, acted, acts-keep, already, began, changed, decided, informed}
-use Rattle.grs_world.proofs.run.Came.{last_turn, left, rejoined, no_such, refused, removes_one, sent, settled, told}
+use Rattle.grs_world.proofs.run.Came.{last_turn, left, no_such, parted, removes_one, removes_star, sent, settled, told}
 use Rattle.grs_world.proofs.run.Came.{took, turn, went_on, Result}
 use Rattle.grs_wire.specs.Masks.{has}
 use Rattle.grs_world.specs.Fixing.{at_once, fixed_at_end, fixed_by_line, fixed_by_task, fixed_in_phase}
 use Rattle.grs_world.specs.Fixing.{fixed_when_ready}
-use Rattle.grs_world.proofs.run.Fixing.{by_task, may_go-task}
+use Rattle.grs_world.proofs.run.Fixing.{by_task, fixed-mail, may_go-task}
 use Rattle.grs_wire.proofs.WantLaws.{by_test}
 use Rattle.grs_world.proofs.run.Chosen.{came}
 
@@ -60,10 +55,6 @@ one_asked q s = refl
 all_asked : (qs : List Req) → RemovesNone (map Asked qs)
 all_asked [] s = refl
 all_asked (q ∷ qs) s = all_asked qs s
-
-either_star : (b : Bool) (x y : StarStep) → RemovesNone x.fixed → RemovesNone y.fixed → RemovesNone (cond b x y).fixed
-either_star true x y h k = h
-either_star false x y h k = k
 
 -- ---- a task goes on
 at_once-none : (t : TaskId) (w : Want) → RemovesNone (at_once t w)
@@ -103,29 +94,19 @@ task-none limit n t None = nothing
 task-none limit n t (Some ls) = phase-none limit n t ls (state_of n.tasks t).phase
 
 -- ---- what a system does by its part in star mode
-by_mail : (deck : Deck) (v : TasksView) (p : StarPart) (m : Mail) → RemovesNone (take_mail deck v p m).fixed
-unfolding took_mail
-by_mail deck v p (mails.Request e from q) =
-    either_star (is_for_deck deck (mails.Request e from q)) _ (fixing_none v p) nothing nothing
-by_mail deck v p (mails.Answered t answer rank) =
-    either_star (is_for_deck deck (mails.Answered t answer rank)) _ (fixing_none v p) nothing nothing
-by_mail deck v p (mails.Granted t r) =
-    either_star (is_for_deck deck (mails.Granted t r)) _ (fixing_none v p) nothing nothing
-by_mail deck v p (mails.Notice target moved) = nothing
-by_mail deck v p (mails.Part e from records) = nothing
-
 by_acts :
     (deck : Deck) (m : MediumState) (s : SysId) (n : NodeState) (p : StarPart) (choice : Choice) (b : Result)
     (o : Turnout)
     → Acts deck m s n p choice b o → RemovesNone o.step.fixed
 unfolding decide_own
-by_acts deck m s n p choice b o (decided t a x asked mine) = one_asked (request_of t a)
-by_acts deck m s n p choice b o (began t a x asked other none) = one_asked (request_of t a)
-by_acts deck m s n p choice b o (rejoined t a x asked other to at same) = one_asked (request_of t a)
-by_acts deck m s n p choice b o (sent t a x asked other to at apart) = nothing
-by_acts deck m s n p choice b o (took mail rest at) = by_mail deck n.tasks p mail
-by_acts deck m s n p choice b o (settled q first serving) = one_asked q
+by_acts deck m s n p choice b o (decided t a x asked to at same) = one_asked (request_of t a)
+by_acts deck m s n p choice b o (began t a x asked none) = one_asked (request_of t a)
+by_acts deck m s n p choice b o (sent t a x asked to at apart) = nothing
+by_acts deck m s n p choice b o (took mail rest at) =
+    subst RemovesNone (sym (fixed-mail deck n.known n.tasks p mail)) nothing
+by_acts deck m s n p choice b o (settled q first) = one_asked q
 by_acts deck m s n p choice b o (told e x first) = nothing
+by_acts deck m s n p choice b o (parted e to owes unknown) = nothing
 by_acts deck m s n p choice b o (left x flags free by) = nothing
 
 -- ---- what an event comes to
@@ -133,15 +114,15 @@ pub data Removes (deck : Deck) (m : MediumState) (s : SysId) (n : NodeState) (ch
     Type 0 where
   nobody : o.medium.removed ≡ m.removed → RemovesNone o.step.fixed → Removes deck m s n choice o
   one : (target : SysId) → choice ≡ choices.Purge target → next_order deck n ≡ Some (orders.Vary target)
-      → is_live m target ≡ true → m.star ≡ false →
-      o ≡ record { medium = without_system m s target; step = purged n (choices.Purge target) }
+      → is_live m target ≡ true →
+      o ≡ record { medium = without_target m s target; step = purged deck n (choices.Purge target) }
       → Removes deck m s n choice o
 
 by_came : (deck : Deck) (m : MediumState) (s : SysId) (n : NodeState) (choice : Choice) (b : Result) (o : Turnout)
     → Came deck m s n choice b o → Removes deck m s n choice o
 unfolding put_in
 by_came deck m s n choice b o (any.nothing k r silent flags) = nobody refl nothing
-by_came deck m s n choice b o (informed k known) = nobody refl nothing
+by_came deck m s n choice b o (informed k) = nobody refl nothing
 by_came deck m s n choice b o (went_on t may) =
     nobody refl (subst RemovesNone
     (sym (by_task deck.limit n t (may_go-task deck n t may) (lines_of deck t)))
@@ -152,25 +133,18 @@ by_came deck m s n choice b o (turn flags alone unclosed here) =
 by_came deck m s n choice b o (last_turn flags alone shut here) = nobody refl nothing
 by_came deck m s n choice b o (changed ring next seen) = nobody refl nothing
 by_came deck m s n choice b o (already mode next) = nobody refl nothing
-by_came deck m s n choice b o (removes_one target ring next lives) = one target refl next lives ring refl
-by_came deck m s n choice b o (no_such target ring next gone) = nobody refl nothing
-by_came deck m s n choice b o (refused target mode next) = nobody refl nothing
+by_came deck m s n choice b o (removes_one target ring next lives) =
+    one target refl next lives (ap
+    (λ (k : MediumState). let z : Turnout = record { medium = k; step = purged deck n (choices.Purge target) } in z)
+    (sym (ap (λ z. cond z (without_in_star m target) (without_system m s target)) ring)))
+by_came deck m s n choice b o (removes_star target star next lives) =
+    one target refl next lives (ap
+    (λ (k : MediumState). let z : Turnout = record { medium = k; step = purged deck n (choices.Purge target) } in z)
+    (sym (ap (λ z. cond z (without_in_star m target) (without_system m s target)) star)))
+by_came deck m s n choice b o (no_such target next gone) = nobody refl nothing
 by_came deck m s n choice b o (acted p is k r x acts) =
     nobody (acts-keep deck m s n p k r x acts).removed (by_acts deck m s n p k r x acts)
 
 pub what_removes : (deck : Deck) (m : MediumState) (s : SysId) (n : NodeState) → has m.removed s.0 ≡ false
     → (choice : Choice) → Removes deck m s n choice (chosen deck m s n choice)
 what_removes deck m s n alive choice = by_came deck m s n choice _ _ (came deck m s n alive choice)
-
--- In star mode nobody is removed any more.
-pub star_keeps : (deck : Deck) (w : World) (e : Event) → w.medium.star ≡ true
-    → (happens deck w e).medium.removed ≡ w.medium.removed
-unfolding placed
-star_keeps deck w e star =
-    each_live deck w e (λ x. x.medium.removed ≡ w.medium.removed) refl
-    (λ n at alive. by_event n (what_removes deck w.medium e.system n alive e.choice))
-  where
-    by_event : (n : NodeState) → Removes deck w.medium e.system n e.choice (chosen deck w.medium e.system n e.choice)
-        → (chosen deck w.medium e.system n e.choice).medium.removed ≡ w.medium.removed
-    by_event n (nobody kept none) = kept
-    by_event n (one target choice next lives ring is) = no_truth w.medium.star star ring

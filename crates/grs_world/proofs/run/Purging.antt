@@ -16,7 +16,7 @@ use Rattle.grs_medium.specs.Apply.{is_live, without_system}
 use Rattle.grs_medium.specs.Medium.{MediumState, live, systems_of}
 use Rattle.grs_node.proofs.Calls.{target-of}
 use Rattle.grs_node.proofs.Fits.{orders-at}
-use Rattle.grs_node.specs.Node.{NodeState, desk_of, desk_told, next_order, only, purged}
+use Rattle.grs_node.specs.Node.{NodeState, desk_of, desk_told, next_order, only}
 use Rattle.grs_wire.specs.History.{removes}
 use Rattle.grs_wire.specs.Masks.{has, with_also, lives}
 use Rattle.grs_wire.specs.declared.deck.Choice.TheVariants as choices
@@ -38,6 +38,7 @@ use Rattle.grs_known.proofs.system.Says.{own_requests}
 use Rattle.grs_world.specs.World.{World, Turnout, fixed_by, placed, run}
 use Rattle.grs_medium.proofs.LiveLaws.{has-live}
 use Rattle.grs_world.proofs.run.Growing.{fixeds, own_requests-append}
+use Rattle.grs_world.proofs.run.InRing.{removed_by}
 use Rattle.grs_world.proofs.run.InRing.{IsRing, live-there}
 use Rattle.grs_world.proofs.run.Messages.{message-removed}
 use Rattle.grs_world.proofs.run.Removals.{removed_in_history}
@@ -126,7 +127,7 @@ module _ (deck : Deck) (es : List Event) (e : Event) (ring : IsRing deck (run de
     m' = without_system (run deck es).medium e.system target
 
     abbrev o : Turnout
-    o = record { medium = without_system (run deck es).medium e.system target; step = purged n (choices.Purge target) }
+    o = record { medium = without_system (run deck es).medium e.system target; step = removed_by n target }
 
     -- the item
     abbrev x : RunItem
@@ -199,7 +200,7 @@ module _ (deck : Deck) (es : List Event) (e : Event) (ring : IsRing deck (run de
 
     pub removed_world : GoodTold deck (es ++ e ∷ []) (placed (run deck es) e.system n o)
         → GoodWorld deck (es ++ e ∷ []) (placed (run deck es) e.system n o)
-    unfolding placed purged dropped
+    unfolding placed removed_by dropped
     removed_world told = record {
       history = subst (IsHistory deck) (sym items-removed) (follows-purge deck P x g.history removal);
       told = told;
@@ -216,7 +217,7 @@ module _ (deck : Deck) (es : List Event) (e : Event) (ring : IsRing deck (run de
           ∙ map-append (λ (z : RunItem). z.fixed) (rounds P) (x ∷ []))))
           (message-removed w.medium m' c target g.before g.later P g.whole refl gone others_live g.message);
       systems =
-          by_node w.nodes c.0 n (purged n (choices.Purge target)).node at
+          by_node w.nodes c.0 n (removed_by n target).node at
           (λ u k.
           has (live m') u ≡ true
           → Seen deck u (items (w.fixed ++ fixed_by c (Purged target ∷ []))) (g.before u) (later_now u)

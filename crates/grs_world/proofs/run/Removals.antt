@@ -1,19 +1,21 @@
 -- Who is removed in a run is who was removed by what was fixed, and each removal is told by the event that fixes it.
 use Rattle.std.proofs.Common.{◌≡◌, ◌+◌, ◌-◌, ℕ, zero, suc, Bool, true, false, ◌&&◌, ◌||◌, List, [], ◌∷◌, ◌++◌, length}
-use Rattle.std.proofs.Common.{take, drop, Option, Some, None, refl, ap, sym, ◌∙◌, subst, arith, length-append}
-use Rattle.std.proofs.Common.{take-append-drop}
-use Rattle.std.specs.Prelude.{◌==◌, slice_get}
+use Rattle.std.proofs.Common.{take, drop, Option, Some, None, refl, ap, sym, ◌∙◌, subst, append-nil, append_assoc}
+use Rattle.std.proofs.Common.{◌<◌, arith, length-append, not, take-append-drop}
+use Rattle.std.specs.Prelude.{◌==◌, nat_lt, slice_get}
 use Rattle.std.specs.List.{list_any}
 use Rattle.std.proofs.Math.Bool.{or-false}
 use Rattle.std.proofs.Math.Seq.{drop-append_seam}
-use Rattle.std.proofs.lemmas.Bool.{and_from, and_parts, eqb-true, eqb-false, eq-eqb, or_left, or_right}
+use Rattle.std.proofs.lemmas.Bool.{and_from, and_parts, eqb-true, eqb-false, eq-eqb, lt-ltb, or_left, or_right}
 use Rattle.std.proofs.lemmas.List.Folds.{list_any-append}
 use Rattle.std.proofs.lemmas.Option.{same_Some}
 use Rattle.grs_base.specs.State.{State}
 use Rattle.grs_base.specs.declared.resource.SysId.{SysId}
-use Rattle.grs_medium.specs.Apply.{without_system}
+use Rattle.grs_medium.specs.Apply.{is_live, without_in_star, without_system, without_target}
+use Rattle.grs_medium.specs.Medium.{MediumState}
+use Rattle.grs_wire.proofs.WantLaws.{by_test}
 use Rattle.grs_node.specs.Log.{told_in}
-use Rattle.grs_node.specs.Node.{NodeState, next_order, purged}
+use Rattle.grs_node.specs.Node.{NodeState, desk_told, next_order, purged}
 use Rattle.grs_wire.specs.History.{removes, fixed_entries, after_fixed, answered_from, answered}
 use Rattle.grs_wire.specs.Masks.{has, with_also}
 use Rattle.grs_wire.specs.declared.deck.Choice.TheVariants as choices
@@ -24,16 +26,21 @@ use Rattle.grs_wire.specs.declared.request.Fixed.{Fixed}
 use Rattle.grs_wire.specs.declared.request.Fixed.TheVariants.{Asked, LocalLook, Purged}
 use Rattle.grs_wire.specs.declared.told.Said.TheVariants as saids
 use Rattle.grs_wire.specs.declared.told.Told.{Told}
+use Rattle.grs_wire.specs.declared.told.ToldLine.{ToldLine}
 use Rattle.grs_wire.specs.declared.told.ToldLine.TheVariants as lines
 use Rattle.grs_wire.proofs.MaskLaws.{has-zero, has-with_same, has-with_other}
 use Rattle.grs_known.proofs.known.Histories.{ask-keeps}
+use Rattle.grs_known.proofs.known.ItemLaws.{items_are_history}
 use Rattle.grs_known.proofs.lists.Truths.{false_by, no_truth}
+use Rattle.grs_known.specs.Items.{history, items}
 use Rattle.grs_world.specs.Agree.{is_purge, purges, is_removal, is_vary, order_of, fixed_in, RemovalsTold}
 use Rattle.grs_world.specs.Removing.{RemovedAreInHistory}
 use Rattle.grs_world.specs.World.{World, Turnout, chosen, placed, first_world, fixed_by, told_by, happens, run_from}
 use Rattle.grs_world.specs.World.{run}
 use Rattle.grs_world.proofs.run.Desks.{order-is}
 use Rattle.grs_world.proofs.run.Each.{each_event, each_live, each_run, run-push}
+use Rattle.grs_world.proofs.run.Laps.{goes_on}
+use Rattle.grs_world.proofs.run.Lost.{told-lost}
 use Rattle.grs_world.proofs.run.Purges.{Removes, RemovesNone, nobody, one, what_removes}
 use Rattle.grs_world.proofs.system.Desks.{desk-told}
 
@@ -42,7 +49,7 @@ use Rattle.grs_world.proofs.system.Desks.{desk-told}
 abbrev pub takes_out : SysId → List (SysId × Fixed) → Bool
 takes_out s fs = list_any (λ x. is_purge s x.1) fs
 
-one-removes : (st : State) (by : SysId) (f : Fixed) (s : SysId)
+pub one-removes : (st : State) (by : SysId) (f : Fixed) (s : SysId)
     → list_any (removes s) (fixed_entries st by f) ≡ is_purge s f
 one-removes st by (Asked q) s = ask-keeps st q.task q.want s
 one-removes st by (LocalLook t f) s = refl
@@ -96,21 +103,28 @@ module _ (deck : Deck) where
           has-with_other w.medium.removed target.0 s.0 (eqb-false s.0 target.0 is)
           ∙ (g s ∙ sym (or-false (takes_out s w.fixed)))
 
+      without-removed : (target : SysId)
+          → (without_target w.medium e.system target).removed ≡ with_also w.medium.removed target.0
+      without-removed target =
+          by_test (λ (k : MediumState). k.removed ≡ with_also w.medium.removed target.0) w.medium.star
+          (without_in_star w.medium target) (without_system w.medium e.system target) (λ star. refl) (λ ring. refl)
+
       removal : (n : NodeState) (target : SysId)
           → AreTakenOut (placed w e.system n
-          (record { medium = without_system w.medium e.system target; step = purged n (choices.Purge target) }))
+          (record { medium = without_target w.medium e.system target; step = purged deck n (choices.Purge target) }))
       removal n target s =
-          with_one target s (s.0 == target.0) refl
+          ap (λ i. has i s.0) (without-removed target)
+          ∙ (with_one target s (s.0 == target.0) refl
           ∙ sym (grown (record {
-            medium = without_system w.medium e.system target;
-            step = purged n (choices.Purge target);
+            medium = without_target w.medium e.system target;
+            step = purged deck n (choices.Purge target);
           })
-          s)
+          s))
 
       by_event : (n : NodeState) → Removes deck w.medium e.system n e.choice (chosen deck w.medium e.system n e.choice)
           → AreTakenOut (placed w e.system n (chosen deck w.medium e.system n e.choice))
       by_event n (nobody kept none) = same (chosen deck w.medium e.system n e.choice) kept none n
-      by_event n (one target choice next lives ring is) =
+      by_event n (one target choice next lives is) =
           subst (λ (o : Turnout). AreTakenOut (placed w e.system n o)) (sym is) (removal n target)
 
   taken_first : AreTakenOut (first_world deck)
@@ -122,6 +136,27 @@ module _ (deck : Deck) where
 
   pub removed_in_history : (es : List Event) → RemovedAreInHistory deck es
   removed_in_history es s = taken_out es s ∙ sym (removes-fixed (run deck es).fixed s)
+
+-- Of the systems of the deck, who isn't live any more was removed by what was fixed.
+abbrev pub GoneAreRemoved : Deck → World → Type 0
+GoneAreRemoved deck w =
+    (target : SysId) → target.0 < length deck.systems → is_live w.medium target ≡ false
+    → list_any (removes target) (history (items w.fixed)) ≡ true
+
+pub gone_are_removed : (deck : Deck) (es : List Event) → GoneAreRemoved deck (run deck es)
+gone_are_removed deck es target below out =
+    ap (list_any (removes target)) (items_are_history (run deck es).fixed).0
+    ∙ (sym (removed_in_history deck es target) ∙ was_removed (has (run deck es).medium.removed target.0) refl)
+  where
+    m : MediumState
+    m = (run deck es).medium
+
+    within : nat_lt target.0 (run deck es).medium.message.systems ≡ true
+    within = lt-ltb target.0 m.message.systems (omega (arith, below, (goes_on deck es).around))
+
+    was_removed : (b : Bool) → has (run deck es).medium.removed target.0 ≡ b → b ≡ true
+    was_removed true is = refl
+    was_removed false is = sym out ∙ (ap (λ b. b && not (has m.removed target.0)) within ∙ ap not is)
 
 -- ---- each removal is told by the event that fixes it
 dropped-all : {X : Type 0} (xs : List X) → drop (length xs) xs ≡ []
@@ -198,7 +233,7 @@ module _ (deck : Deck) where
     removal_told : (n : NodeState) (named : SysId) → slice_get w.nodes e.system.0 ≡ Some n
         → has w.medium.removed e.system.0 ≡ false → next_order deck n ≡ Some (orders.Vary named) →
         Told_in (placed w e.system n
-        (record { medium = without_system w.medium e.system named; step = purged n (choices.Purge named) }))
+        (record { medium = without_target w.medium e.system named; step = purged deck n (choices.Purge named) }))
     unfolding placed purged
     removal_told n named at alive next h =
         let c : SysId = e.system in
@@ -212,15 +247,21 @@ module _ (deck : Deck) where
         let number : (w.events + 1 == length vs + 1) ≡ true =
         eq-eqb (w.events + 1) (length vs + 1) (ap (λ k. k + 1) (counted_events vs)) in
         let line : Told = record { event = w.events + 1; system = c; line = lines.Desk (n.done + 1) saids.VaryDone } in
-        let told_is : told_by (w.events + 1) c (told_in n (purged n (choices.Purge named))) ≡ line ∷ [] =
-        ap (λ ls. told_by (w.events + 1) c (drop (length n.tasks.told) ls)) (desk-told n saids.VaryDone)
-        ∙ ap (told_by (w.events + 1) c) (drop-append_seam n.tasks.told (lines.Desk (n.done + 1) saids.VaryDone ∷ [])) in
+        let first : ToldLine = lines.Desk (n.done + 1) saids.VaryDone in
+        let left : NodeState = record (desk_told n saids.VaryDone) { known = with_also n.known named.0 } in
+        let more =
+        told-lost (n.tasks.told ++ first ∷ []) deck left (named ∷ [])
+        ([], desk-told n saids.VaryDone ∙ sym (append-nil (n.tasks.told ++ first ∷ []))) in
+        let told_is : told_in n (purged deck n (choices.Purge named)) ≡ first ∷ more.0 =
+        ap (drop (length n.tasks.told)) (more.1 ∙ append_assoc n.tasks.told (first ∷ []) more.0)
+        ∙ drop-append_seam n.tasks.told (first ∷ more.0) in
         let here : is_removal deck (length vs + 1) s target line ≡ true =
         and_from _ _ number (and_from _ _ parts.0 (ap (is_vary target) order ∙ parts.1)) in
         list_any-append (is_removal deck (length vs + 1) s target) w.told
-        (told_by (w.events + 1) c (told_in n (purged n (choices.Purge named))))
+        (told_by (w.events + 1) c (told_in n (purged deck n (choices.Purge named))))
         ∙ or_right (list_any (is_removal deck (length vs + 1) s target) w.told) _
-        (ap (list_any (is_removal deck (length vs + 1) s target)) told_is ∙ or_left _ false here)
+        (ap (λ ls. list_any (is_removal deck (length vs + 1) s target) (told_by (w.events + 1) c ls)) told_is
+        ∙ or_left _ _ here)
 
     by_event : (n : NodeState) → slice_get w.nodes e.system.0 ≡ Some n → has w.medium.removed e.system.0 ≡ false
         → (o : Turnout) → Removes deck w.medium e.system n e.choice o → Told_in (placed w e.system n o)
@@ -229,7 +270,7 @@ module _ (deck : Deck) where
         no_truth (purges s target (fixed_by e.system o.step.fixed))
         (ap (purges s target) (sym (drop-append_seam w.fixed (fixed_by e.system o.step.fixed))) ∙ h)
         (purges-none s target e.system o.step.fixed none)
-    by_event n at alive o (one named choice next lives ring is) h =
+    by_event n at alive o (one named choice next lives is) h =
         subst (λ (x : Turnout). Told_in (placed w e.system n x)) (sym is) (removal_told n named at alive next) h
 
     told_by_event : Told_in (run deck (vs ++ e ∷ []))
@@ -240,11 +281,11 @@ module _ (deck : Deck) where
         by_event n at alive (chosen deck w.medium e.system n e.choice)
         (what_removes deck w.medium e.system n alive e.choice)))
 
-  pub removals_told : ((vs : List Event) → AreHome vs) → (es : List Event) (e : ℕ)
+  pub removals_told : (es : List Event) → ((k : ℕ) → AreHome (take k es)) → (e : ℕ)
       → RemovalsTold deck e (fixed_in deck es e) (run deck es).told
-  removals_told home es zero s target h =
+  removals_told es home zero s target h =
       absurd (let none : false ≡ true = ap (purges s target) (sym (dropped-all (run deck []).fixed)) ∙ h in cc)
-  removals_told home es (suc k) s target h = go (slice_get es k) refl
+  removals_told es home (suc k) s target h = go (slice_get es k) refl
     where
       less : suc k - 1 ≡ k
       less = omega arith
@@ -269,7 +310,7 @@ module _ (deck : Deck) where
           let vs : List Event = take k es in
           let number : length vs + 1 ≡ suc k = omega (arith, more.1) in
           let told : list_any (is_removal deck (length vs + 1) s target) (run deck (vs ++ e ∷ [])).told ≡ true =
-          told_by_event vs e (home vs) s target
+          told_by_event vs e (home k) s target
           (subst (λ us. purges s target (drop (length (run deck vs).fixed) (run deck us).fixed) ≡ true) more.0 now) in
           let all : es ≡ (vs ++ e ∷ []) ++ drop (suc k) es =
           sym (take-append-drop (suc k) es) ∙ ap (λ us. us ++ drop (suc k) es) more.0 in

@@ -1,16 +1,14 @@
 -- One event of a run in ring mode, and when a run is sound.
 use Rattle.std.proofs.Common.{◌≡◌, ◌<◌, ◌+◌, ◌-◌, Bool, true, false, ℕ, zero, suc, List, [], ◌∷◌, ◌++◌, length, map}
-use Rattle.std.proofs.Common.{take, not, ◌&&◌, Some, refl, ap, sym, ◌∙◌, subst, arith, append-nil}
+use Rattle.std.proofs.Common.{take, ◌&&◌, Some, refl, ap, sym, ◌∙◌, subst, arith, append-nil}
 use Rattle.std.proofs.lemmas.Option.{same_Some}
-use Rattle.std.specs.Prelude.{slice_get, filter, nat_lt}
+use Rattle.std.specs.Prelude.{slice_get, filter}
 use Rattle.std.specs.List.{list_any}
-use Rattle.std.proofs.lemmas.Bool.{lt-ltb}
 use Rattle.grs_base.specs.declared.resource.SysId.{SysId}
 use Rattle.grs_base.specs.declared.resource.TaskId.{TaskId}
 use Rattle.grs_legal.specs.Legal.{Legal}
-use Rattle.grs_medium.specs.Apply.{is_live}
 use Rattle.grs_medium.specs.Medium.{MediumState, live, first_medium}
-use Rattle.grs_node.specs.Node.{NodeState, Step, desk_told, purged, read_entries, put_in, may_go, first_node, only}
+use Rattle.grs_node.specs.Node.{NodeState, Step, desk_told, read_entries, put_in, may_go, first_node, only}
 use Rattle.grs_node.specs.Node.{task_step}
 use Rattle.grs_base.specs.Limits.{most_additions}
 use Rattle.grs_wire.specs.Masks.{has}
@@ -38,7 +36,7 @@ use Rattle.grs_world.proofs.run.Messages.{message-same, message-turned, given-la
 use Rattle.grs_world.proofs.run.OfEvents.{told_of_events}
 use Rattle.grs_world.proofs.run.Outcomes.{Outcome, quiet_outcome, still_outcome, turn_outcome, puts}
 use Rattle.grs_world.proofs.run.Purging.{desk_world, removed_world, target-fits}
-use Rattle.grs_world.proofs.run.Removals.{AreHome, removals_told, removed_in_history}
+use Rattle.grs_world.proofs.run.Removals.{AreHome, gone_are_removed, removals_told}
 use Rattle.grs_world.proofs.run.Runs.{GoodTold, GoodWorld, GoodMessage, push, told-counted, seen_at, message_log}
 use Rattle.grs_world.proofs.system.AtNode.{Seen, seen-known}
 use Rattle.grs_world.proofs.system.Begun.{first_seen}
@@ -49,6 +47,7 @@ use Rattle.grs_known.proofs.system.Says.{own_requests, is_line_of}
 use Rattle.grs_legal.specs.Asks.{lines_of}
 use Rattle.grs_node.proofs.Keeping.{stays-task, stays-turned}
 use Rattle.grs_wire.specs.declared.request.Fixed.{Fixed}
+use Rattle.grs_world.proofs.run.InRing.{removed_by}
 use Rattle.grs_world.proofs.run.InRing.{CameInRing, IsRing, changed, informed, live-there, no_such, nothing}
 use Rattle.grs_world.proofs.run.InRing.{removes_one, turn, went_on}
 use Rattle.grs_world.proofs.run.Desks.{EventTells, tells_no_such, tells_removed, tells_tasks}
@@ -61,16 +60,16 @@ unfolding desk_told
 desk-done n said = refl
 
 pub removed-told : (n : NodeState) (target : SysId)
-    → (purged n (choices.Purge target)).node.tasks.told ≡ n.tasks.told ++ lines.Desk (n.done + 1) saids.VaryDone ∷ []
-unfolding purged
+    → (removed_by n target).node.tasks.told ≡ n.tasks.told ++ lines.Desk (n.done + 1) saids.VaryDone ∷ []
+unfolding removed_by
 removed-told n target = desk-told n saids.VaryDone
 
-pub removed-done : (n : NodeState) (target : SysId) → (purged n (choices.Purge target)).node.done ≡ n.done + 1
-unfolding purged
+pub removed-done : (n : NodeState) (target : SysId) → (removed_by n target).node.done ≡ n.done + 1
+unfolding removed_by
 removed-done n target = desk-done n saids.VaryDone
 
-pub removed-fixed : (n : NodeState) (target : SysId) → (purged n (choices.Purge target)).fixed ≡ Purged target ∷ []
-unfolding purged
+pub removed-fixed : (n : NodeState) (target : SysId) → (removed_by n target).fixed ≡ Purged target ∷ []
+unfolding removed_by
 removed-fixed n target = refl
 
 -- ---- one event, behind which the medium is still in ring mode
@@ -233,20 +232,8 @@ module _ (deck : Deck) (es : List Event) (e : Event) (ring : IsRing deck (run de
         tells_removed target next (removed-told n target) (removed-done n target) refl (removed-fixed n target)
     came_tells o (no_such target next gone) mode =
         tells_no_such target next (desk-told n saids.VaryNoSuch) (desk-done n saids.VaryNoSuch) refl (λ fit.
-        let below = (target-fits deck n target fit next).0 in
         ap (λ gs. list_any (removes target) (history (items gs))) (append-nil w.fixed)
-        ∙ (ap (list_any (removes target)) (items_are_history w.fixed).0
-        ∙ (sym (removed_in_history deck es target)
-        ∙ was_removed (lt-ltb target.0 w.medium.message.systems (omega (arith, below, ring.around))) gone)))
-      where
-        was_removed : nat_lt target.0 (run deck es).medium.message.systems ≡ true
-            → is_live (run deck es).medium target ≡ false → has (run deck es).medium.removed target.0 ≡ true
-        was_removed below out =
-            go (has w.medium.removed target.0) (sym (ap (λ b. b && not (has w.medium.removed target.0)) below) ∙ out)
-          where
-            go : (b : Bool) → (true && not b) ≡ false → b ≡ true
-            go true h = refl
-            go false h = absurd (cc)
+        ∙ gone_are_removed deck es target (target-fits deck n target fit next).0 gone)
 
 -- ---- the first world
 first_at : (deck : Deck) (k : ℕ) (ds : List SystemDef) (i : ℕ) (n : NodeState)
@@ -270,6 +257,11 @@ first_is deck s n h = (first_at deck 0 deck.systems s n h).0 ∙ ap (first_node 
   where
     zero_plus : (a : ℕ) → 0 + a ≡ a
     zero_plus a = omega arith
+
+pub first_of : (deck : Deck) (s : ℕ) (n : NodeState) → slice_get (first_world deck).nodes s ≡ Some n
+    → n ≡ first_node deck s
+unfolding first_world
+first_of deck s n at = first_is deck s n at
 
 pub first_message : (deck : Deck)
     → GoodMessage (first_medium (length deck.systems) deck.entries deck.star) [] (seen_at (λ u. []))
@@ -308,13 +300,13 @@ first_good deck = record {
 
 -- ---- So a run is sound, if what was fixed makes a history, what was told agrees, and live systems show their numbers,
 -- and the desks' commands are of other systems that are there.
-pub sound-of : (deck : Deck) → OrdersFit deck → ((us : List Event) → AreHome deck us) → (es : List Event)
+pub sound-of : (deck : Deck) → OrdersFit deck → (es : List Event) → ((k : ℕ) → AreHome deck (take k es))
     → IsHistory deck (items (run deck es).fixed) → GoodTold deck es (run deck es) → Sound deck es
-sound-of deck fit home es right told = record {
+sound-of deck fit es home right told = record {
   legal = subst (Legal deck) (items_are_history (run deck es).fixed).0 (right.legal fit);
   agree = record {
     lines = told.agree fit;
     events = told_of_events deck es;
-    removals = removals_told deck home es;
+    removals = removals_told deck es home;
   };
 }

@@ -220,11 +220,11 @@ removed_before :
     × (Agrees desks (behind [] []) (at 4 1 (Desk 2 VaryNoSuch)) → ⊥)
 removed_before = ((omega arith, refl, refl), λ a. let e : false ≡ true = a.2 in absurd (cc))
 
--- in star mode nobody is removed
+-- nothing has the cause that none is removed in star mode
 in_star :
-    Agrees desks (fixing [] (star_done ∷ [])) (at 2 0 (Desk 2 VaryInStar))
+    (Agrees desks (fixing [] (star_done ∷ [])) (at 2 0 (Desk 2 VaryInStar)) → ⊥)
     × (Agrees desks (fixing [] []) (at 2 0 (Desk 2 VaryInStar)) → ⊥)
-in_star = ((omega arith, refl, refl), λ a. let e : false ≡ true = a.2 in absurd (cc))
+in_star = (λ a. a.2, λ a. a.2)
 
 -- the lines of a desk are told in order, each once, and by its command
 desk_backwards : Agrees desks (fixing [] (at 2 0 (Desk 2 VaryNoSuch) ∷ [])) (at 3 0 (Desk 1 StarDone)) → ⊥

@@ -9,11 +9,14 @@ use Rattle.grs_base.specs.declared.resource.Ctl.TheVariants.{E, S}
 use Rattle.grs_base.specs.declared.resource.Ret.TheVariants.{RetNone}
 use Rattle.grs_medium.specs.Apply.{row, apply, turn_row, switch_row, submit_row, take_row, mail_row}
 use Rattle.grs_medium.specs.Medium.{inbox}
+use Rattle.grs_node.specs.Node.{losing}
+use Rattle.grs_node.specs.Removal.{lose_each, members_below, take_up_below}
 use Rattle.grs_node.specs.Node.{NodeState, post, ask, take_line, end_step, ready_step, phase_step, may_go, may_send}
 use Rattle.grs_node.specs.Node.{star_call, prepare, finish_quiet, finish_star, finish_call, finish, first_node}
 use Rattle.grs_node.specs.Node.{read_entries, all_sent, put_in, switched, desk_told, change_to_star}
 use Rattle.grs_node.specs.Node.{turned as system_turned}
-use Rattle.grs_node.specs.Star.{StarPart, decide_own, took_mail}
+use Rattle.grs_node.specs.Star.{StarPart, decide_own}
+use Rattle.grs_node.specs.Node.{took_mail}
 use Rattle.grs_wire.specs.LockWords.{manager, lock_word, submitted}
 use Rattle.grs_wire.specs.Masks.{has, without, with_also}
 use Rattle.grs_wire.specs.Unseen.{unseen}
@@ -150,12 +153,13 @@ pub least_manages :
     × (records_of (run changing (shared_by_both ++ switches 1 ∷ turn 0 ∷ []))
     ≡ ((1 ∷ []) ∷ []) ∷ ((2 ∷ []) ∷ []) ∷ [])
     × (elements_of (run changing (shared_by_both ++ switches 1 ∷ turn 0 ∷ [])) ≡ (1 ∷ 2 ∷ []) ∷ [] ∷ [])
-unfolding state_of with_state with_line with_phase with_outstanding with_record without_record with_told with_exclusive
-    with_rank telling tell_code record_enq after_code replied passes_wait tell_line tell_untold tell_control tell_all
-    tell_new recalled tell_answer tell_answer_any tell_answer_ranked after_mail decide_own took_mail post ask take_line
-    end_step ready_step phase_step may_go may_send star_call prepare finish_quiet finish_star finish_call finish
-    read_entries all_sent put_in switched desk_told change_to_star system_turned answer_own process process_entry has
-    without with_also manager lock_word submitted route turn_row switch_row submit_row take_row mail_row row apply
-    first_after unseen any_unseen cleared stamped turn_reply wakes rest_after_turn closed_by turned first_node
-    first_world carry_out chosen placed happens_at happens
+unfolding state_of with_state with_line with_phase with_outstanding with_record without_record with_told
+    with_exclusive with_rank telling tell_code record_enq after_code replied passes_wait tell_line tell_untold
+    tell_control tell_all tell_new recalled tell_answer tell_answer_any tell_answer_ranked after_mail decide_own
+    took_mail post ask take_line end_step ready_step phase_step may_go may_send star_call prepare finish_quiet
+    finish_star finish_call finish read_entries all_sent put_in switched desk_told change_to_star system_turned
+    answer_own process process_entry has without with_also manager lock_word submitted route turn_row switch_row
+    submit_row take_row mail_row row apply first_after unseen any_unseen cleared stamped turn_reply wakes
+    rest_after_turn closed_by turned first_node first_world carry_out chosen placed happens_at happens losing
+    members_below lose_each take_up_below
 least_manages = (refl, refl, refl, refl, refl, refl)

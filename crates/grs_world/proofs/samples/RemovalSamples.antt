@@ -7,6 +7,7 @@ use Rattle.grs_base.specs.declared.resource.Ctl.TheVariants.{E}
 use Rattle.grs_base.specs.declared.resource.Elem.{Elem}
 use Rattle.grs_base.specs.declared.resource.Ret.TheVariants.{RetNone}
 use Rattle.grs_medium.specs.Apply.{row, apply, turn_row, purge_row}
+use Rattle.grs_node.specs.Node.{losing, stale}
 use Rattle.grs_node.specs.Node.{post, ask, take_line, end_step, ready_step, phase_step, may_go, prepare, finish_quiet}
 use Rattle.grs_node.specs.Node.{finish_call, finish, first_node, read_entries, all_sent, put_in, desk_told, purged}
 use Rattle.grs_node.specs.Node.{turned as system_turned, decide, is_pending}
@@ -108,12 +109,13 @@ pub samples :
     × (map (λ x. x.mask) (run removing removed).medium.message.entries ≡ 1 ∷ 3 ∷ [])
     × (task_end (run removing removed).medium.removed (run removing removed).nodes (task_of 2 0) ≡ ends.Removed)
     × (task_end (run removing removed).medium.removed (run removing removed).nodes (task_of 0 0) ≡ ends.Open)
-unfolding state_of with_state with_line with_phase with_outstanding with_record without_record with_told with_exclusive
-    telling tell_code record_enq after_code replied passes_wait tell_line tell_untold tell_control tell_all tell_new
-    recalled tell_answer tell_answer_any tell_freed post ask take_line end_step ready_step phase_step may_go prepare
-    finish_quiet finish_call finish read_entries all_sent put_in desk_told purged system_turned answer_own process
-    process_entry has without with_also turn_row purge_row row apply first_after unseen any_unseen cleared stamped
-    turn_reply wakes rest_after_turn dropped turned first_node first_world carry_out chosen placed happens_at happens
+unfolding state_of with_state with_line with_phase with_outstanding with_record without_record with_told
+    with_exclusive telling tell_code record_enq after_code replied passes_wait tell_line tell_untold tell_control
+    tell_all tell_new recalled tell_answer tell_answer_any tell_freed post ask take_line end_step ready_step
+    phase_step may_go prepare finish_quiet finish_call finish read_entries all_sent put_in desk_told purged
+    system_turned answer_own process process_entry has without with_also turn_row purge_row row apply first_after
+    unseen any_unseen cleared stamped turn_reply wakes rest_after_turn dropped turned first_node first_world carry_out
+    chosen placed happens_at happens losing stale
 samples = (refl, refl, refl, refl, refl, refl, refl, refl, refl, refl, refl, refl, refl, refl, refl, refl, refl, refl)
 
 -- ---- at rest behind a removal
@@ -160,11 +162,11 @@ pub rests_behind :
     × (map (λ t. task_end (run bound left).medium.removed (run bound left).nodes t)
     (task_of 0 0 ∷ task_of 0 1 ∷ task_of 1 0 ∷ [])
     ≡ ends.Waits ∷ ends.Waits ∷ ends.Removed ∷ [])
-unfolding decide is_pending medium_at_end at_rest state_of with_state with_line with_phase with_outstanding with_record
-    without_record with_told with_exclusive telling tell_code record_enq after_code replied passes_wait tell_line
-    tell_untold tell_control tell_all tell_new recalled tell_answer tell_answer_any tell_freed post ask take_line
-    end_step ready_step phase_step may_go prepare finish_quiet finish_call finish read_entries all_sent put_in desk_told
-    purged system_turned answer_own process process_entry has without with_also turn_row purge_row row apply first_after
-    unseen any_unseen cleared stamped turn_reply wakes rest_after_turn dropped turned first_node first_world carry_out
-    chosen placed happens_at happens
+unfolding decide is_pending medium_at_end at_rest state_of with_state with_line with_phase with_outstanding
+    with_record without_record with_told with_exclusive telling tell_code record_enq after_code replied passes_wait
+    tell_line tell_untold tell_control tell_all tell_new recalled tell_answer tell_answer_any tell_freed post ask
+    take_line end_step ready_step phase_step may_go prepare finish_quiet finish_call finish read_entries all_sent
+    put_in desk_told purged system_turned answer_own process process_entry has without with_also turn_row purge_row
+    row apply first_after unseen any_unseen cleared stamped turn_reply wakes rest_after_turn dropped turned first_node
+    first_world carry_out chosen placed happens_at happens losing stale
 rests_behind = (refl, refl, refl, refl, refl, refl, refl)

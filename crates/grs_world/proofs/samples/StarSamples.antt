@@ -12,7 +12,8 @@ use Rattle.grs_medium.specs.Apply.{row, apply, reply_to, submit_row, take_row, m
 use Rattle.grs_medium.specs.Medium.{medium_at_end}
 use Rattle.grs_node.specs.Node.{post, ask, take_line, end_step, ready_step, phase_step, is_pending, may_go, may_send}
 use Rattle.grs_node.specs.Node.{star_call, prepare, finish_quiet, finish_star, finish_call, finish, first_node, show}
-use Rattle.grs_node.specs.Star.{decide_own, took_mail}
+use Rattle.grs_node.specs.Star.{decide_own}
+use Rattle.grs_node.specs.Node.{took_mail}
 use Rattle.grs_wire.specs.LockWords.{manager, lock_word, submitted, leave_reply, leave_changes, left_word}
 use Rattle.grs_wire.specs.Masks.{has, without, with_also}
 use Rattle.grs_wire.specs.declared.deck.Deck.{Deck}

@@ -6,6 +6,7 @@ use Rattle.grs_base.specs.declared.line.Scope.TheVariants.{Systems}
 use Rattle.grs_base.specs.declared.resource.Ctl.TheVariants.{E}
 use Rattle.grs_base.specs.declared.resource.Ret.TheVariants.{RetNone}
 use Rattle.grs_medium.specs.Apply.{row, apply, turn_row, purge_row}
+use Rattle.grs_node.specs.Node.{losing, stale}
 use Rattle.grs_node.specs.Node.{post, ask, take_line, end_step, ready_step, phase_step, may_go, prepare, finish_quiet}
 use Rattle.grs_node.specs.Node.{finish_call, finish, first_node, read_entries, all_sent, put_in, desk_told, purged}
 use Rattle.grs_node.specs.Node.{finish_star, turned as system_turned}
@@ -82,11 +83,11 @@ pub samples :
     × (lap idle (run idle removed) ≡ turn 0 ∷ turn 1 ∷ turn 1 ∷ [])
     × (reply_of idle (run idle (removed ++ turn 0 ∷ [])) (turn 1) ≡ Some (replies.Stale 4))
     × ((run idle (removed ++ turn 0 ∷ turn 1 ∷ turn 1 ∷ [])).medium.message.entries ≡ [])
-unfolding state_of with_state with_line with_phase with_outstanding with_record without_record with_told with_exclusive
-    telling tell_code record_enq after_code replied passes_wait tell_line tell_untold tell_control tell_all tell_new
-    recalled tell_answer tell_answer_any tell_freed post ask take_line end_step ready_step phase_step may_go prepare
-    finish_quiet finish_call finish read_entries all_sent put_in desk_told purged system_turned answer_own process
-    process_entry has without with_also turn_row purge_row row apply first_after unseen any_unseen cleared stamped
-    turn_reply wakes rest_after_turn dropped turned first_node first_world carry_out chosen placed happens_at happens
-    finish_star
+unfolding state_of with_state with_line with_phase with_outstanding with_record without_record with_told
+    with_exclusive telling tell_code record_enq after_code replied passes_wait tell_line tell_untold tell_control
+    tell_all tell_new recalled tell_answer tell_answer_any tell_freed post ask take_line end_step ready_step
+    phase_step may_go prepare finish_quiet finish_call finish read_entries all_sent put_in desk_told purged
+    system_turned answer_own process process_entry has without with_also turn_row purge_row row apply first_after
+    unseen any_unseen cleared stamped turn_reply wakes rest_after_turn dropped turned first_node first_world carry_out
+    chosen placed happens_at happens finish_star losing stale
 samples = (refl, refl, refl, refl, refl, refl, refl, refl, refl, refl, refl, refl)

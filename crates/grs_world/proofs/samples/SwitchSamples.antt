@@ -9,11 +9,14 @@ use Rattle.grs_base.specs.declared.resource.Ctl.TheVariants.{E}
 use Rattle.grs_base.specs.declared.resource.Elem.{Elem}
 use Rattle.grs_base.specs.declared.resource.Ret.TheVariants.{RetNone}
 use Rattle.grs_medium.specs.Apply.{row, apply, turn_row, switch_row, submit_row, take_row, mail_row}
+use Rattle.grs_node.specs.Node.{losing}
+use Rattle.grs_node.specs.Removal.{lose_each, members_below, take_up_below}
 use Rattle.grs_node.specs.Node.{post, ask, take_line, end_step, ready_step, phase_step, may_go, may_send, star_call}
 use Rattle.grs_node.specs.Node.{prepare, finish_quiet, finish_star, finish_call, finish, first_node, read_entries, show}
 use Rattle.grs_node.specs.Node.{all_sent, put_in, switched, desk_told, change_to_star, turned as system_turned}
 use Rattle.grs_node.specs.Node.{NodeState}
-use Rattle.grs_node.specs.Star.{decide_own, took_mail}
+use Rattle.grs_node.specs.Star.{decide_own}
+use Rattle.grs_node.specs.Node.{took_mail}
 use Rattle.grs_wire.specs.LockWords.{manager, lock_word, submitted}
 use Rattle.grs_wire.specs.Masks.{has, without, with_also}
 use Rattle.grs_wire.specs.declared.deck.Deck.{Deck}
@@ -115,14 +118,15 @@ pub samples :
     × (kept_after (begun ++ waits ++ turns) ≡ elem 1 ∷ elem 0 ∷ [])
     × (places changing (begun ++ waits ++ turns) (shared 66) ≡ elem 1 ∷ elem 0 ∷ [])
     × (kept_after (begun ++ waits ++ turns ++ gives) ≡ elem 0 ∷ [])
-unfolding state_of with_state with_line with_phase with_outstanding with_record without_record with_told with_exclusive
-    with_rank telling tell_code record_enq after_code replied passes_wait tell_line tell_untold tell_control tell_all
-    tell_new recalled tell_answer tell_answer_any tell_answer_ranked after_mail decide_own took_mail post ask take_line
-    end_step ready_step phase_step may_go may_send star_call prepare finish_quiet finish_star finish_call finish
-    read_entries all_sent put_in switched desk_told change_to_star system_turned answer_own process process_entry has
-    without with_also manager lock_word submitted route turn_row switch_row submit_row take_row mail_row row apply
-    first_after unseen any_unseen cleared stamped turn_reply wakes rest_after_turn closed_by turned first_node
-    first_world carry_out chosen placed happens_at happens
+unfolding state_of with_state with_line with_phase with_outstanding with_record without_record with_told
+    with_exclusive with_rank telling tell_code record_enq after_code replied passes_wait tell_line tell_untold
+    tell_control tell_all tell_new recalled tell_answer tell_answer_any tell_answer_ranked after_mail decide_own
+    took_mail post ask take_line end_step ready_step phase_step may_go may_send star_call prepare finish_quiet
+    finish_star finish_call finish read_entries all_sent put_in switched desk_told change_to_star system_turned
+    answer_own process process_entry has without with_also manager lock_word submitted route turn_row switch_row
+    submit_row take_row mail_row row apply first_after unseen any_unseen cleared stamped turn_reply wakes
+    rest_after_turn closed_by turned first_node first_world carry_out chosen placed happens_at happens losing
+    members_below lose_each take_up_below
 samples = (
   refl,
   refl,
@@ -177,12 +181,13 @@ pub slice_by_slice :
     × (outstanding (goes 1 0 ∷ switches 0 ∷ turn 1 ∷ []) ≡ asks_for 0 1 63)
     × (outstanding (goes 1 0 ∷ switches 0 ∷ turn 1 ∷ sends 1 0 ∷ []) ≡ asks_for 1 1 62)
     × (hist looking (goes 1 0 ∷ switches 0 ∷ turn 1 ∷ sends 1 0 ∷ []) ≡ Looked (task_of 1 0) (Slice 0) All [] ∷ [])
-unfolding state_of with_state with_line with_phase with_outstanding with_record without_record with_told with_exclusive
-    with_rank with_rows without_rows telling tell_code record_enq after_code replied passes_wait tell_line tell_untold
-    tell_control tell_all tell_new recalled tell_rows goes_on_looking tell_answer tell_answer_any tell_answer_ranked
-    after_mail decide_own took_mail post ask show take_line end_step ready_step phase_step may_go may_send star_call
-    prepare finish_quiet finish_star finish_call finish read_entries all_sent put_in switched desk_told change_to_star
-    system_turned answer_own process process_entry has without with_also manager lock_word submitted route turn_row
-    switch_row submit_row take_row mail_row row apply first_after unseen any_unseen cleared stamped turn_reply wakes
-    rest_after_turn closed_by turned first_node first_world carry_out chosen placed happens_at happens
+unfolding state_of with_state with_line with_phase with_outstanding with_record without_record with_told
+    with_exclusive with_rank with_rows without_rows telling tell_code record_enq after_code replied passes_wait
+    tell_line tell_untold tell_control tell_all tell_new recalled tell_rows goes_on_looking tell_answer
+    tell_answer_any tell_answer_ranked after_mail decide_own took_mail post ask show take_line end_step ready_step
+    phase_step may_go may_send star_call prepare finish_quiet finish_star finish_call finish read_entries all_sent
+    put_in switched desk_told change_to_star system_turned answer_own process process_entry has without with_also
+    manager lock_word submitted route turn_row switch_row submit_row take_row mail_row row apply first_after unseen
+    any_unseen cleared stamped turn_reply wakes rest_after_turn closed_by turned first_node first_world carry_out
+    chosen placed happens_at happens losing members_below lose_each take_up_below
 slice_by_slice = (refl, refl, refl, refl)

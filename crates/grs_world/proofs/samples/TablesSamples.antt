@@ -195,6 +195,8 @@ manages_one = record {
         Some (record { next = 2; items = record { res = shared; elem = element 1; rank = 1; untold = false } ∷ [] })
         ∷ [];
   };
+  gathers = None ∷ [];
+  owes = None ∷ [];
   held = [];
   interest = true ∷ [];
 }

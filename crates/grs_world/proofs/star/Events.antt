@@ -17,10 +17,10 @@ use Rattle.grs_base.specs.declared.resource.TaskId.{TaskId}
 use Rattle.grs_legal.specs.Asks.{lines_of}
 use Rattle.grs_medium.specs.Inboxes.{with_mail, without_first}
 use Rattle.grs_medium.specs.Medium.{MediumState, awake}
-use Rattle.grs_node.specs.Node.{NodeState, only, with_star, is_for_deck, desk_told, take_mail, task_step}
+use Rattle.grs_node.specs.Node.{NodeState, only, with_star, is_for_deck, desk_told, task_step}
 use Rattle.grs_node.specs.Star.{StarPart, StarStep, request_of, entry_for, manages, has_interest, with_interest, serves}
-use Rattle.grs_node.specs.Star.{answer_for, rank_of, may_leave, is_busy_in, is_done_with, fixing_none, decide_own}
-use Rattle.grs_node.specs.Star.{begun, with_held, took_mail, settled_first, told_by, left_at}
+use Rattle.grs_node.specs.Star.{answer_for, rank_of, is_busy_in, is_done_with, fixing_none, decide_own}
+use Rattle.grs_node.specs.Star.{told_by, left_at}
 use Rattle.lock_structure.specs.Entries.{is_entry}
 use Rattle.grs_wire.specs.LockWords.{manager, is_manager, leave_reply, interest}
 use Rattle.grs_wire.specs.Wants.{after_want}
@@ -42,6 +42,7 @@ use Rattle.task_state.specs.declared.state.Phase.TheVariants as phases
 use Rattle.task_state.specs.declared.state.Asked.{Asked}
 use Rattle.grs_known.proofs.lists.Truths.{no_truth}
 use Rattle.grs_world.specs.World.{World, Turnout, chosen}
+use Rattle.grs_world.proofs.star.Plain.{begun, may_leave, settled_first, take_mail, took_mail, with_held}
 use Rattle.grs_world.proofs.star.Members.{IsPart, IsMember, IsStar, IsStep, Moves, has_manager, all_lists, lists_after}
 use Rattle.grs_world.proofs.star.Members.{stays}
 use Rattle.grs_world.proofs.star.Roles.{part-settled, part-told, part-held, part-interest, part-place, part-left}
@@ -51,10 +52,9 @@ use Rattle.grs_world.proofs.star.Under.{under, under-other}
 use Rattle.grs_known.proofs.lists.Alike.{Alike, alike-itself, alike-none}
 use Rattle.grs_wire.specs.declared.told.Said.{Said}
 use Rattle.grs_wire.specs.declared.told.Said.TheVariants as saids
-use Rattle.grs_world.proofs.run.Came.{Acts, Came, acted, already, began, changed, decided, informed, last_turn, left}
-use Rattle.grs_world.proofs.run.Came.{rejoined, no_part, no_such, nothing, refused, removes_one, sent, settled, told}
-use Rattle.grs_world.proofs.run.Came.{took, turn, went_on, Result}
-use Rattle.std.proofs.lemmas.Option.{same_Some}
+use Rattle.grs_world.proofs.run.Came.{IsSpared}
+use Rattle.grs_world.proofs.star.Plain.{Acts, Came, IsUsual, acted, already, began, decided, informed, left, no_such}
+use Rattle.grs_world.proofs.star.Plain.{came-usual, nothing, sent, settled, told, took, went_on}
 use Rattle.grs_world.proofs.run.Chosen.{came}
 use Rattle.grs_world.proofs.run.Site.{Site}
 
@@ -150,6 +150,7 @@ module _ (deck : Deck) (some : 0 < deck.entries) (w : World) (c : SysId) (few : 
                 subst (Alike (plain (items_of (managed_at p.manager e)))) (sym (k.lists deck.entries e L))
                 (me.fits.lists e h);
             well = me.fits.well;
+            calm = me.fits.calm;
           };
         };
       }
@@ -512,7 +513,7 @@ module _ (deck : Deck) (some : 0 < deck.entries) (w : World) (c : SysId) (few : 
           })
       leaves_it flags = step words_left w.medium.inboxes flags n.tasks (left_at p x) [] refl leaves left_part
 
-  -- ---- its desk is told that the complex changed before, or is in star mode, where nobody is removed
+  -- ---- its desk is told that the complex changed before, or that there is no such system any more
   good_desk : (said : Said) → Leads (record { medium = w.medium; step = only (desk_told n said) })
   unfolding desk_told
   good_desk said = record {
@@ -525,33 +526,27 @@ module _ (deck : Deck) (some : 0 < deck.entries) (w : World) (c : SysId) (few : 
   }
 
   -- ---- whatever came of it
-  good_acts : (choice : Choice) (b : Result) (o : Turnout) → Acts deck w.medium c n me.part choice b o → Leads o
-  good_acts choice b o (decided t a x asked mine) = decides_own t a x asked.entry mine
-  good_acts choice b o (began t a x asked other none) =
+  good_acts : (o : Turnout) → Acts deck w.medium c n me.part o → Leads o
+  good_acts o (decided t a x asked mine) = decides_own t a x asked.entry mine
+  good_acts o (began t a x asked other none) =
       begins x (within (request_of t a) x asked.entry) t a asked.entry none
-  good_acts choice b o (rejoined t a x asked other to at same) =
-      no_truth (manages p x) (me.fits.roles x ∙ (ap (λ z. is_manager z (record { 0 = c.0 })) at ∙ same)) other
-  good_acts choice b o (sent t a x asked other to at apart) =
+  good_acts o (sent t a x asked other to at apart) =
       sends_away x (within (request_of t a) x asked.entry) t a to at
-  good_acts choice b o (took mail rest at) = takes mail
-  good_acts choice b o (settled q first serving) = settles q serving
-  good_acts choice b o (told e x first) = tells x
-  good_acts choice b o (left x flags free by) = leaves_it x free by flags
+  good_acts o (took mail rest at) = takes mail
+  good_acts o (settled q first serving) = settles q serving
+  good_acts o (told e x first) = tells x
+  good_acts o (left x flags free by) = leaves_it x free by flags
 
-  pub good_came : (choice : Choice) (b : Result) (o : Turnout) → Came deck w.medium c n choice b o → IsStep deck w c n o
-  good_came choice b o (nothing k r silent flags) = good_nothing flags
-  good_came choice b o (informed k known) = good_known known
-  good_came choice b o (went_on t may) = good_task t
-  good_came choice b o (turn flags alone unclosed here) = no_part n me.part me.star alone
-  good_came choice b o (last_turn flags alone shut here) = no_part n me.part me.star alone
-  good_came choice b o (changed ring next seen) = no_truth w.medium.star g.mode ring
-  good_came choice b o (already mode next) = good_desk saids.StarAlready
-  good_came choice b o (removes_one target ring next lives) = no_truth w.medium.star g.mode ring
-  good_came choice b o (no_such target ring next gone) = no_truth w.medium.star g.mode ring
-  good_came choice b o (refused target mode next) = good_desk saids.VaryInStar
-  good_came choice b o (acted q is k r x acts) =
-      good_acts choice b o
-      (subst (λ z. Acts deck w.medium c n z choice b o) (same_Some q me.part (sym is ∙ me.star)) acts)
+  pub good_came : (o : Turnout) → Came deck w.medium c n me.part o → IsStep deck w c n o
+  good_came o (nothing flags) = good_nothing flags
+  good_came o (informed known) = good_known known
+  good_came o (went_on t may) = good_task t
+  good_came o (already next) = good_desk saids.StarAlready
+  good_came o (no_such target next gone) = good_desk saids.VaryNoSuch
+  good_came o (acted x acts) = good_acts o acts
 
-  pub good_choice : (choice : Choice) → IsStep deck w c n (chosen deck w.medium c n choice)
-  good_choice choice = good_came choice _ _ (came deck w.medium c n at.live choice)
+  pub good_choice : IsUsual deck w.medium c n me.part → (choice : Choice) → IsSpared deck w.medium c n choice
+      → IsStep deck w c n (chosen deck w.medium c n choice)
+  good_choice usual choice kept =
+      good_came _ (came-usual deck w.medium c n me.part usual g.mode choice _ _ kept
+      (came deck w.medium c n at.live choice))

@@ -23,6 +23,7 @@ use Rattle.lock_structure.specs.Laws.{IsManaged, is_interested, manager_at}
 use Rattle.grs_known.specs.Items.{lists, lists_from, items, items_from}
 use Rattle.grs_known.proofs.known.Histories.{items-append}
 use Rattle.grs_known.proofs.known.ItemLaws.{lists_from-append}
+use Rattle.grs_world.proofs.star.Calm.{IsCalm}
 use Rattle.grs_world.specs.World.{World, Turnout, fixed_by, placed}
 use Rattle.grs_world.proofs.star.Under.{under}
 use Rattle.grs_known.proofs.lists.Alike.{Alike}
@@ -58,6 +59,8 @@ pub record IsPart (deck : Deck) (words : List ℕ) (L : State) (s : ℕ) (p : St
   pub lists : (e : ℕ) → manages p e ≡ true → Alike (plain (items_of (managed_at p.manager e))) (under deck.entries e L)
   -- there ranks rise, and each who is still to be told owns and is of another system
   pub well : AreWellKept p.manager
+  -- it gathers no entry, and owes no part of one
+  pub calm : IsCalm p.gathers p.owes
 
 -- What holds of the system.
 pub record IsMember (deck : Deck) (words : List ℕ) (L : State) (s : ℕ) (n : NodeState) : Type 0 where
@@ -149,6 +152,7 @@ member-other deck c words words' L L' u n ne m k = record {
         subst (Alike (plain (items_of (managed_at k.part.manager e))))
         (sym (m.lists e (alone words e mine) (alone words' e (m.managers e u ne ∙ mine)))) (k.fits.lists e h);
     well = k.fits.well;
+    calm = k.fits.calm;
   };
 }
   where

@@ -108,6 +108,7 @@ part-keeping deck words L L' s p x m held k mine now others well = record {
       (sym (kept-set p.manager.entries x e (Some m) inside))
       (list e (e == x) refl (sym (ap is_some (kept-set p.manager.entries x e (Some m) inside)) ∙ h));
   well = well;
+  calm = k.calm;
 }
   where
     inside : x < length p.manager.entries
@@ -217,6 +218,7 @@ part-held deck words L s p held k = record {
   interest = k.interest;
   lists = k.lists;
   well = k.well;
+  calm = k.calm;
 }
 
 -- ---- interest and roles
@@ -236,6 +238,7 @@ part-interest deck words words' L s p x b k inside roles interest = record {
       ∙ (ap (cond (e == x) b) (k.interest e) ∙ sym (interest e));
   lists = k.lists;
   well = k.well;
+  calm = k.calm;
 }
 
 -- It manages an entry from now on, or no longer, and gains or loses interest in it.
@@ -259,6 +262,7 @@ part-place deck words words' L s p x o b k inside roles interest kept well = rec
       subst (λ z. Alike (plain (items_of z)) (under deck.entries e L)) (sym (kept-set p.manager.entries x e o there))
       (list e (e == x) refl (sym (ap is_some (kept-set p.manager.entries x e o there)) ∙ h));
   well = well;
+  calm = k.calm;
 }
   where
     there : x < length p.manager.entries

@@ -23,6 +23,7 @@ use Rattle.lock_structure.specs.Words.{word_at}
 use Rattle.lock_structure.proofs.LawProofs.{words_begin}
 use Rattle.grs_known.proofs.lists.Facts.{slice_get-past}
 use Rattle.grs_known.proofs.lists.Truths.{no_truth}
+use Rattle.grs_world.proofs.star.Calm.{calm-first}
 use Rattle.grs_world.specs.Kept.{kept, kept_in, at_manager, at_node, managed_list, named_by}
 use Rattle.grs_world.specs.World.{World, first_world, counted}
 use Rattle.grs_world.proofs.run.Sound.{first_is}
@@ -82,6 +83,7 @@ first_fits deck s = record {
   interest = λ e. none_interested deck.entries e ∙ sym (no_interest deck.entries e s);
   lists = λ e h. subst (λ o. Alike (plain (items_of o)) []) (sym (no_managed deck.entries e)) (alike-itself []);
   well = well_kept_begins (record { 0 = s }) deck.entries;
+  calm = calm-first deck.entries;
 }
 
 first_member : (deck : Deck) (s : ℕ) → deck.star ≡ true

@@ -148,7 +148,7 @@ module _ (words : List ℕ) (x : ℕ) (c : SysId) (there : x < length words) (fe
   }
 
 -- who manages an entry has interest in it
-manager-near : (words : List ℕ) → All IsManaged words → (e s : ℕ) → has_manager words e s ≡ true
+pub manager-near : (words : List ℕ) → All IsManaged words → (e s : ℕ) → has_manager words e s ≡ true
     → is_interested words e s ≡ true
 manager-near words managed e s h = go (slice_get words e) refl
   where

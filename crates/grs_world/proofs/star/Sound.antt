@@ -7,7 +7,7 @@ use Rattle.grs_base.specs.Limits.{most_systems}
 use Rattle.grs_base.specs.declared.resource.SysId.{SysId}
 use Rattle.grs_medium.specs.Medium.{first_medium, inbox}
 use Rattle.grs_node.specs.Node.{NodeState, first_node}
-use Rattle.grs_node.specs.Star.{StarPart, first_part, manages}
+use Rattle.grs_node.specs.Star.{StarPart, first_part}
 use Rattle.grs_wire.specs.declared.deck.Choice.{Choice}
 use Rattle.grs_wire.specs.declared.deck.Deck.{Deck}
 use Rattle.grs_wire.specs.declared.medium.Mail.{Mail}
@@ -18,7 +18,7 @@ use Rattle.grs_world.proofs.star.Ghosts.{without-box}
 use Rattle.grs_world.proofs.star.Systems.{IsSystem}
 use Rattle.grs_world.proofs.star.Worlds.{IsWhole, Hands, are_live, in_hands}
 use Rattle.grs_world.proofs.star.Runs.{first_star}
-use Rattle.grs_world.proofs.star.steps.Desk.{outcome-already, outcome-refused}
+use Rattle.grs_world.proofs.star.steps.Desk.{outcome-already, outcome-no_such}
 use Rattle.grs_world.proofs.star.steps.Leave.{outcome-leave}
 use Rattle.grs_world.proofs.star.steps.Outcome.{Comes, comes-known, comes-nothing, part}
 use Rattle.grs_world.proofs.star.steps.Send.{outcome-away, outcome-began, outcome-own}
@@ -26,11 +26,12 @@ use Rattle.grs_world.proofs.star.steps.Settle.{outcome-settle}
 use Rattle.grs_world.proofs.star.steps.Take.{outcome-take}
 use Rattle.grs_world.proofs.star.steps.Task.{outcome-task}
 use Rattle.grs_world.proofs.star.steps.Tell.{outcome-tell}
-use Rattle.grs_world.proofs.run.Came.{Acts, Came, acted, already, began, changed, decided, informed, last_turn, left}
-use Rattle.grs_world.proofs.run.Came.{rejoined, no_part, no_such, nothing, refused, removes_one, sent, settled, told}
-use Rattle.grs_world.proofs.run.Came.{took, turn, went_on, Result}
-use Rattle.grs_known.proofs.lists.Truths.{no_truth}
-use Rattle.grs_wire.specs.LockWords.{is_manager}
+use Rattle.grs_world.proofs.run.Came.{IsSpared}
+use Rattle.grs_world.proofs.star.Plain.{Acts, Came, acted, already, began, decided, informed, left, no_such, nothing}
+use Rattle.grs_world.proofs.star.Plain.{came-usual, sent, settled, told, took, went_on}
+use Rattle.grs_world.proofs.star.Usual.{usual}
+use Rattle.grs_world.proofs.run.Knowing.{KnowsRemoved}
+use Rattle.grs_world.proofs.run.Removals.{GoneAreRemoved}
 use Rattle.grs_world.proofs.run.Chosen.{came}
 use Rattle.grs_world.proofs.run.Site.{Site, IsThere}
 
@@ -41,41 +42,32 @@ module _ (deck : Deck) (some : 0 < deck.entries) (w : World) (g : IsWhole deck w
   abbrev p : StarPart
   p = part deck w g c n at
 
-  acts-outcome : (choice : Choice) (b : Result) (o : Turnout)
-      → Acts deck w.medium c n (part deck w g c n at) choice b o
-      → Comes deck w g c n o
-  acts-outcome choice b o (decided t a x asked mine) =
+  acts-outcome : (o : Turnout) → Acts deck w.medium c n (part deck w g c n at) o → Comes deck w g c n o
+  acts-outcome o (decided t a x asked mine) =
       outcome-own deck some w g c inside n at t asked.may a asked.asks x asked.entry mine
-  acts-outcome choice b o (began t a x asked other none) =
+  acts-outcome o (began t a x asked other none) =
       outcome-began deck some w g c inside n at t asked.may a asked.asks x asked.entry other none
-  acts-outcome choice b o (rejoined t a x asked other to is same) =
-      no_truth (manages p x)
-      ((g.roles.node c.0 n at).fits.roles x ∙ (ap (λ z. is_manager z (record { 0 = c.0 })) is ∙ same)) other
-  acts-outcome choice b o (sent t a x asked other to is apart) =
+  acts-outcome o (sent t a x asked other to is apart) =
       outcome-away deck some w g c inside n at t asked.may a asked.asks x asked.entry other to is apart
-  acts-outcome choice b o (took mail rest is) = outcome-take deck w g c n at mail rest is
-  acts-outcome choice b o (settled q first serving) = outcome-settle deck w g c n at q first
-  acts-outcome choice b o (told e x first) = outcome-tell deck w g c n at e x first
-  acts-outcome choice b o (left x flags free by) = outcome-leave deck some w g c inside n at x free by flags
+  acts-outcome o (took mail rest is) = outcome-take deck w g c n at mail rest is
+  acts-outcome o (settled q first serving) = outcome-settle deck w g c n at q first
+  acts-outcome o (told e x first) = outcome-tell deck w g c n at e x first
+  acts-outcome o (left x flags free by) = outcome-leave deck some w g c inside n at x free by flags
 
-  came-outcome : (choice : Choice) (b : Result) (o : Turnout) → Came deck w.medium c n choice b o → Comes deck w g c n o
-  came-outcome choice b o (nothing k r silent flags) = comes-nothing deck w g c n at flags
-  came-outcome choice b o (informed k known) = comes-known deck w g c n at known
-  came-outcome choice b o (went_on t may) = outcome-task deck w g c n at t may
-  came-outcome choice b o (turn flags alone unclosed here) = no_part n p (g.roles.node c.0 n at).star alone
-  came-outcome choice b o (last_turn flags alone shut here) = no_part n p (g.roles.node c.0 n at).star alone
-  came-outcome choice b o (changed ring next seen) = no_truth w.medium.star g.roles.mode ring
-  came-outcome choice b o (already mode next) = outcome-already deck w g c n at next
-  came-outcome choice b o (removes_one target ring next lives) = no_truth w.medium.star g.roles.mode ring
-  came-outcome choice b o (no_such target ring next gone) = no_truth w.medium.star g.roles.mode ring
-  came-outcome choice b o (refused target mode next) = outcome-refused deck w g c n at target next
-  came-outcome choice b o (acted q is k r x acts) =
-      acts-outcome choice b o
-      (subst (λ z. Acts deck w.medium c n z choice b o)
-      (same_Some q p (sym is ∙ (g.roles.node c.0 n at).star)) acts)
+  came-outcome : GoneAreRemoved deck w → (o : Turnout) → Came deck w.medium c n (part deck w g c n at) o
+      → Comes deck w g c n o
+  came-outcome removed o (nothing flags) = comes-nothing deck w g c n at flags
+  came-outcome removed o (informed known) = comes-known deck w g c n at known
+  came-outcome removed o (went_on t may) = outcome-task deck w g c n at t may
+  came-outcome removed o (already next) = outcome-already deck w g c n at next
+  came-outcome removed o (no_such target next gone) = outcome-no_such deck w g c n at removed target next gone
+  came-outcome removed o (acted x acts) = acts-outcome o acts
 
-  pub outcome : (choice : Choice) → Comes deck w g c n (chosen deck w.medium c n choice)
-  outcome choice = came-outcome choice _ _ (came deck w.medium c n at.live choice)
+  pub outcome : GoneAreRemoved deck w → KnowsRemoved w.medium n → (choice : Choice) → IsSpared deck w.medium c n choice
+      → Comes deck w g c n (chosen deck w.medium c n choice)
+  outcome removed known choice kept =
+      came-outcome removed _ (came-usual deck w.medium c n p (usual deck w g c n at known) g.roles.mode choice _ _ kept
+      (came deck w.medium c n at.live choice))
 
 -- ---- the first world
 pub no_mail : (k s : ℕ) → slice_index_or (replicate {A = List Mail} k []) s [] ≡ []

@@ -8,7 +8,10 @@ use Rattle.std.proofs.lemmas.Option.{same_Some}
 use Rattle.contention_mgr.specs.Manager.{are_of, entry_of_looks, entry_wanted}
 use Rattle.lock_structure.specs.Entries.{entry_of_res, is_entry}
 use Rattle.grs_base.specs.Lists.{has_task}
+use Rattle.grs_base.specs.Same.{same_res}
 use Rattle.grs_base.specs.State.{State, list_of}
+use Rattle.grs_base.proofs.SameLaws.{same_res-exact}
+use Rattle.grs_known.proofs.lists.Truths.{no_truth}
 use Rattle.grs_base.specs.Looks.{look, is_of_place}
 use Rattle.grs_base.specs.Slices.{slice_of, entry_of}
 use Rattle.grs_base.specs.declared.look.Filter.{Filter}
@@ -66,6 +69,20 @@ under-other entries e s t (Enq r c ret full) h = part-want_other (in_entry entri
 under-other entries e s t (Deq r have) h = part-want_other (in_entry entries e) s t (Deq r have) r refl h
 under-other entries e s t (Release r) h = part-want_other (in_entry entries e) s t (Release r) r refl h
 under-other entries e s t (Look first count f) h = refl
+
+-- of other resources the elements of an entry have no list
+pub none-under : (p : Res → Bool) (s : State) (r : Res) → p r ≡ false → list_of (part p s) r ≡ []
+none-under p [] r h = refl
+none-under p (x ∷ s) r h = go (p x.0) refl (none-under p s r h)
+  where
+    here : p x.0 ≡ true → (b : Bool) → same_res r x.0 ≡ b → list_of (part p s) r ≡ []
+        → cond b (x.1 ∷ list_of (part p s) r) (list_of (part p s) r) ≡ []
+    here passes true same more = no_truth (p r) (ap p (same_res-exact r x.0 same) ∙ passes) h
+    here passes false same more = more
+
+    go : (b : Bool) → p x.0 ≡ b → list_of (part p s) r ≡ [] → list_of (cond b (x ∷ part p s) (part p s)) r ≡ []
+    go true e more = here e (same_res r x.0) refl more
+    go false e more = more
 
 pub list-under : (entries e : ℕ) (s : State) (r : Res) → in_entry entries e r ≡ true
     → list_of (under entries e s) r ≡ list_of s r

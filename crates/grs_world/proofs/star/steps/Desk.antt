@@ -1,6 +1,7 @@
--- A system's desk orders the change to star mode once more: it is told that there was one before. Or it orders a
--- removal: there is none in star mode.
-use Rattle.std.proofs.Common.{◌≡◌, ◌+◌, ◌++◌, List, [], Some, refl}
+-- A system's desk orders the change to star mode once more: it is told that there was one before. Or it orders the
+-- removal of a system that isn't there any more.
+use Rattle.std.proofs.Common.{◌≡◌, ◌+◌, ◌++◌, List, [], Some, ap, append-nil, false, refl, ◌∙◌}
+use Rattle.std.specs.List.{list_any}
 use Rattle.grs_world.proofs.star.steps.Outcome.{Comes}
 use Rattle.grs_world.proofs.star.Worlds.{Hands, IsWhole, are_live, in_hands, items-none, none_fixed, whole-placed}
 use Rattle.grs_world.proofs.star.Systems.{IsSystem}
@@ -8,7 +9,10 @@ use Rattle.grs_world.proofs.star.hearing.Gentle.{Gentle, gentle-line_told}
 use Rattle.grs_world.proofs.star.hearing.Quiet.{heard-still}
 use Rattle.grs_world.specs.World.{World, fixed_by}
 use Rattle.grs_world.proofs.system.Desks.{desk-at, desk-told}
-use Rattle.grs_world.proofs.run.Desks.{EventTells, tells_already, tells_in_star}
+use Rattle.grs_world.proofs.run.Desks.{EventTells, tells_already, tells_no_such}
+use Rattle.grs_world.proofs.run.Purging.{target-fits}
+use Rattle.grs_world.proofs.run.Removals.{GoneAreRemoved}
+use Rattle.grs_wire.specs.History.{removes}
 use Rattle.grs_wire.specs.declared.deck.Deck.{Deck}
 use Rattle.grs_wire.specs.declared.told.Said.{Said}
 use Rattle.grs_wire.specs.declared.told.Said.TheVariants as saids
@@ -17,6 +21,7 @@ use Rattle.grs_node.specs.Star.{StarPart}
 use Rattle.grs_base.specs.declared.resource.SysId.{SysId}
 use Rattle.grs_wire.specs.declared.deck.Order.TheVariants as orders
 use Rattle.grs_known.specs.Items.{RunItem, history, items}
+use Rattle.grs_medium.specs.Apply.{is_live}
 use Rattle.grs_medium.specs.Medium.{inbox}
 use Rattle.grs_world.proofs.rest.StarTasks.{IsDated, dated-by, keeps-telling}
 use Rattle.grs_world.proofs.run.Site.{Site}
@@ -83,9 +88,12 @@ module _ (deck : Deck) (w : World) (g : IsWhole deck w) (c : SysId) (n : NodeSta
       outcome-desk saids.StarAlready
       (tells_already next (desk-told n saids.StarAlready) (done-more saids.StarAlready) g.roles.mode g.roles.mode)
 
-  -- the removal of a system, which there is none of in star mode
-  pub outcome-refused : (target : SysId) → next_order deck n ≡ Some (orders.Vary target)
-      → Comes deck w g c n (record { medium = w.medium; step = only (desk_told n saids.VaryInStar) })
-  outcome-refused target next =
-      outcome-desk saids.VaryInStar
-      (tells_in_star target next (desk-told n saids.VaryInStar) (done-more saids.VaryInStar) g.roles.mode g.roles.mode)
+  -- the removal of a system that is no longer there
+  pub outcome-no_such : GoneAreRemoved deck w → (target : SysId) → next_order deck n ≡ Some (orders.Vary target)
+      → is_live w.medium target ≡ false
+      → Comes deck w g c n (record { medium = w.medium; step = only (desk_told n saids.VaryNoSuch) })
+  outcome-no_such removed target next gone =
+      outcome-desk saids.VaryNoSuch
+      (tells_no_such target next (desk-told n saids.VaryNoSuch) (done-more saids.VaryNoSuch) refl (λ fit.
+      ap (λ gs. list_any (removes target) (history (items gs))) (append-nil w.fixed)
+      ∙ removed target (target-fits deck n target fit next).0 gone))

@@ -19,7 +19,7 @@ use Rattle.grs_known.proofs.lists.Parts.{is_res_of}
 use Rattle.grs_legal.specs.Asks.{lines_of}
 use Rattle.grs_medium.specs.Medium.{MediumState, inbox}
 use Rattle.grs_node.specs.Node.{NodeState, with_star}
-use Rattle.grs_node.specs.Star.{StarPart, has_interest, is_busy_in, is_done_with, left_at, may_leave, fixing_none}
+use Rattle.grs_node.specs.Star.{StarPart, has_interest, is_busy_in, is_done_with, left_at, fixing_none}
 use Rattle.grs_wire.specs.LockWords.{interest, is_manager, leave_reply}
 use Rattle.grs_wire.specs.Masks.{has}
 use Rattle.grs_wire.specs.declared.deck.Deck.{Deck}
@@ -30,6 +30,7 @@ use Rattle.grs_known.proofs.told.News.{still-told}
 use Rattle.lock_structure.specs.Laws.{is_interested, manager_at}
 use Rattle.lock_structure.specs.Words.{left_words, word_at}
 use Rattle.lock_structure.proofs.LawProofs.{leave_manages, leave_parts, manager_is_kept}
+use Rattle.grs_world.proofs.star.Plain.{may_leave}
 use Rattle.grs_world.proofs.star.Elements.{is_near_res, near-has, near-words}
 use Rattle.grs_world.proofs.star.Events.{there_leave}
 use Rattle.grs_world.proofs.star.Leaving.{no-element, system-left}

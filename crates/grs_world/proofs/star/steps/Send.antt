@@ -16,7 +16,7 @@ use Rattle.grs_legal.specs.declared.meaning.Meaning.{Meaning}
 use Rattle.grs_medium.specs.Inboxes.{with_mail}
 use Rattle.grs_medium.specs.Medium.{awake, inbox}
 use Rattle.grs_node.specs.Node.{NodeState, may_send, is_of_deck, is_to_send, with_star}
-use Rattle.grs_node.specs.Star.{StarPart, request_of, entry_for, manages, with_interest, decide_own, begun, lists_for}
+use Rattle.grs_node.specs.Star.{StarPart, request_of, entry_for, manages, with_interest, decide_own, lists_for}
 use Rattle.grs_node.specs.Star.{answer_for, owners_by, rank_of, fixing_none}
 use Rattle.lock_structure.specs.Entries.{is_entry}
 use Rattle.grs_wire.specs.Wants.{answer_to, new_owners, res_wanted}
@@ -39,6 +39,7 @@ use Rattle.grs_known.proofs.known.ItemLaws.{lists-push}
 use Rattle.grs_known.proofs.lists.Owners.{is_among, new-owns}
 use Rattle.grs_world.specs.World.{World}
 use Rattle.grs_known.proofs.system.Asking.{are_sent}
+use Rattle.grs_world.proofs.star.Plain.{begun}
 use Rattle.grs_world.proofs.system.AtNode.{opens_of}
 use Rattle.grs_known.proofs.system.Ours.{IsOurs}
 use Rattle.grs_world.proofs.system.Puts.{home-task}

@@ -14,7 +14,7 @@ use Rattle.grs_known.proofs.lists.Owners.{is_among, new-owns}
 use Rattle.grs_medium.specs.Inboxes.{with_mail}
 use Rattle.grs_medium.specs.Medium.{MediumState, awake}
 use Rattle.grs_node.specs.Node.{NodeState, with_star}
-use Rattle.grs_node.specs.Star.{StarPart, answer_for, first_held, lists_for, owners_by, rank_of, settled_first}
+use Rattle.grs_node.specs.Star.{StarPart, answer_for, lists_for, owners_by, rank_of}
 use Rattle.grs_wire.specs.Wants.{answer_to, new_owners, res_wanted}
 use Rattle.grs_wire.specs.declared.deck.Deck.{Deck}
 use Rattle.grs_wire.specs.declared.medium.Mail.TheVariants as mails
@@ -26,6 +26,7 @@ use Rattle.grs_wire.specs.declared.request.Want.TheVariants.{Enq, Deq, Release, 
 use Rattle.grs_world.specs.World.{World, fixed_by}
 use Rattle.grs_known.proofs.told.News.{ToldNews, told-news}
 use Rattle.task_state.specs.Replies.{tell_new}
+use Rattle.grs_world.proofs.star.Plain.{settled_first}
 use Rattle.grs_world.proofs.star.Members.{IsMember, all_lists}
 use Rattle.grs_world.proofs.star.Settling.{follows-now, hand, manager-after, whole-settled}
 use Rattle.grs_world.proofs.star.Systems.{gives_want}
@@ -62,7 +63,7 @@ module _ (deck : Deck) (w : World) (g : IsWhole deck w) (c : SysId) (n : NodeSta
   T = items w.fixed
 
   -- ---- the request that it holds first
-  module _ (q : Req) (first : first_held p ≡ Some q) where
+  module _ (q : Req) (first : slice_get p.held 0 ≡ Some q) where
     abbrev item : RunItem
     item = made_item c T (fixes.Asked q)
 

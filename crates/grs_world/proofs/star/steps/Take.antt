@@ -11,8 +11,8 @@ use Rattle.grs_base.specs.declared.resource.TaskId.{TaskId}
 use Rattle.grs_base.proofs.SameLaws.{same_task-exact}
 use Rattle.grs_medium.specs.Inboxes.{without_first}
 use Rattle.grs_medium.specs.Medium.{MediumState, inbox, awake}
-use Rattle.grs_node.specs.Node.{NodeState, with_star, is_of_deck, is_for_deck, names_of_deck, take_mail}
-use Rattle.grs_node.specs.Star.{StarPart, StarStep, entry_for, manages, fixing_none, took_mail}
+use Rattle.grs_node.specs.Node.{NodeState, with_star, is_of_deck, is_for_deck, names_of_deck}
+use Rattle.grs_node.specs.Star.{StarPart, StarStep, entry_for, manages, fixing_none}
 use Rattle.lock_structure.specs.Entries.{is_entry}
 use Rattle.grs_wire.specs.declared.deck.Deck.{Deck}
 use Rattle.grs_wire.specs.declared.medium.Mail.{Mail}
@@ -31,6 +31,7 @@ use Rattle.grs_known.proofs.lists.Placed.{put_here, put_other}
 use Rattle.grs_world.specs.World.{World, Turnout, placed}
 use Rattle.grs_known.proofs.told.News.{ToldNews, told-news}
 use Rattle.grs_known.proofs.system.Says.{askers, stand_apart, none}
+use Rattle.grs_world.proofs.star.Plain.{take_mail, took_mail}
 use Rattle.grs_world.proofs.star.Answering.{others_of, without_asker, mine-others}
 use Rattle.grs_world.proofs.star.Mailed.{TookAnswer, learns, leaves, took-request, took-control, took-answer, not_here}
 use Rattle.grs_world.proofs.star.Mailed.{strange-answer, strange-control}

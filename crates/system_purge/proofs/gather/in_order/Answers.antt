@@ -1,4 +1,4 @@
-use Rattle.system_purge.proofs.Gathers.{in-order}
+use Rattle.system_purge.proofs.Counting.{in-order}
 use Rattle.system_purge.proofs.gather.in_order.Goals as goal
 
 pub returns : goal.returns

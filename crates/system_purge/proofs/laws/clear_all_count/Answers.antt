@@ -1,4 +1,4 @@
-use Rattle.system_purge.proofs.Gathers.{clear_all_count}
+use Rattle.system_purge.proofs.Counting.{clear_all_count}
 use Rattle.system_purge.proofs.laws.clear_all_count.Goals as goal
 
 pub returns : goal.returns

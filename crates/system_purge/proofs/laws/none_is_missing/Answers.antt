@@ -1,4 +1,4 @@
-use Rattle.system_purge.proofs.Gathers.{none_is_missing}
+use Rattle.system_purge.proofs.Counting.{none_is_missing}
 use Rattle.system_purge.proofs.laws.none_is_missing.Goals as goal
 
 pub returns : goal.returns

@@ -1,4 +1,4 @@
-use Rattle.system_purge.proofs.Gathers.{order_is_one}
+use Rattle.system_purge.proofs.Counting.{order_is_one}
 use Rattle.system_purge.proofs.laws.order_is_one.Goals as goal
 
 pub returns : goal.returns

@@ -11,6 +11,6 @@ returns c =
     c.self.view_is
     (λ (mail : List Mail). mail ++ c.args.mail ∷ [])
     c.push_back_reserved.new.self
-    (c.self.invariant c.args.to (ap (λ (v : InboxesValue). v.ready) c.self.view_is ∙ c.requires)).0
+    (c.self.invariant.0 c.args.to (ap (λ (v : InboxesValue). v.ready) c.self.view_is ∙ c.requires)).0
     c.index_mut-inbox.ensures.value
     c.push_back_reserved.ensures.items

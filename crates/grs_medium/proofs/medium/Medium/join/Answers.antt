@@ -1,9 +1,7 @@
 use Rattle.std.proofs.Common.{◌≡◌, ◌<◌, ℕ, List, length, ap, sym, ◌∙◌, subst}
-use Rattle.std.specs.List.{All}
-use Rattle.lock_structure.specs.Words.{ManagerIsBelow}
-use Rattle.lock_structure.proofs.WordLaws.{below-submitted_words}
-use Rattle.grs_medium.specs.Medium.{MediumState, systems_of}
+use Rattle.grs_medium.specs.Medium.{MediumState, AreWords, systems_of}
 use Rattle.grs_medium.specs.Room.{MediumValue}
+use Rattle.grs_medium.proofs.NamedLaws.{named-submitted}
 use Rattle.grs_medium.proofs.medium.Medium.join.Goals as goal
 
 pub invariant_of-self : goal.invariant_of-self
@@ -21,8 +19,8 @@ invariant_of-self c =
       c.self-2.invariant.1,
       c.self-2.invariant.2,
       subst
-          (λ (ws : List ℕ). All (ManagerIsBelow c.self-2.inside.systems) ws)
+          (λ (ws : List ℕ). AreWords c.self-2.inside.systems ws)
           (sym c.submit.ensures.words)
-          (below-submitted_words c.self-2.inside.systems c.self-2.inside.words c.args.entry c.args.caller
+          (named-submitted c.self-2.inside.systems c.self-2.inside.words c.args.entry c.args.caller
           c.self-2.invariant.1 here inside c.self-2.invariant.3),
     )

@@ -1,12 +1,10 @@
 use Rattle.std.proofs.Common.{◌≡◌, ℕ, List, replicate, rules, arith, sym, subst}
 use Rattle.std.proofs.lemmas.Grind.{common_steps}
-use Rattle.std.specs.List.{All}
-use Rattle.lock_structure.specs.Words.{ManagerIsBelow}
-use Rattle.lock_structure.proofs.WordLaws.{below-replicate}
 use Rattle.rsa_message.specs.Message.{Message}
 use Rattle.grs_medium.specs.GoesOn.{WaitsForLive}
-use Rattle.grs_medium.specs.Medium.{first_medium}
+use Rattle.grs_medium.specs.Medium.{AreWords, first_medium}
 use Rattle.grs_medium.proofs.GoesOn.{beside, start_waits}
+use Rattle.grs_medium.proofs.NamedLaws.{named-replicate}
 use Rattle.grs_medium.proofs.medium.Medium.new.Goals as goal
 
 pub invariant_of-result : goal.invariant_of-result
@@ -15,8 +13,8 @@ invariant_of-result c =
       first_of (search rules, grind (arith, common_steps)),
       first_of (search rules, grind (arith, common_steps)),
       first_of (search rules, grind (arith, common_steps)),
-      subst (λ (words : List ℕ). All (ManagerIsBelow c.args.systems) words) (sym empty)
-          (below-replicate c.args.systems c.args.entries),
+      subst (λ (words : List ℕ). AreWords c.args.systems words) (sym empty)
+          (named-replicate c.args.systems c.args.entries (omega arith)),
     )
 
 pub returns-clause-waits : goal.returns-clause-waits

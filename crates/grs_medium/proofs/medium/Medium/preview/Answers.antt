@@ -21,7 +21,7 @@ returns-clause-differs c =
     let words : All (ManagerIsBelow (systems_of m)) m.words =
     subst (λ (n : ℕ). All (ManagerIsBelow n) m.words) systems
     (subst (λ (ws : List ℕ). All (ManagerIsBelow c.self.inside.systems) ws)
-    (ap (λ (v : MediumValue). v.state.words) c.self.view_is) c.self.invariant.3) in
+    (ap (λ (v : MediumValue). v.state.words) c.self.view_is) c.self.invariant.3.managers) in
     let there = names_there m c.args.caller c.args.call.now.act boxes words c.requires.1 in
     IfOk-weaker c.preview_row.result
     (λ (shown : Reply × Bool). shown.1 ≡ changes m c.args.caller c.args.call.now)

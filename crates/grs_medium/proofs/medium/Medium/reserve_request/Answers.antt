@@ -12,5 +12,5 @@ reserve-requires c =
     subst (λ (ws : List ℕ). c.args.entry < length ws) (sym words) c.requires in
     let below : c.in-To.manager.0 < c.self.inside.systems =
     route-below c.self.inside.systems (word_at c.self.inside.words c.args.entry) c.args.caller c.in-To.manager
-    (c.self.invariant.3 c.args.entry 0 inside) (sym c.route.ensures ∙ c.in-To.is) in
+    (c.self.invariant.3.managers c.args.entry 0 inside) (sym c.route.ensures ∙ c.in-To.is) in
     subst (λ (n : ℕ). c.in-To.manager.0 < n) (sym c.self.invariant.2) below

@@ -1,5 +1,7 @@
 use Rattle.std.proofs.Common.{◌≡◌, true, ap, ◌∙◌, subst, Result, Ok, Err, IfOk}
 use Rattle.grs_node.proofs.Fits.{entries-there, prepare-addressed}
+use Rattle.grs_node.proofs.Owed.{fits-owed}
+use Rattle.grs_node.proofs.RemovalFits.{fits-orderly}
 use Rattle.grs_node.specs.Addressed.{is_addressed, NodeFits}
 use Rattle.grs_node.specs.Log.{NodeView}
 use Rattle.grs_node.specs.Node.{NodeState, prepare}
@@ -18,8 +20,18 @@ pub returns-clause-addressed : goal.returns-clause-addressed
 returns-clause-addressed c =
     subst (λ (v : NodeView). IfOk c.prepare.result (λ p. is_addressed v.deck v.node.tasks.system p ≡ true))
     c.self.view_is
-    (addressed c.self.inside.deck.now c.self.inside.state c.args.choice.now c.prepare.result c.self.invariant.2
+    (addressed c.self.inside.deck.now c.self.inside.state c.args.choice.now c.prepare.result c.self.invariant.3
     c.prepare.ensures)
 
 pub prepare-requires-clause-entries : goal.prepare-requires-clause-entries
-prepare-requires-clause-entries c = entries-there c.self.inside.deck.now c.self.inside.state c.self.invariant.2
+prepare-requires-clause-entries c = entries-there c.self.inside.deck.now c.self.inside.state c.self.invariant.3
+
+pub prepare-requires-clause-orderly : goal.prepare-requires-clause-orderly
+prepare-requires-clause-orderly c =
+    fits-orderly c.self.inside.deck.now c.self.inside.state.tasks.system c.self.inside.state.star
+    c.self.invariant.3.part
+
+pub prepare-requires-clause-owed : goal.prepare-requires-clause-owed
+prepare-requires-clause-owed c =
+    fits-owed c.self.inside.deck.now c.self.invariant.3.few c.self.inside.state.tasks.system c.self.inside.state.star
+    c.self.invariant.3.part

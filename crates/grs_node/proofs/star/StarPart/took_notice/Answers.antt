@@ -1,0 +1,9 @@
+use Rattle.std.proofs.Common.{sym, ap, subst}
+use Rattle.grs_node.specs.Removal.{Standing, standing, IsOrderly}
+use Rattle.grs_node.proofs.RemovalFits.{moved-orderly}
+use Rattle.grs_node.proofs.star.StarPart.took_notice.Goals as goal
+
+pub take_up_all-requires : goal.take_up_all-requires
+take_up_all-requires c =
+    subst IsOrderly (sym (ap (λ (x : Standing). x.part) c.in_ok-move_each.ensures.step))
+    (moved-orderly c.args.known (standing c.args.tasks.now c.args.self.now) c.args.items.now c.requires.orderly)

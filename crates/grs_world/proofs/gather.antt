@@ -1,0 +1,4 @@
+-- Removals in star mode: what holds in every run, whoever is removed.
+pub mod HeldBack
+pub mod Follows
+pub mod NeverStar

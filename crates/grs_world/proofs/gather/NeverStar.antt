@@ -1,0 +1,76 @@
+-- A run of a deck that neither begins in star mode nor has a desk that orders it is in ring mode throughout, so it
+-- removes no system in star mode.
+use Rattle.std.proofs.Common.{◌≡◌, Bool, true, false, cond, ◌&&◌, ◌||◌, List, [], ◌∷◌, ◌++◌, refl, ap, ◌∙◌, subst}
+use Rattle.std.specs.List.{list_any}
+use Rattle.std.proofs.lemmas.Bool.{or_parts}
+use Rattle.grs_base.specs.declared.resource.SysId.{SysId}
+use Rattle.grs_medium.specs.Medium.{MediumState}
+use Rattle.grs_node.specs.Node.{NodeState}
+use Rattle.grs_wire.specs.declared.deck.Choice.{Choice}
+use Rattle.grs_wire.specs.declared.deck.Deck.{Deck}
+use Rattle.grs_wire.specs.declared.deck.Event.{Event}
+use Rattle.grs_known.proofs.known.Histories.{OrdersFit}
+use Rattle.grs_known.proofs.lists.Truths.{no_truth}
+use Rattle.grs_world.proofs.gather.Follows.{live_follow}
+use Rattle.grs_world.proofs.move.Decks.{order-may}
+use Rattle.grs_world.proofs.move.Sound.{every_sound}
+use Rattle.grs_world.proofs.run.Behind.{legal_behind}
+use Rattle.grs_world.proofs.run.Came.{Came, Result, acted, acts-keep, already, changed, informed, last_turn, no_such}
+use Rattle.grs_world.proofs.run.Came.{nothing, removes_one, removes_star, turn, went_on}
+use Rattle.grs_world.proofs.run.Chosen.{each_came}
+use Rattle.grs_world.proofs.run.Each.{each_run, run-push}
+use Rattle.grs_world.specs.Decks.{FitsStar, may_be_star, orders_star}
+use Rattle.grs_world.specs.InStar.{is_purged, removals_from}
+use Rattle.grs_world.specs.Removing.{NoneFollows, reply_of}
+use Rattle.grs_world.specs.World.{Turnout, World, first_world, happens, placed, run}
+
+module _ (deck : Deck) (never : may_be_star deck ≡ false) where
+  mode-first : (first_world deck).medium.star ≡ false
+  unfolding first_world
+  mode-first = (or_parts deck.star (list_any (λ s. orders_star s.desk) deck.systems) never).0
+
+  mode-came : (m : MediumState) (s : SysId) (n : NodeState) (choice : Choice) (b : Result) (o : Turnout)
+      → Came deck m s n choice b o → m.star ≡ false → o.medium.star ≡ false
+  mode-came m s n choice b o (nothing k r silent flags) ring = ring
+  mode-came m s n choice b o (informed k) ring = ring
+  mode-came m s n choice b o (went_on t may) ring = ring
+  mode-came m s n choice b o (turn flags alone unclosed here) ring = ring
+  mode-came m s n choice b o (last_turn flags alone shut here) ring = ring
+  mode-came m s n choice b o (changed was next seen) ring = no_truth (may_be_star deck) (order-may deck n next) never
+  mode-came m s n choice b o (already mode next) ring = ring
+  mode-came m s n choice b o (removes_one target was next lives) ring = ring
+  mode-came m s n choice b o (removes_star target mode next lives) ring = ring
+  mode-came m s n choice b o (no_such target next gone) ring = ring
+  mode-came m s n choice b o (acted p is k r x acts) ring = (acts-keep deck m s n p k r x acts).star ∙ ring
+
+  mode-placed : (w : World) (c : SysId) (n : NodeState) (o : Turnout) → o.medium.star ≡ false
+      → (placed w c n o).medium.star ≡ false
+  unfolding placed
+  mode-placed w c n o ring = ring
+
+  in_ring_mode : (es : List Event) → (run deck es).medium.star ≡ false
+  in_ring_mode =
+      each_run deck (λ es (w : World). w.medium.star ≡ false) mode-first
+      (λ es e ring.
+      each_came deck (run deck es) e (λ (w : World). w.medium.star ≡ false) ring
+      (λ n b o at alive came.
+      mode-placed (run deck es) e.system n o (mode-came (run deck es).medium e.system n e.choice b o came ring)))
+
+  none-from : (es us : List Event) → removals_from deck (run deck us) es ≡ []
+  none-from [] us = refl
+  none-from (e ∷ es) us =
+      ap (λ b.
+      cond (b && is_purged (reply_of deck (run deck us) e)) ((run deck us).medium ∷ []) []
+      ++ removals_from deck (happens deck (run deck us) e) es)
+      (in_ring_mode us)
+      ∙ subst (λ (w : World). removals_from deck w es ≡ []) (run-push deck us (first_world deck) e)
+      (none-from es (us ++ e ∷ []))
+
+-- No entry of a removed system's task stands behind the removal, in whatever mode.
+pub none_follows : (deck : Deck) → (may_be_star deck ≡ true → FitsStar deck) → OrdersFit deck → (es : List Event)
+    → NoneFollows deck es
+none_follows deck fits fit es = go (may_be_star deck) refl
+  where
+    go : (b : Bool) → may_be_star deck ≡ b → NoneFollows deck es
+    go true may = live_follow deck (fits may).few fit es
+    go false never = legal_behind deck es (every_sound deck fits fit es (none-from deck never es [])).legal

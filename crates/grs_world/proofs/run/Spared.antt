@@ -1,0 +1,60 @@
+-- Runs that remove no system in star mode: so it is of each front of theirs, and of its next event.
+use Rattle.std.proofs.Common.{◌≡◌, Bool, true, false, cond, List, [], ◌∷◌, ◌++◌, refl, ap, ◌∙◌}
+use Rattle.grs_medium.specs.Medium.{MediumState}
+use Rattle.grs_wire.specs.declared.deck.Deck.{Deck}
+use Rattle.grs_wire.specs.declared.deck.Event.{Event}
+use Rattle.grs_world.specs.InStar.{NoneInStar, removals_from, removes_in_star}
+use Rattle.grs_world.specs.World.{World, first_world, happens, run, run_from}
+use Rattle.grs_world.proofs.run.Each.{each_run}
+
+no-front : {X : Type 0} (xs ys : List X) → xs ++ ys ≡ [] → xs ≡ []
+no-front [] ys h = refl
+no-front (x ∷ xs) ys h = absurd (cc)
+
+no-back : {X : Type 0} (xs ys : List X) → xs ++ ys ≡ [] → ys ≡ []
+no-back [] ys h = h
+no-back (x ∷ xs) ys h = absurd (cc)
+
+not-removed : (b : Bool) (m : MediumState) → cond b (m ∷ []) [] ≡ [] → b ≡ false
+not-removed true m h = absurd (cc)
+not-removed false m h = refl
+
+module _ (deck : Deck) where
+  -- these events and one more
+  record Both (w : World) (es : List Event) (e : Event) : Type 0 where
+    before : removals_from deck w es ≡ []
+    last : removes_in_star deck (run_from deck w es) e ≡ false
+
+  from-both : (w : World) (es : List Event) (e : Event) → removals_from deck w (es ++ e ∷ []) ≡ [] → Both w es e
+  from-both w [] e none = record {
+    before = refl;
+    last =
+        not-removed (removes_in_star deck w e) w.medium
+        (no-front (cond (removes_in_star deck w e) (w.medium ∷ []) []) [] none);
+  }
+  from-both w (x ∷ es) e none =
+      let here : List MediumState = cond (removes_in_star deck w x) (w.medium ∷ []) [] in
+      let more = from-both (happens deck w x) es e (no-back here _ none) in
+      record {
+        before =
+            ap (λ ms. ms ++ removals_from deck (happens deck w x) es) (no-front here _ none)
+            ∙ more.before;
+        last = more.last;
+      }
+
+  pub none_before : (es : List Event) (e : Event) → NoneInStar deck (es ++ e ∷ []) → NoneInStar deck es
+  none_before es e none = (from-both (first_world deck) es e none).before
+
+  pub none_next : (es : List Event) (e : Event) → NoneInStar deck (es ++ e ∷ [])
+      → removes_in_star deck (run deck es) e ≡ false
+  none_next es e none = (from-both (first_world deck) es e none).last
+
+  -- What holds of the first world, and of the world after each event that removes no system in star mode if it did
+  -- before, holds of every such run.
+  pub each_spared : (P : List Event → World → Type 0) → P [] (first_world deck)
+      → ((es : List Event) (e : Event) → NoneInStar deck (es ++ e ∷ []) → P es (run deck es)
+      → P (es ++ e ∷ []) (happens deck (run deck es) e))
+      → (es : List Event) → NoneInStar deck es → P es (run deck es)
+  each_spared P first next =
+      each_run deck (λ es w. NoneInStar deck es → P es w) (λ none. first)
+      (λ es e more none. next es e none (more (none_before es e none)))

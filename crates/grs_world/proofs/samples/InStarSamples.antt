@@ -1,0 +1,126 @@
+-- Which systems a run removes while the complex is in star mode, told by hand.
+use Rattle.std.proofs.Common.{◌≡◌, ℕ, true, false, List, [], ◌∷◌, ◌++◌, map, refl}
+use Rattle.grs_base.specs.declared.line.Line.{Line}
+use Rattle.grs_medium.specs.Apply.{rest_row, row, apply, purge_row, switch_row, turn_row}
+use Rattle.grs_node.specs.Node.{losing, stale}
+use Rattle.grs_node.specs.Removal.{lose_each, members_below, take_up_below}
+use Rattle.system_purge.specs.Purge.{tell_each, tell_freed}
+use Rattle.grs_medium.specs.Medium.{medium_at_end}
+use Rattle.grs_node.specs.Node.{prepare, finish_quiet, finish_star, finish_call, finish, first_node, read_entries}
+use Rattle.grs_node.specs.Node.{all_sent, change_to_star, desk_told, is_pending, purged, put_in, switched}
+use Rattle.grs_node.specs.Node.{turned as system_turned}
+use Rattle.task_state.specs.View.{telling}
+use Rattle.grs_wire.specs.LockWords.{manager, lock_word}
+use Rattle.grs_wire.specs.Masks.{has, without, with_also}
+use Rattle.grs_wire.specs.declared.deck.Deck.{Deck}
+use Rattle.grs_wire.specs.declared.deck.Desk.{Desk}
+use Rattle.grs_wire.specs.declared.deck.Event.{Event}
+use Rattle.grs_wire.specs.declared.deck.Order.TheVariants as orders
+use Rattle.grs_wire.specs.declared.deck.SystemDef.{SystemDef}
+use Rattle.grs_wire.specs.declared.told.Said.TheVariants.{StarAlready, StarDone, VaryDone, VaryNoSuch}
+use Rattle.grs_wire.specs.declared.told.ToldLine.TheVariants.{Desk as AtDesk}
+use Rattle.grs_wire.specs.Unseen.{unseen}
+use Rattle.ring_mode.specs.Ring.{process, process_entry}
+use Rattle.rsa_message.specs.Message.{any_unseen, cleared, closed_by, departed, dropped, first_after, rest_after_turn}
+use Rattle.rsa_message.specs.Message.{stamped, turn_reply, turned, wakes}
+use Rattle.grs_world.specs.InStar.{NoneInStar, removals_in_star, removes_in_star}
+use Rattle.grs_world.specs.Running.{at_rest}
+use Rattle.grs_world.specs.World.{first_world, carry_out, chosen, placed, happens_at, happens, run, told}
+use Rattle.grs_world.proofs.samples.Samples.{at, deck_of, rest, system, turn}
+use Rattle.grs_world.proofs.samples.RemovalSamples.{purges}
+use Rattle.grs_world.proofs.samples.StarSamples.{star_of}
+use Rattle.grs_world.proofs.samples.SwitchSamples.{switches}
+
+-- Four systems without tasks; the desk of each has these commands.
+abbrev idle : List (List (List Line))
+idle = [] ∷ [] ∷ [] ∷ [] ∷ []
+
+abbrev commanded : List Desk → Deck → Deck
+commanded desk deck = record deck { systems = map (λ (s : SystemDef). record s { desk = desk }) deck.systems }
+
+abbrev vary : ℕ → Desk
+vary target = record { at = 0; order = orders.Vary (system target) }
+
+abbrev change : Desk
+change = record { at = 0; order = orders.Star }
+
+-- which were removed already where one is removed in star mode
+abbrev removed_at : Deck → List Event → List ℕ
+removed_at deck es = map (λ m. m.removed) (removals_in_star deck es)
+
+-- In star mode the first system removes the third (1). The second doesn't know it (2), and then finds no such system
+-- (3), which removes nobody; then it removes the fourth (4).
+abbrev star : Deck
+star = commanded (vary 2 ∷ vary 3 ∷ []) (star_of idle)
+
+abbrev twice : List Event
+twice = purges 0 2 ∷ purges 1 2 ∷ purges 1 2 ∷ purges 1 3 ∷ []
+
+-- The same in ring mode, where a removal isn't one of these.
+abbrev ring : Deck
+ring = commanded (vary 2 ∷ vary 3 ∷ []) (deck_of idle)
+
+-- Here the first system removes the fourth in ring mode (1), processes that at its Turn (2), and changes the complex
+-- (3).
+-- The second system doesn't know of the removal (4), and finds no such system in star mode (5); it is told that the
+-- complex has changed (6), and then removes the third, which has yet to change, as it has itself (7).
+abbrev changing : Deck
+changing = commanded (vary 3 ∷ change ∷ vary 2 ∷ []) (deck_of idle)
+
+abbrev changed : List Event
+changed = purges 0 3 ∷ turn 0 ∷ switches 0 ∷ []
+
+abbrev behind : List Event
+behind = purges 1 3 ∷ purges 1 3 ∷ switches 1 ∷ []
+
+abbrev last : List Event
+last = purges 1 2 ∷ []
+
+-- ---- at rest
+-- Of a star of three the first system removes the second. The world isn't at rest before the third was told of that, at
+-- its next call.
+abbrev by_first : List SystemDef → List SystemDef
+by_first [] = []
+by_first (s ∷ ss) = record s { desk = vary 1 ∷ [] } ∷ ss
+
+abbrev alone : Deck
+alone = let deck : Deck = star_of ([] ∷ [] ∷ [] ∷ []) in record deck { systems = by_first deck.systems }
+
+pub rests_knowing :
+    (at_rest alone (run alone []) ≡ false)
+    × (at_rest alone (run alone (purges 0 1 ∷ [])) ≡ false)
+    × (at_rest alone (run alone (purges 0 1 ∷ rest 0 ∷ [])) ≡ false)
+    × (at_rest alone (run alone (purges 0 1 ∷ rest 2 ∷ [])) ≡ true)
+    × (map (λ n. n.known) (run alone (purges 0 1 ∷ rest 2 ∷ [])).nodes ≡ 2 ∷ 0 ∷ 2 ∷ [])
+unfolding telling is_pending all_sent change_to_star prepare finish_quiet finish_call finish finish_star first_node
+    read_entries put_in switched desk_told purged system_turned process process_entry manager lock_word has without
+    with_also purge_row switch_row turn_row row apply unseen any_unseen cleared stamped turn_reply
+    wakes rest_after_turn dropped departed turned closed_by first_after first_world carry_out chosen placed happens_at
+    happens losing members_below lose_each take_up_below stale tell_each rest_row medium_at_end at_rest
+rests_knowing = (refl, refl, refl, refl, refl)
+
+pub samples :
+    (removed_at star twice ≡ 0 ∷ 4 ∷ [])
+    × (told star twice
+    ≡ at 1 0 (AtDesk 1 VaryDone) ∷ at 3 1 (AtDesk 1 VaryNoSuch) ∷ at 4 1 (AtDesk 2 VaryDone) ∷ [])
+    × (removes_in_star star (run star []) (purges 0 2) ≡ true)
+    × (removes_in_star star (run star (purges 0 2 ∷ [])) (purges 1 2) ≡ false)
+    × (NoneInStar star [])
+    × (NoneInStar star (rest 0 ∷ purges 3 3 ∷ []))
+    -- in ring mode
+    × (NoneInStar ring twice)
+    × (told ring twice
+    ≡ at 1 0 (AtDesk 1 VaryDone) ∷ at 3 1 (AtDesk 1 VaryNoSuch) ∷ at 4 1 (AtDesk 2 VaryDone) ∷ [])
+    -- over a change of mode
+    × (NoneInStar changing (changed ++ behind))
+    × (removed_at changing (changed ++ behind ++ last) ≡ 8 ∷ [])
+    × (map (λ m. m.message.still) (removals_in_star changing (changed ++ behind ++ last)) ≡ 6 ∷ [])
+    × (told changing (changed ++ behind ++ last)
+    ≡ at 1 0 (AtDesk 1 VaryDone) ∷ at 3 0 (AtDesk 2 StarDone) ∷ at 5 1 (AtDesk 1 VaryNoSuch)
+    ∷ at 6 1 (AtDesk 2 StarAlready) ∷ at 7 1 (AtDesk 3 VaryDone) ∷ [])
+unfolding telling is_pending all_sent change_to_star prepare finish_quiet finish_call finish finish_star first_node
+    read_entries put_in switched desk_told purged system_turned process process_entry manager lock_word has without
+    with_also purge_row switch_row turn_row row apply unseen any_unseen cleared stamped turn_reply
+    wakes rest_after_turn dropped departed turned closed_by first_after first_world carry_out chosen placed happens_at
+    happens losing members_below lose_each take_up_below stale tell_each tell_freed
+samples = (refl, refl, refl, refl, refl, refl, refl, refl, refl, refl, refl, refl)
