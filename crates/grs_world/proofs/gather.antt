@@ -2,3 +2,4 @@
 pub mod HeldBack
 pub mod Follows
 pub mod NeverStar
+pub mod NeverOrdered

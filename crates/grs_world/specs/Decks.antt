@@ -1,4 +1,4 @@
--- Decks whose runs may be in star mode.
+-- Decks whose runs may be in star mode, and decks whose runs may remove a system.
 use Rattle.std.specs.Prelude.{◌≡◌, ◌≤◌, true, length, ◌||◌, Bool, false, List}
 use Rattle.grs_base.specs.Limits.{most_systems, is_entries}
 use Rattle.grs_wire.specs.declared.deck.Deck.{Deck}
@@ -18,6 +18,18 @@ orders_star ls = list_any (λ l. is_star_order l.order) ls
 -- whether a run of the deck may be in star mode: it begins so, or a system's desk orders the change
 abbrev pub may_be_star : Deck → Bool
 may_be_star deck = deck.star || list_any (λ s. orders_star s.desk) deck.systems
+
+-- whether a desk command removes a system
+abbrev pub is_removal_order : Order → Bool
+is_removal_order Star = false
+is_removal_order (Vary target) = true
+
+abbrev pub orders_removal : List Desk → Bool
+orders_removal ls = list_any (λ l. is_removal_order l.order) ls
+
+-- whether a run of the deck may remove a system: a system's desk orders it
+abbrev pub may_remove : Deck → Bool
+may_remove deck = list_any (λ s. orders_removal s.desk) deck.systems
 
 -- A deck fits star mode where it has no more systems than there may be, and one of the numbers of lock entries that
 -- there may be.

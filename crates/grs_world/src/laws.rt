@@ -15,7 +15,7 @@ ghost use Rattle.grs_world.specs.Passed.{PassedIsTold};
 ghost use Rattle.grs_world.specs.Removing.{RemovedAreInHistory, AnswersHaveCauses, RemovalsAreEntries, NoneFollows, RemovedTellNothing, RemovalsKeepOthers, MessageGoesOn};
 ghost use Rattle.grs_world.specs.Stopped.{LapsEnd};
 ghost use Rattle.grs_world.specs.Tables.{TablesAreFronts};
-ghost use Rattle.grs_world.specs.Decks.{FitsStar, may_be_star};
+ghost use Rattle.grs_world.specs.Decks.{FitsStar, may_be_star, may_remove};
 ghost use Rattle.grs_world.specs.World.{run};
 
 /// Every run is sound, in ring mode and in star mode and where it changes from the one to the other, at whatever event: its
@@ -24,6 +24,17 @@ ghost use Rattle.grs_world.specs.World.{run};
 /// and of each deck that no desk commands the removal of its own system, or of one that isn't there.
 pub fn runs_are_sound()
     ensures { (deck : Deck) → (may_be_star deck ≡ true → FitsStar deck) → AreOrders (length deck.systems) 0 deck.systems → (events : List Event) → NoneInStar deck events → Sound deck events }
+{}
+
+/// A deck that neither begins in star mode nor has a desk that orders the change to it is never in that mode, so no run of it
+/// removes a system there: whichever systems it loses, what is said of runs that remove none in star mode holds of its runs.
+pub fn decks_without_star_are_spared()
+    ensures { (deck : Deck) → may_be_star deck ≡ false → (events : List Event) → NoneInStar deck events }
+{}
+
+/// Nor does any run of a deck remove one there of which no desk orders a removal.
+pub fn decks_without_removals_are_spared()
+    ensures { (deck : Deck) → may_remove deck ≡ false → (events : List Event) → NoneInStar deck events }
 {}
 
 /// In every run of such a deck that removes no system in star mode what is kept of each Systems resource is the list that

@@ -1,6 +1,6 @@
 -- A run of a deck that neither begins in star mode nor has a desk that orders it is in ring mode throughout, so it
 -- removes no system in star mode.
-use Rattle.std.proofs.Common.{◌≡◌, Bool, true, false, cond, ◌&&◌, ◌||◌, List, [], ◌∷◌, ◌++◌, refl, ap, ◌∙◌, subst}
+use Rattle.std.proofs.Common.{◌≡◌, Bool, true, false, cond, ◌&&◌, List, [], ◌∷◌, ◌++◌, refl, ap, ◌∙◌, subst}
 use Rattle.std.specs.List.{list_any}
 use Rattle.std.proofs.lemmas.Bool.{or_parts}
 use Rattle.grs_base.specs.declared.resource.SysId.{SysId}
@@ -20,7 +20,7 @@ use Rattle.grs_world.proofs.run.Came.{nothing, removes_one, removes_star, turn, 
 use Rattle.grs_world.proofs.run.Chosen.{each_came}
 use Rattle.grs_world.proofs.run.Each.{each_run, run-push}
 use Rattle.grs_world.specs.Decks.{FitsStar, may_be_star, orders_star}
-use Rattle.grs_world.specs.InStar.{is_purged, removals_from}
+use Rattle.grs_world.specs.InStar.{NoneInStar, is_purged, removals_from}
 use Rattle.grs_world.specs.Removing.{NoneFollows, reply_of}
 use Rattle.grs_world.specs.World.{Turnout, World, first_world, happens, placed, run}
 
@@ -66,6 +66,10 @@ module _ (deck : Deck) (never : may_be_star deck ≡ false) where
       ∙ subst (λ (w : World). removals_from deck w es ≡ []) (run-push deck us (first_world deck) e)
       (none-from es (us ++ e ∷ []))
 
+-- So it removes none there.
+pub none_by_ring : (deck : Deck) → may_be_star deck ≡ false → (es : List Event) → NoneInStar deck es
+none_by_ring deck never es = none-from deck never es []
+
 -- No entry of a removed system's task stands behind the removal, in whatever mode.
 pub none_follows : (deck : Deck) → (may_be_star deck ≡ true → FitsStar deck) → OrdersFit deck → (es : List Event)
     → NoneFollows deck es
@@ -73,4 +77,4 @@ none_follows deck fits fit es = go (may_be_star deck) refl
   where
     go : (b : Bool) → may_be_star deck ≡ b → NoneFollows deck es
     go true may = live_follow deck (fits may).few fit es
-    go false never = legal_behind deck es (every_sound deck fits fit es (none-from deck never es [])).legal
+    go false never = legal_behind deck es (every_sound deck fits fit es (none_by_ring deck never es)).legal

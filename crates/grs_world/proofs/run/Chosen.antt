@@ -510,12 +510,12 @@ each_came deck w e P idle comes =
 
 -- ---- an event that removes no system in star mode
 -- the reply to its call, if it made one
-abbrev reply_in : Result → Option Reply
+abbrev pub reply_in : Result → Option Reply
 reply_in skipped = None
 reply_in by_itself = None
 reply_in (replied r) = Some r
 
-reply-in : (m : MediumState) (s : SysId) (p : Prepared) → reply_in (result_of m s p) ≡ reply_by m s (call_in p)
+pub reply-in : (m : MediumState) (s : SysId) (p : Prepared) → reply_in (result_of m s p) ≡ reply_by m s (call_in p)
 reply-in m s Nothing = refl
 reply-in m s Quiet = refl
 reply-in m s (Call call) = refl

@@ -23,6 +23,7 @@ use Rattle.grs_wire.specs.Unseen.{unseen}
 use Rattle.ring_mode.specs.Ring.{process, process_entry}
 use Rattle.rsa_message.specs.Message.{any_unseen, cleared, closed_by, departed, dropped, first_after, rest_after_turn}
 use Rattle.rsa_message.specs.Message.{stamped, turn_reply, turned, wakes}
+use Rattle.grs_world.specs.Decks.{may_remove}
 use Rattle.grs_world.specs.InStar.{NoneInStar, removals_in_star, removes_in_star}
 use Rattle.grs_world.specs.Running.{at_rest}
 use Rattle.grs_world.specs.World.{first_world, carry_out, chosen, placed, happens_at, happens, run, told}
@@ -75,6 +76,14 @@ behind = purges 1 3 ∷ purges 1 3 ∷ switches 1 ∷ []
 
 abbrev last : List Event
 last = purges 1 2 ∷ []
+
+-- ---- which decks may remove a system
+-- One does of which a desk orders a removal; the change to star mode is none.
+pub ordered :
+    (may_remove ring ≡ true)
+    × (may_remove (deck_of idle) ≡ false)
+    × (may_remove (commanded (change ∷ []) (deck_of idle)) ≡ false)
+ordered = (refl, refl, refl)
 
 -- ---- at rest
 -- Of a star of three the first system removes the second. The world isn't at rest before the third was told of that, at
