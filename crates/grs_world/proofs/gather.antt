@@ -3,3 +3,4 @@ pub mod HeldBack
 pub mod Follows
 pub mod NeverStar
 pub mod NeverOrdered
+pub mod Unchanged

@@ -8,6 +8,7 @@ pub mod Knowing
 pub mod Waits
 pub mod Laps
 pub mod GoesOn
+pub mod OwnLines
 pub mod LapsTold
 pub mod Home
 pub mod KeptPlaces

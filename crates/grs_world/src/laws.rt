@@ -1,5 +1,5 @@
 //! The laws of a run: each function's contract is one, and there is nothing to run.
-ghost use Rattle.std.specs.Prelude.{◌≡◌, ◌++◌, ◌∷◌, [], true, false, length, List};
+ghost use Rattle.std.specs.Prelude.{◌≡◌, true, false, length, List};
 ghost use Rattle.grs_wire.specs.Decks.{IsBounded, AreOrders};
 ghost use Rattle.grs_wire.specs.declared.deck.Deck.{Deck};
 ghost use Rattle.grs_wire.specs.declared.deck.Event.{Event};
@@ -91,12 +91,11 @@ pub fn requests_come_back_last()
 {}
 
 /// So an answer comes last. In every run of such a deck, where the next event gives a system a request that this system put
-/// in, which is then answered, no other system has still to process it; and, where no system is removed in star mode, by
-/// the event that tells a task an answer, no other system has still to process a request of that task that stands in the
-/// message before that event or behind it.
+/// in, which is then answered, no other system has still to process it; and by the event that tells a task an answer, no
+/// other system has still to process a request of that task that stands in the message before that event or behind it.
 pub fn answers_come_last()
     ensures given { (deck : Deck) → deck.star ≡ false → (events : List Event) (next : Event) → ProcessedLast deck events next }
-    ensures told { (deck : Deck) → deck.star ≡ false → (may_be_star deck ≡ true → FitsStar deck) → (events : List Event) (next : Event) → NoneInStar deck (events ++ next ∷ []) → AnsweredLast deck events next }
+    ensures told { (deck : Deck) → deck.star ≡ false → (may_be_star deck ≡ true → FitsStar deck) → (events : List Event) (next : Event) → AnsweredLast deck events next }
 {}
 
 /// In every run of such a deck that removes no system in star mode nothing that is passed is left untold, of whichever

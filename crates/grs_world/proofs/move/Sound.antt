@@ -27,7 +27,7 @@ use Rattle.grs_world.proofs.rest.Homes.{homes_run}
 use Rattle.grs_world.proofs.run.Chosen.{removes-none}
 use Rattle.grs_world.proofs.run.Knowing.{known_run}
 use Rattle.grs_world.proofs.run.Each.{each_live}
-use Rattle.grs_world.proofs.run.Spared.{each_spared, none_next}
+use Rattle.grs_world.proofs.run.Spared.{each_spared, none_in_ring, none_next}
 use Rattle.grs_world.specs.InStar.{NoneInStar, removes_in_star}
 use Rattle.grs_world.proofs.run.InRing.{CameInRing, IsRing, changed, count_first, each_in_ring, first_ring, informed}
 use Rattle.grs_world.proofs.run.InRing.{live-there, no_such, nothing, removes_one, ring-counted, ring-placed, turn}
@@ -208,6 +208,15 @@ pub every_run : (deck : Deck) → (may_be_star deck ≡ true → FitsStar deck) 
 every_run deck fits =
     each_spared deck (GoodRun deck) (first_run deck fits)
     (λ es e none g. next_good deck fits es e (none_next deck es e none) g)
+
+-- so is each run that is in ring mode
+pub ring_good : (deck : Deck) → (may_be_star deck ≡ true → FitsStar deck) → (es : List Event)
+    → (run deck es).medium.star ≡ false → GoodWorld deck es (run deck es)
+ring_good deck fits es ring = by_run (every_run deck fits es (none_in_ring deck es ring))
+  where
+    by_run : GoodRun deck es (run deck es) → GoodWorld deck es (run deck es)
+    by_run (in_ring begins mode g d) = g
+    by_run (in_star f g told d) = no_truth (run deck es).medium.star g.whole.roles.mode ring
 
 pub good_history : (deck : Deck) (es : List Event) (w : World) → GoodRun deck es w → IsHistory deck (items w.fixed)
 good_history deck es w (in_ring begins ring g d) = g.history

@@ -1,6 +1,6 @@
--- What holds of all that stands in the message.
+-- What holds of all that stands in the message, whichever systems are removed.
 use Rattle.std.proofs.Common.{◌≡◌, cond, Bool, true, false, ℕ, zero, suc, List, [], ◌∷◌, ◌++◌, length, map, take, Some}
-use Rattle.std.proofs.Common.{sym, subst}
+use Rattle.std.proofs.Common.{refl, sym, subst}
 use Rattle.std.specs.Prelude.{filter, slice_get, not, ◌==◌}
 use Rattle.std.specs.List.{list_all}
 use Rattle.std.proofs.lemmas.Bool.{and_parts, eqb-true}
@@ -20,16 +20,13 @@ use Rattle.rsa_message.specs.Message.{Message, stands_at, opened, never_opened, 
 use Rattle.rsa_message.specs.Message.{closed_by, departed, turned, turned_closed}
 use Rattle.grs_known.proofs.lists.Facts.{all-behind, take-none}
 use Rattle.grs_world.specs.World.{World, Turnout, placed, happens, run, first_world}
-use Rattle.grs_world.proofs.run.InRing.{CameInRing, IsRing, changed, each_in_ring, each_in_star, informed, live-there}
-use Rattle.grs_world.proofs.run.InRing.{no_such}
-use Rattle.grs_world.proofs.run.InRing.{nothing, removes_one, turn, went_on}
-use Rattle.grs_world.proofs.run.Laps.{turned_shut}
-use Rattle.grs_world.proofs.move.Changing.{IsChanging}
-use Rattle.grs_world.proofs.move.Sound.{GoodRun, every_run, in_ring, in_star}
+use Rattle.grs_world.proofs.run.Each.{each_run}
+use Rattle.grs_world.proofs.run.InRing.{CameInRing, IsRing, begins_ring, changed, each_in_ring, each_in_star, informed}
+use Rattle.grs_world.proofs.run.InRing.{is_ring, live-there, no_such, nothing, removes_one, turn, went_on}
+use Rattle.grs_world.proofs.run.Laps.{goes_on, turned_shut}
+use Rattle.grs_world.proofs.move.Sound.{ring_good}
 use Rattle.grs_world.specs.Decks.{FitsStar, may_be_star}
 use Rattle.grs_world.proofs.run.Runs.{GoodWorld}
-use Rattle.grs_world.proofs.run.Spared.{each_spared, none_before}
-use Rattle.grs_world.specs.InStar.{NoneInStar}
 use Rattle.grs_known.proofs.system.Says.{is_home_at, own_requests}
 
 -- ---- what stands in the message
@@ -100,8 +97,8 @@ module _ (deck : Deck) (fits : may_be_star deck ≡ true → FitsStar deck) wher
             (home_cleared target (run deck es).medium.message.entries h) (tt, tt)
         by_case n o at alive (no_such target next gone) = h
 
-    in_star_next : IsChanging deck (run deck es) → AllHome (happens deck (run deck es) e).medium.message.entries
-    in_star_next g = each_in_star deck (run deck es) e g.whole.roles.mode (λ m b. AllHome m.entries) h turns
+    in_star_next : (run deck es).medium.star ≡ true → AllHome (happens deck (run deck es) e).medium.message.entries
+    in_star_next mode = each_in_star deck (run deck es) e mode (λ m b. AllHome m.entries) h turns
         (λ target. home_departed (run deck es).medium.message target h)
       where
         turns : (out : List Req)
@@ -110,13 +107,19 @@ module _ (deck : Deck) (fits : may_be_star deck ≡ true → FitsStar deck) wher
         turns out =
             let old = (run deck es).medium.message in
             subst (λ (m : Message). AllHome m.entries)
-            (sym (turned_shut old e.system out (live (run deck es).medium) (run deck es).medium.rest g.closed))
+            (sym (turned_shut old e.system out (live (run deck es).medium) (run deck es).medium.rest
+            ((goes_on deck es).closed mode)))
             (by_test (λ (m : Message). AllHome m.entries) (stands_at old.holder e.system) (turned_closed old e.system)
             old (λ here. home_cleared e.system old.entries h) (λ away. h))
 
-    home_next : GoodRun deck es (run deck es) → AllHome (happens deck (run deck es) e).medium.message.entries
-    home_next (in_ring begins ring g d) = in_ring_next ring g
-    home_next (in_star f g told d) = in_star_next g
+    home_next : AllHome (happens deck (run deck es) e).medium.message.entries
+    home_next = by_mode (run deck es).medium.star refl
+      where
+        by_mode : (b : Bool) → (run deck es).medium.star ≡ b
+            → AllHome (happens deck (run deck es) e).medium.message.entries
+        by_mode true mode = in_star_next mode
+        by_mode false mode =
+            in_ring_next (is_ring deck (begins_ring deck es mode) es mode) (ring_good deck fits es mode)
 
   first_home : AllHome (first_world deck).medium.message.entries
   unfolding first_world
@@ -124,7 +127,6 @@ module _ (deck : Deck) (fits : may_be_star deck ≡ true → FitsStar deck) wher
       by_test (λ (m : Message). AllHome m.entries) deck.star (never_opened (length deck.systems))
       (opened (length deck.systems)) (λ b. tt) (λ b. tt)
 
-  pub all_home : (es : List Event) → NoneInStar deck es → AllHome (run deck es).medium.message.entries
+  pub all_home : (es : List Event) → AllHome (run deck es).medium.message.entries
   all_home =
-      each_spared deck (λ es (w : World). AllHome w.medium.message.entries) first_home
-      (λ es e none h. home_next es e h (every_run deck fits es (none_before deck es e none)))
+      each_run deck (λ es (w : World). AllHome w.medium.message.entries) first_home (λ es e h. home_next es e h)

@@ -1,10 +1,10 @@
 -- An answer is told last: by an event that tells a task an answer, every other system has processed its requests, and
 -- the event puts no request of that task in.
 use Rattle.std.proofs.Common.{◌≡◌, ◌+◌, cond, Bool, true, false, ◌||◌, ℕ, List, [], ◌∷◌, ◌++◌, length, take, drop, Some}
-use Rattle.std.proofs.Common.{refl, ap, sym, ◌∙◌, subst, append-nil, ◌<◌, arith}
-use Rattle.std.specs.Prelude.{slice_get, ◌==◌}
+use Rattle.std.proofs.Common.{None, refl, ap, sym, ◌∙◌, subst, append-nil, arith}
+use Rattle.std.specs.Prelude.{slice_get, ◌==◌, nat_lt}
 use Rattle.std.specs.List.{list_all, list_any}
-use Rattle.std.proofs.lemmas.Bool.{and_parts, eqb-true, eq-eqb, or_left, or_right}
+use Rattle.std.proofs.lemmas.Bool.{and_parts, eqb-true, eq-eqb, lt-ltb, or_left, or_right}
 use Rattle.std.proofs.Math.Seq.{drop-append_seam}
 use Rattle.std.proofs.lemmas.List.Elements.{filter-append}
 use Rattle.grs_base.specs.Same.{same_task}
@@ -12,7 +12,7 @@ use Rattle.grs_base.specs.declared.resource.SysId.{SysId}
 use Rattle.grs_base.specs.declared.resource.TaskId.{TaskId}
 use Rattle.grs_base.proofs.SameLaws.{same_task-exact, same_task-itself}
 use Rattle.grs_node.specs.Node.{NodeState, Step, put_in, read_entries}
-use Rattle.grs_base.specs.Limits.{most_additions, most_systems}
+use Rattle.grs_base.specs.Limits.{most_additions}
 use Rattle.grs_wire.specs.Masks.{has}
 use Rattle.grs_wire.specs.declared.deck.Deck.{Deck}
 use Rattle.grs_wire.specs.declared.deck.Event.{Event}
@@ -26,7 +26,7 @@ use Rattle.grs_wire.specs.declared.request.Req.{Req}
 use Rattle.grs_wire.specs.declared.told.ToldLine.{ToldLine}
 use Rattle.grs_wire.specs.declared.told.ToldLine.TheVariants as lines
 use Rattle.grs_medium.specs.Medium.{live, MediumState}
-use Rattle.rsa_message.specs.Message.{Message, stands_at}
+use Rattle.rsa_message.specs.Message.{Message, departed, stands_at}
 use Rattle.grs_wire.specs.Unseen.{is_unseen, unseen}
 use Rattle.rsa_message.proofs.OrderLaws.{stands_at-exact}
 use Rattle.grs_known.specs.Items.{RunItem, items, history}
@@ -34,35 +34,26 @@ use Rattle.grs_known.proofs.lists.Facts.{filter-cons_kept}
 use Rattle.grs_known.proofs.lists.Owners.{is_among}
 use Rattle.grs_known.proofs.lists.Truths.{no_truth, or_other}
 use Rattle.grs_world.specs.Laps.{LeftHome, answers, AnsweredLast}
-use Rattle.grs_world.specs.World.{World, Turnout, told_by, placed, happens, run, told, first_world, chosen, counted}
-use Rattle.grs_world.specs.World.{fixed_by}
+use Rattle.grs_world.specs.World.{World, Turnout, told_by, placed, happens, run, told, first_world, counted, fixed_by}
 use Rattle.grs_world.proofs.message.LapsMessage.{EndsAtHome, AllEndAtHome, left_at_home}
 use Rattle.grs_world.proofs.message.Stands.{Bodies, body_of}
 use Rattle.grs_world.proofs.message.Stands as stands
 use Rattle.grs_world.proofs.run.Answered.{Answered, answered-by, left_turned, left_behind}
 use Rattle.grs_world.proofs.run.Growing.{fixeds}
 use Rattle.grs_world.proofs.run.Laps.{goes}
-use Rattle.grs_world.proofs.run.Messages.{given-later, given-due}
+use Rattle.grs_world.proofs.run.Messages.{given-later}
 use Rattle.grs_known.proofs.told.News.{told-fewer, ToldNews}
 use Rattle.grs_world.proofs.run.Outcomes.{turn_told}
 use Rattle.grs_world.proofs.run.Runs.{GoodWorld}
-use Rattle.grs_world.proofs.run.Each.{run-push, each_live}
+use Rattle.grs_world.proofs.run.Each.{run-push}
 use Rattle.grs_known.proofs.system.Askers.{among-front, askers-append}
 use Rattle.grs_world.proofs.system.AtNode.{QuietStep, keeps, fixes}
 use Rattle.grs_world.proofs.system.Quiet.{quiet}
 use Rattle.grs_known.proofs.system.Says.{ToldBy, askers, own_asked, own_requests, is_line_of}
 use Rattle.grs_world.proofs.run.Home.{IsHome, AllHome, all_home}
-use Rattle.grs_world.proofs.run.Desks.{EventTells, tells_already, tells_done, tells_no_such}
-use Rattle.grs_world.proofs.run.Desks.{tells_removed, tells_tasks}
-use Rattle.grs_world.proofs.move.Late.{CameLate, came_late, desk_late, informed_late, nothing_late, task_late}
-use Rattle.grs_world.proofs.move.Late.{turn_late, vary_late}
-use Rattle.grs_world.proofs.move.Changing.{IsChanging, Shown, Waits, has_changed, waits_yet}
+use Rattle.grs_world.proofs.run.Desks.{EventTells, tells_already, tells_done, tells_no_such, tells_removed, tells_tasks}
 use Rattle.grs_world.proofs.move.Begin.{switched-moved}
 use Rattle.grs_world.proofs.move.Decks.{order-may}
-use Rattle.grs_world.proofs.move.Moved.{alive, event-moved}
-use Rattle.grs_world.proofs.move.Sound.{GoodRun, every_run, in_ring, in_star}
-use Rattle.grs_world.proofs.star.Events.{good_choice}
-use Rattle.grs_world.proofs.star.Members.{IsStep}
 use Rattle.grs_world.proofs.system.Desks.{desk-told}
 use Rattle.grs_world.specs.Decks.{FitsStar, may_be_star}
 use Rattle.grs_wire.proofs.DeckLaws.{entries_some}
@@ -70,18 +61,25 @@ use Rattle.grs_wire.specs.declared.told.Said.{Said}
 use Rattle.grs_wire.specs.declared.told.Said.TheVariants as saids
 use Rattle.grs_wire.specs.declared.told.Told.{Told}
 use Rattle.std.proofs.lemmas.Option.{slice_get_within}
-use Rattle.grs_world.proofs.run.InRing.{CameInRing, IsRing, changed, each_in_ring, informed, live-there, no_such}
-use Rattle.grs_world.proofs.run.InRing.{nothing, removes_one, turn, went_on}
-use Rattle.grs_world.proofs.run.Came.{IsSpared}
-use Rattle.grs_world.proofs.run.Chosen.{removes-none}
+use Rattle.grs_world.proofs.run.Came as any
+use Rattle.grs_world.proofs.run.Came.{Came, Result, acts-keep, no_part}
+use Rattle.grs_world.proofs.run.Chosen.{each_came}
+use Rattle.grs_world.proofs.run.GoesOn.{as_many}
+use Rattle.grs_world.proofs.run.InRing.{CameInRing, IsRing, changed, each_in_ring, informed, is_ring, live-there}
+use Rattle.grs_world.proofs.run.InRing.{no_such, nothing, purged-ring, removed_by, removes_one, told-ring, turn}
+use Rattle.grs_world.proofs.run.InRing.{went_on}
+use Rattle.grs_world.proofs.run.OwnLines.{TellsOwn, is_own, tells_own}
+use Rattle.grs_world.proofs.gather.Unchanged.{Meets, by_itself, has_changed, meets_run}
+use Rattle.grs_world.proofs.move.Sound.{ring_good}
+use Rattle.grs_world.proofs.rest.Homes.{homes_run}
+use Rattle.grs_medium.proofs.LiveLaws.{has-live}
+use Rattle.grs_node.specs.Star.{StarPart}
+use Rattle.grs_wire.specs.declared.deck.Choice.{Choice}
+use Rattle.grs_known.proofs.known.Histories.{IsHistory}
+use Rattle.grs_world.proofs.system.AtNode.{Seen}
 use Rattle.grs_world.proofs.run.Knowing.{known_run}
-use Rattle.grs_world.proofs.move.Waiting.{change-stays}
-use Rattle.grs_world.proofs.star.Usual.{usual}
-use Rattle.grs_world.proofs.run.Removals.{gone_are_removed, taken_out}
-use Rattle.grs_world.proofs.run.Spared.{none_before, none_next}
-use Rattle.grs_world.specs.InStar.{NoneInStar}
+use Rattle.grs_world.proofs.run.Removals.{taken_out}
 use Rattle.grs_world.proofs.run.Sound.{removed-told}
-use Rattle.grs_world.proofs.run.Site.{at_site}
 
 -- ---- the entries of the message, one of them
 home_of : (before behind : List RingEntry) (e : RingEntry) → AllHome (before ++ e ∷ behind) → IsHome e.from e.body
@@ -148,9 +146,26 @@ lines_home s t (l ∷ ls) mine a = go (answers t l) refl (lines_home s t ls (and
 desk_answers : (t : TaskId) (k : ℕ) (said : Said) → list_any (answers t) (lines.Desk k said ∷ []) ≡ false
 desk_answers t k said = refl
 
+-- nor do they answer any but the system's own where it tells its own tasks besides
+own_answered : (s : ℕ) (t : TaskId) (l : ToldLine) → is_own s l ≡ true → answers t l ≡ true → t.system.0 ≡ s
+own_answered s t (lines.Coded u k part verb code) mine a = same_system s t u a mine
+own_answered s t (lines.Shown u k verb code rows) mine a = same_system s t u a mine
+own_answered s t (lines.Post u k) mine a = cc
+own_answered s t (lines.Ended u code) mine a = cc
+own_answered s t (lines.Desk k said) mine a = cc
+
+own_home : (s : ℕ) (t : TaskId) (ls : List ToldLine) → list_all (is_own s) ls ≡ true
+    → list_any (answers t) ls ≡ true → t.system.0 ≡ s
+own_home s t [] mine a = cc
+own_home s t (l ∷ ls) mine a = go (answers t l) refl (own_home s t ls (and_parts _ _ mine).1)
+  where
+    go : (b : Bool) → answers t l ≡ b → (list_any (answers t) ls ≡ true → t.system.0 ≡ s) → t.system.0 ≡ s
+    go true is later = own_answered s t l (and_parts _ _ mine).0 is
+    go false is later = later (or_other (answers t l) (list_any (answers t) ls) a is)
+
 -- ---- one event
 module _ (deck : Deck) (begins : deck.star ≡ false) (fits : may_be_star deck ≡ true → FitsStar deck) (es : List Event)
-    (e : Event) (spared : NoneInStar deck (es ++ e ∷ [])) where
+    (e : Event) where
   abbrev w : World
   w = run deck es
 
@@ -181,7 +196,7 @@ module _ (deck : Deck) (begins : deck.star ≡ false) (fits : may_be_star deck �
   at_home here t home before behind entry q is body same =
       let m = w.medium.message in
       let mine : IsHome entry.from entry.body =
-      home_of before behind entry (subst AllHome is (all_home deck fits es (none_before deck es e spared))) in
+      home_of before behind entry (subst AllHome is (all_home deck fits es)) in
       let from : entry.from ≡ t.system =
       ap (λ (x : ℕ). let y : SysId = record { 0 = x } in y) (from_home t entry q body same mine) in
       left_at_home m.systems t.system m.entries before behind entry q
@@ -209,7 +224,7 @@ module _ (deck : Deck) (begins : deck.star ≡ false) (fits : may_be_star deck �
         mine : entry.from.0 ≡ e.system.0
         mine =
             from_home t entry q body same
-            (home_of before behind entry (subst AllHome is (all_home deck fits es (none_before deck es e spared))))
+            (home_of before behind entry (subst AllHome is (all_home deck fits es)))
             ∙ home
 
         split : is_unseen e.system entry ≡ true
@@ -281,17 +296,12 @@ module _ (deck : Deck) (begins : deck.star ≡ false) (fits : may_be_star deck �
     by_lines o news each t a =
         each t (lines_home s t news.lines news.ours (sym (told_now o.step.node news.lines news.is t) ∙ a))
 
-    by_tells : (H : List HistEntry) (o : Turnout) (before after : Bool)
-        → EventTells deck e.system H o.step.fixed n o.step.node before after
+    -- lines of its desk, and lines that answer tasks of its own, where each of its tasks has none
+    by_own : (o : Turnout) → TellsOwn e.system.0 n.tasks.told o.step.node.tasks
         → ((t : TaskId) → t.system.0 ≡ s → Last t × LeftHome t o.medium.message.entries) → Right (placed w e.system n o)
-    by_tells H o before after (tells_tasks news done mode) each = by_lines o news each
-    by_tells H o before after (tells_done next told done ring was now) each = by_desk o (n.done + 1) saids.StarDone told
-    by_tells H o before after (tells_already next told done was now) each =
-        by_desk o (n.done + 1) saids.StarAlready told
-    by_tells H o before after (tells_removed target next told done mode one) each =
-        by_desk o (n.done + 1) saids.VaryDone told
-    by_tells H o before after (tells_no_such target next told done mode gone) each =
-        by_desk o (n.done + 1) saids.VaryNoSuch told
+    unfolding placed
+    by_own o tells each t a =
+        each t (own_home s t tells.lines tells.own (sym (told_now o.step.node tells.lines tells.is t) ∙ a))
 
   -- ---- in ring mode
   module _ (ring : IsRing deck w) (g : GoodWorld deck es w) (n : NodeState) (at : slice_get w.nodes e.system.0 ≡ Some n)
@@ -346,90 +356,95 @@ module _ (deck : Deck) (begins : deck.star ≡ false) (fits : may_be_star deck �
         changes H x (tells_no_such target next told done mode gone) =
             absurd (let z : true ≡ false = mode ∙ ring.mode in cc)
 
-  -- ---- once the medium is in star mode
-  module _ (f : FitsStar deck) (g : IsChanging deck w) where
-    given_star : has (live w.medium) e.system.0 ≡ true
-        → Bodies (fixeds (g.due e.system.0)) (unseen e.system w.medium.message.entries)
-    given_star lives = given-due w.medium e.system g.before (g.due s) g.log (g.parts s) lives g.message
+  -- ---- once the medium is in star mode, whichever systems are removed
+  module _ (star : w.medium.star ≡ true) (n : NodeState) (at : slice_get w.nodes e.system.0 ≡ Some n)
+      (there : has w.medium.removed e.system.0 ≡ false) where
+    alive_there : has (live w.medium) e.system.0 ≡ true
+    alive_there =
+        let here = slice_get_within w.nodes s n at in
+        let below : nat_lt s w.medium.message.systems ≡ true =
+        lt-ltb s w.medium.message.systems (omega (arith, here, as_many deck es, (goes deck begins es).around)) in
+        has-live w.medium.message.systems w.medium.removed s ∙ rw (below, there) refl
 
-    inside : (n : NodeState) → slice_get w.nodes e.system.0 ≡ Some n → e.system.0 < most_systems
-    inside n at = let here = slice_get_within w.nodes e.system.0 n at in omega (arith, here, g.count, f.few)
+    shut : w.medium.message.closed ≡ true
+    shut = (goes deck begins es).closed star
 
-    module _ (unremoved : has w.medium.removed e.system.0 ≡ false) where
-      lives_at : (n : NodeState) → slice_get w.nodes e.system.0 ≡ Some n → has (live w.medium) e.system.0 ≡ true
-      lives_at n at = alive deck w g e.system n at unremoved
+    -- a system that has changed
+    module _ (p : StarPart) (is : n.star ≡ Some p)
+        (none : Bodies [] (unseen e.system w.medium.message.entries)) where
+      nothing_left : (t : TaskId) → t.system.0 ≡ s → Last t
+      nothing_left t home = at_rest n alive_there [] none t home refl
 
-      kept : (n : NodeState) → slice_get w.nodes e.system.0 ≡ Some n → IsSpared deck w.medium e.system n e.choice
-      kept n at = removes-none deck w e (none_next deck es e spared) n at unremoved
+      -- It tells tasks of its own, none of which has a request that another system has still to process.
+      tells : (o : Turnout) → TellsOwn e.system.0 n.tasks.told o.step.node.tasks
+          → ((t : TaskId) → Last t → LeftHome t o.medium.message.entries) → Right (placed w e.system n o)
+      tells o own still =
+          by_own n alive_there [] none o own
+          (λ t home. let last : Last t = nothing_left t home in (last, still t last))
 
-      -- a system that hasn't changed
-      late_right : (n : NodeState) (at : slice_get w.nodes e.system.0 ≡ Some n)
-          → Waits deck e.system.0 (items w.fixed) (g.before e.system.0) (g.due e.system.0) g.since n → (o : Turnout)
-          → CameLate deck w e.system n o
-          → EventTells deck e.system (history (items (w.fixed ++ fixed_by e.system o.step.fixed))) o.step.fixed n
-          o.step.node w.medium.star o.medium.star
-          → Right (placed w e.system n o)
-      late_right n at h o (nothing_late flags) tells =
-          by_nothing n (lives_at n at) (g.due s) (given_star (lives_at n at)) o refl
-      late_right n at h o (informed_late known) tells =
-          by_nothing n (lives_at n at) (g.due s) (given_star (lives_at n at)) o refl
-      late_right n at h o (task_late task may) tells =
-          by_quiet n (lives_at n at) (g.due s) (given_star (lives_at n at)) (items w.fixed) (g.before s)
-          (g.due s ++ g.since) o.step (quiet deck s e.system (items w.fixed) (g.before s) (g.due s ++ g.since)
-          (own_requests s (g.due s)) n task g.whole.right h.seen may)
-      late_right n at h o (turn_late flags here) tells =
-          by_tells n (lives_at n at) (g.due s) (given_star (lives_at n at))
-          (history (items (w.fixed ++ fixed_by e.system o.step.fixed))) o w.medium.star o.medium.star tells
+      changed_right : (choice : Choice) (b : Result) (o : Turnout) → Came deck w.medium e.system n choice b o
+          → TellsOwn e.system.0 n.tasks.told o.step.node.tasks → Right (placed w e.system n o)
+      unfolding departed
+      changed_right choice b o (any.nothing k r silent flags) own = tells o own (λ t last. last)
+      changed_right choice b o (any.informed k) own = tells o own (λ t last. last)
+      changed_right choice b o (any.went_on t may) own = tells o own (λ t last. last)
+      changed_right choice b o (any.turn flags alone unclosed here) own = no_part n p is alone
+      changed_right choice b o (any.last_turn flags alone closed here) own = no_part n p is alone
+      changed_right choice b o (any.changed ring next seen) own = no_truth w.medium.star star ring
+      changed_right choice b o (any.already mode next) own = tells o own (λ t last. last)
+      changed_right choice b o (any.removes_one target ring next lives) own = no_truth w.medium.star star ring
+      changed_right choice b o (any.removes_star target mode next lives) own =
+          tells o own (λ t last. left_behind t target w.medium.message.entries last)
+      changed_right choice b o (any.no_such target next gone) own = tells o own (λ t last. last)
+      changed_right choice b o (any.acted q has k r x acts) own =
+          tells o own (λ t last.
+          subst (λ (m : Message). LeftHome t m.entries)
+          (sym (acts-keep deck w.medium e.system n q k r x acts).message) last)
+
+    -- one that hasn't
+    module _ (alone : n.star ≡ None) (T before due : List RunItem) (legal : IsHistory deck T)
+        (seen : Seen deck e.system.0 T before due (own_requests e.system.0 due) n)
+        (given : Bodies (fixeds due) (unseen e.system w.medium.message.entries)) where
+      waiting_right : (choice : Choice) (b : Result) (o : Turnout) → Came deck w.medium e.system n choice b o
+          → TellsOwn e.system.0 n.tasks.told o.step.node.tasks → Right (placed w e.system n o)
+      unfolding removed_by
+      waiting_right choice b o (any.nothing k r silent flags) own = by_nothing n alive_there due given o refl
+      waiting_right choice b o (any.informed k) own =
+          by_nothing n alive_there due given o
+          (ap (λ (z : NodeState). z.tasks.told) (told-ring deck n w.medium.removed alone))
+      waiting_right choice b o (any.went_on t may) own =
+          by_quiet n alive_there due given T before due o.step
+          (quiet deck s e.system T before due (own_requests s due) n t legal seen may)
+      waiting_right choice b o (any.turn flags apart unclosed here) own =
+          no_truth w.medium.message.closed shut unclosed
+      waiting_right choice b o (any.last_turn flags apart closed here) own =
+          by_own n alive_there due given o own
           (λ t home. let last : Last t = at_home here t home in
           (last, left_behind t e.system w.medium.message.entries last))
-      late_right n at h o (desk_late next) tells =
-          by_desk n (lives_at n at) (g.due s) (given_star (lives_at n at)) o (n.done + 1) saids.StarAlready
-          (desk-told n saids.StarAlready)
-      late_right n at h o (vary_late target next gone) tells =
-          by_desk n (lives_at n at) (g.due s) (given_star (lives_at n at)) o (n.done + 1) saids.VaryNoSuch
-          (desk-told n saids.VaryNoSuch)
+      waiting_right choice b o (any.changed ring next idle) own = no_truth w.medium.star star ring
+      waiting_right choice b o (any.already mode next) own =
+          by_desk n alive_there due given o (n.done + 1) saids.StarAlready (desk-told n saids.StarAlready)
+      waiting_right choice b o (any.removes_one target ring next lives) own = no_truth w.medium.star star ring
+      waiting_right choice b o (any.removes_star target mode next lives) own =
+          by_desk n alive_there due given o (n.done + 1) saids.VaryDone
+          (ap (λ (z : Step). z.node.tasks.told) (purged-ring deck n target alone) ∙ removed-told n target)
+      waiting_right choice b o (any.no_such target next gone) own =
+          by_desk n alive_there due given o (n.done + 1) saids.VaryNoSuch (desk-told n saids.VaryNoSuch)
+      waiting_right choice b o (any.acted q has k r x acts) own = no_part n q has alone
 
-      star_right : (n : NodeState) (at : slice_get w.nodes e.system.0 ≡ Some n)
-          → Right (placed w e.system n (chosen deck w.medium e.system n e.choice))
-      star_right n at =
-          by_shown (g.shown s n at unremoved).0 n at (g.shown s n at unremoved).1 (g.shown s n at unremoved).2
-        where
-          some : 0 < deck.entries
-          some = entries_some deck.entries f.entries
-
-          by_shown : (k m : NodeState) (here : slice_get w.nodes e.system.0 ≡ Some m)
-              → slice_get g.view e.system.0 ≡ Some k
-              → Shown deck e.system.0 (items w.fixed) (g.before e.system.0) (g.due e.system.0) g.since
-              (g.whole.out e.system.0) k m
-              → Right (placed w e.system m (chosen deck w.medium e.system m e.choice))
-          by_shown k m here there (waits_yet x h is empty) =
-              late_right x here h (chosen deck w.medium e.system x e.choice)
-              (came_late deck w g.whole.roles.mode g.closed e.system x h.alone unremoved
-              (change-stays deck w g e.system x here unremoved k there h is empty (lives_at x here)
-              (known_run deck es s x here))
-              e.choice (kept x here))
-              (event-moved deck some w g e.system (inside x here) x here unremoved e.choice
-              (gone_are_removed deck es) (known_run deck es s x here) (kept x here)).news
-          by_shown k m here there (has_changed none) =
-              let o : Turnout = chosen deck w.medium e.system k e.choice in
-              let step : IsStep deck (record w { nodes = g.view }) e.system k o =
-              good_choice deck some (record w { nodes = g.view }) e.system (inside k here) k
-              (at_site there unremoved) g.whole.roles (g.whole.roles.node s k (at_site there unremoved))
-              (usual deck (record w { nodes = g.view }) g.whole e.system k (at_site there unremoved)
-              (known_run deck es s k here)) e.choice
-              (kept k here) in
-              let rest : (t : TaskId) → t.system.0 ≡ s
-              → Last t = λ t home.
-              at_rest k (lives_at k here) (g.due s) (given_star (lives_at k here)) t home
-              (ap (λ xs. is_among t (askers (own_requests s xs))) none) in
-              by_tells k (lives_at k here) (g.due s) (given_star (lives_at k here))
-              (history (items (w.fixed ++ fixed_by e.system o.step.fixed))) o w.medium.star o.medium.star
-              (event-moved deck some w g e.system (inside k here) k here unremoved e.choice
-              (gone_are_removed deck es) (known_run deck es s k here) (kept k here)).news
-              (λ t home. (rest t home, subst (λ (x : Message). LeftHome t x.entries) (sym step.message) (rest t home)))
+    star_right : (b : Result) (o : Turnout) → Came deck w.medium e.system n e.choice b o
+        → Meets deck e.system w.medium.message.entries n → Right (placed w e.system n o)
+    star_right b o came how =
+        by_change how (tells_own deck w.medium e.system n e.choice b o came (homes_run deck es s n at))
+      where
+        by_change : Meets deck e.system w.medium.message.entries n
+            → TellsOwn e.system.0 n.tasks.told o.step.node.tasks → Right (placed w e.system n o)
+        by_change (has_changed p is nil) own = changed_right p is nil e.choice b o came own
+        by_change (by_itself alone T before due legal seen given) own =
+            waiting_right alone T before due legal seen given e.choice b o came own
 
   answers_right : Right (happens deck w e)
-  answers_right = by_run (every_run deck fits es (none_before deck es e spared))
+  answers_right = by_mode w.medium.star refl
     where
       idle : Right (counted w)
       idle t a =
@@ -439,13 +454,17 @@ module _ (deck : Deck) (begins : deck.star ≡ false) (fits : may_be_star deck �
           (ap (drop (length w.told)) (sym (append-nil w.told)) ∙ drop-append_seam w.told []) in
           cc)
 
-      by_run : GoodRun deck es w → Right (happens deck w e)
-      by_run (in_ring z ring g d) =
+      by_mode : (b : Bool) → w.medium.star ≡ b → Right (happens deck w e)
+      by_mode false mode =
+          let ring : IsRing deck w = is_ring deck begins es mode in
+          let g : GoodWorld deck es w = ring_good deck fits es mode in
           each_in_ring deck w e Right ring idle (λ n o at alive c. right ring g n at alive o c)
-      by_run (in_star f g told d) = each_live deck w e Right idle (λ n at alive. star_right f g alive n at)
+      by_mode true mode =
+          each_came deck w e Right idle (λ n b o at alive came.
+          star_right mode n at alive b o came (meets_run deck begins fits es s n at alive))
 
 pub answered_last : (deck : Deck) → deck.star ≡ false → (may_be_star deck ≡ true → FitsStar deck)
-    → (es : List Event) (e : Event) → NoneInStar deck (es ++ e ∷ []) → AnsweredLast deck es e
-answered_last deck begins fits es e none t a =
-    subst (Right deck begins fits es e none) (sym (run-push deck es (first_world deck) e))
-    (answers_right deck begins fits es e none) t a
+    → (es : List Event) (e : Event) → AnsweredLast deck es e
+answered_last deck begins fits es e t a =
+    subst (Right deck begins fits es e) (sym (run-push deck es (first_world deck) e))
+    (answers_right deck begins fits es e) t a

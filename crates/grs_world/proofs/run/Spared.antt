@@ -1,11 +1,15 @@
--- Runs that remove no system in star mode: so it is of each front of theirs, and of its next event.
-use Rattle.std.proofs.Common.{◌≡◌, Bool, true, false, cond, List, [], ◌∷◌, ◌++◌, refl, ap, ◌∙◌}
+-- Runs that remove no system in star mode: so it is of each front of theirs, and of its next event; and of each run
+-- that is in ring mode.
+use Rattle.std.proofs.Common.{◌≡◌, ◌&&◌, Bool, true, false, cond, List, [], ◌∷◌, ◌++◌, refl, ap, ◌∙◌}
 use Rattle.grs_medium.specs.Medium.{MediumState}
 use Rattle.grs_wire.specs.declared.deck.Deck.{Deck}
 use Rattle.grs_wire.specs.declared.deck.Event.{Event}
-use Rattle.grs_world.specs.InStar.{NoneInStar, removals_from, removes_in_star}
+use Rattle.grs_known.proofs.lists.Truths.{no_truth}
+use Rattle.grs_world.specs.InStar.{NoneInStar, is_purged, removals_from, removes_in_star}
+use Rattle.grs_world.specs.Removing.{reply_of}
 use Rattle.grs_world.specs.World.{World, first_world, happens, run, run_from}
 use Rattle.grs_world.proofs.run.Each.{each_run}
+use Rattle.grs_world.proofs.run.InRing.{star-stays}
 
 no-front : {X : Type 0} (xs ys : List X) → xs ++ ys ≡ [] → xs ≡ []
 no-front [] ys h = refl
@@ -58,3 +62,23 @@ module _ (deck : Deck) where
   each_spared P first next =
       each_run deck (λ es w. NoneInStar deck es → P es w) (λ none. first)
       (λ es e more none. next es e none (more (none_before es e none)))
+
+  -- ---- The mode stays star mode, so who is in ring mode has removed none there.
+  star-from : (w : World) (es : List Event) → w.medium.star ≡ true → (run_from deck w es).medium.star ≡ true
+  star-from w [] star = star
+  star-from w (e ∷ es) star = star-from (happens deck w e) es (star-stays deck w e star)
+
+  ring-from : (w : World) (es : List Event) → (run_from deck w es).medium.star ≡ false → removals_from deck w es ≡ []
+  ring-from w [] ring = refl
+  ring-from w (e ∷ es) ring = by_mode w.medium.star refl (ring-from (happens deck w e) es ring)
+    where
+      by_mode : (b : Bool) → w.medium.star ≡ b → removals_from deck (happens deck w e) es ≡ [] →
+          cond (b && is_purged (reply_of deck w e)) (w.medium ∷ []) [] ++ removals_from deck (happens deck w e) es
+          ≡ []
+      by_mode true star none =
+          no_truth (run_from deck (happens deck w e) es).medium.star
+          (star-from (happens deck w e) es (star-stays deck w e star)) ring
+      by_mode false was none = none
+
+  pub none_in_ring : (es : List Event) → (run deck es).medium.star ≡ false → NoneInStar deck es
+  none_in_ring es ring = ring-from (first_world deck) es ring
