@@ -4,3 +4,4 @@ pub mod Follows
 pub mod NeverStar
 pub mod NeverOrdered
 pub mod Unchanged
+pub mod Managed

@@ -36,13 +36,15 @@ has_interest_there deck w s e = is_live w s && interest_at deck w s (slice_get w
 abbrev pub manages_there : Deck → World → SysId → ℕ → Bool
 manages_there deck w s e = is_live w s && manages_at deck w s (slice_get w.nodes s.0) e
 
+-- After these events each lock word names a system exactly where its set isn't empty, who is in it.
+abbrev pub WordsAreManaged : Deck → List Event → Type 0
+WordsAreManaged deck es = (e : ℕ) → IsManaged (word_at (run deck es).medium.words e)
+
 -- After these events each word goes with the live systems, and holds no other.
 pub record WordsGoWithSystems (deck : Deck) (es : List Event) : Type 0 where
   -- its set holds a system exactly where that system is live and has interest in the entry
   pub interest : (e : ℕ) (s : SysId)
       → is_interested (run deck es).medium.words e s.0 ≡ has_interest_there deck (run deck es) s e
-  -- a live system manages the entry exactly where the word names it,
+  -- and a live system manages the entry exactly where the word names it
   pub manages : (e : ℕ) (s : SysId)
       → manages_there deck (run deck es) s e ≡ is_manager (manager_at (run deck es).medium.words e) s
-  -- and the word names one exactly where its set isn't empty, who is in it
-  pub managed : (e : ℕ) → IsManaged (word_at (run deck es).medium.words e)

@@ -8,7 +8,7 @@ ghost use Rattle.grs_world.specs.AtRest.{RestsInTheEnd};
 ghost use Rattle.grs_world.specs.Changing.{ChangesFixNothing};
 ghost use Rattle.grs_world.specs.Fixing.{EventFixes};
 ghost use Rattle.grs_world.specs.InStar.{NoneInStar};
-ghost use Rattle.grs_world.specs.Interest.{WordsGoWithSystems};
+ghost use Rattle.grs_world.specs.Interest.{WordsAreManaged, WordsGoWithSystems};
 ghost use Rattle.grs_world.specs.Kept.{KeptArePlaces, ManagersKeepWell};
 ghost use Rattle.grs_world.specs.Laps.{ComesBackLast, ProcessedLast, AnsweredLast};
 ghost use Rattle.grs_world.specs.Passed.{PassedIsTold};
@@ -68,13 +68,14 @@ pub fn tables_are_fronts()
     ensures { (deck : Deck) → (may_be_star deck ≡ true → FitsStar deck) → (events : List Event) → NoneInStar deck events → TablesAreFronts deck events }
 {}
 
-/// Wherever a run that removes no system in star mode is in that mode, the lock words go with the systems: the set of an
-/// entry's word holds a system exactly where that system is live and has interest in the entry, it names a system as the
-/// manager exactly where that system is live and manages the entry, and it names one exactly where its set isn't empty, who
-/// is in it. A system that hasn't changed has interest in what its table leads to, and manages that, once it has processed
-/// what it hasn't seen.
+/// Wherever a run is in star mode, a lock word names a manager exactly where its set isn't empty, who is in it. And wherever
+/// one is that removes no system in that mode, the words go with the systems: the set of an entry's word holds a system
+/// exactly where that system is live and has interest in the entry, and it names a system as the manager exactly where that
+/// system is live and manages the entry. A system that hasn't changed has interest in what its table leads to, and manages
+/// that, once it has processed what it hasn't seen.
 pub fn words_go_with_systems()
-    ensures { (deck : Deck) → (may_be_star deck ≡ true → FitsStar deck) → (events : List Event) → NoneInStar deck events → (run deck events).medium.star ≡ true → WordsGoWithSystems deck events }
+    ensures managed { (deck : Deck) → (may_be_star deck ≡ true → FitsStar deck) → (events : List Event) → (run deck events).medium.star ≡ true → WordsAreManaged deck events }
+    ensures systems { (deck : Deck) → (may_be_star deck ≡ true → FitsStar deck) → (events : List Event) → NoneInStar deck events → (run deck events).medium.star ≡ true → WordsGoWithSystems deck events }
 {}
 
 /// In every run of such a deck that removes no system in star mode each system that is in that mode keeps well what it

@@ -3,7 +3,7 @@
 use Rattle.std.proofs.Common.{◌≡◌, ◌&&◌, Bool, List, None, Option, Some, ap, arith, false, length, refl, subst, sym}
 use Rattle.std.proofs.Common.{true, ◌∙◌, ℕ, ◌++◌}
 use Rattle.std.specs.Prelude.{slice_get}
-use Rattle.std.proofs.lemmas.Option.{same_Some, slice_get_within}
+use Rattle.std.proofs.lemmas.Option.{same_Some}
 use Rattle.grs_base.specs.declared.resource.SysId.{SysId}
 use Rattle.grs_known.proofs.lists.Facts.{slice_get-past}
 use Rattle.grs_known.specs.Items.{items, lists, rounds}
@@ -19,16 +19,13 @@ use Rattle.grs_world.proofs.move.Moved.{alive}
 use Rattle.grs_world.proofs.move.Sound.{GoodRun, every_run, in_ring, in_star}
 use Rattle.grs_world.proofs.move.Waiting.{reads, whole_now}
 use Rattle.grs_world.proofs.star.Members.{has_manager}
-use Rattle.grs_world.proofs.star.Runs.{word_past}
 use Rattle.grs_world.proofs.star.Worlds.{live-below}
 use Rattle.grs_world.specs.Decks.{FitsStar, may_be_star}
 use Rattle.grs_world.specs.Interest.{WordsGoWithSystems, interest_at, manages_at, part_at}
 use Rattle.grs_world.specs.Kept.{IsKeptBy, ManagersKeepWell}
 use Rattle.grs_world.specs.Running.{is_live}
 use Rattle.grs_world.specs.World.{World, run}
-use Rattle.lock_structure.proofs.LawProofs.{empty_is_managed}
-use Rattle.lock_structure.specs.Laws.{IsManaged, is_interested}
-use Rattle.lock_structure.specs.Words.{word_at}
+use Rattle.lock_structure.specs.Laws.{is_interested}
 use Rattle.grs_world.proofs.run.Site.{at_site}
 
 module _ (deck : Deck) (w : World) (g : IsChanging deck w) where
@@ -85,11 +82,6 @@ module _ (deck : Deck) (w : World) (g : IsChanging deck w) where
       ap (λ p. manages p e) (part-shown s n old.0 at old.1 unremoved old.2)
       ∙ (g.whole.roles.node s.0 old.0 (at_site old.1 unremoved)).fits.roles e
 
-  word_managed : (e : ℕ) (o : Option ℕ) → slice_get w.medium.words e ≡ o → IsManaged (word_at w.medium.words e)
-  word_managed e (Some x) h = g.whole.roles.managed e 0 (slice_get_within w.medium.words e x h)
-  word_managed e None h =
-      subst IsManaged (sym (word_past w.medium.words e (slice_get-past w.medium.words e h))) empty_is_managed
-
   -- who has changed is as it is shown
   kept_well : (s : ℕ) (n k : NodeState) (p : StarPart) → slice_get g.view s ≡ Some k → has w.medium.removed s ≡ false
       → n.star ≡ Some p → Shown deck s (items w.fixed) (g.before s) (g.due s) g.since (g.whole.out s) k n → IsKeptBy s p
@@ -112,7 +104,6 @@ every_word deck fits es none mode = by_run (every_run deck fits es none)
           refl;
       manages = λ e s.
           word_manages deck (run deck es) g e s (is_live (run deck es) s) refl (slice_get (run deck es).nodes s.0) refl;
-      managed = λ e. word_managed deck (run deck es) g e (slice_get (run deck es).medium.words e) refl;
     }
 
 pub every_part : (deck : Deck) → (may_be_star deck ≡ true → FitsStar deck) → (es : List Event) → NoneInStar deck es

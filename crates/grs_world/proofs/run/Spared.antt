@@ -82,3 +82,16 @@ module _ (deck : Deck) where
 
   pub none_in_ring : (es : List Event) → (run deck es).medium.star ≡ false → NoneInStar deck es
   none_in_ring es ring = ring-from (first_world deck) es ring
+
+  -- One event more of such a run removes none there either.
+  none-more : (w : World) (es : List Event) (e : Event) → (run_from deck w es).medium.star ≡ false
+      → removals_from deck w es ≡ [] → removals_from deck w (es ++ e ∷ []) ≡ []
+  none-more w [] e ring none = ap (λ b. cond (b && is_purged (reply_of deck w e)) (w.medium ∷ []) [] ++ []) ring
+  none-more w (x ∷ es) e ring none =
+      let here : List MediumState = cond (removes_in_star deck w x) (w.medium ∷ []) [] in
+      ap (λ ms. ms ++ removals_from deck (happens deck w x) (es ++ e ∷ [])) (no-front here _ none)
+      ∙ none-more (happens deck w x) es e ring (no-back here _ none)
+
+  pub none_behind_ring : (es : List Event) (e : Event) → (run deck es).medium.star ≡ false
+      → NoneInStar deck (es ++ e ∷ [])
+  none_behind_ring es e ring = none-more (first_world deck) es e ring (none_in_ring es ring)

@@ -1,5 +1,9 @@
+use Rattle.grs_world.proofs.gather.Managed.{words_managed}
 use Rattle.grs_world.proofs.laws.words_go_with_systems.Goals as goal
 use Rattle.grs_world.proofs.move.Roles.{every_word}
 
-pub returns : goal.returns
-returns c = every_word
+pub returns-clause-managed : goal.returns-clause-managed
+returns-clause-managed c = words_managed
+
+pub returns-clause-systems : goal.returns-clause-systems
+returns-clause-systems c = every_word
