@@ -12,10 +12,10 @@ use Rattle.grs_base.specs.declared.resource.SysId.{SysId}
 use Rattle.grs_deck.specs.Faults.{IsFault, Answers as AnswersDeck}
 use Rattle.grs_deck.specs.Places.{system_place}
 use Rattle.grs_deck.specs.Spells.{SpellsDeck}
-use Rattle.grs_enf.specs.Notices.{notices}
+use Rattle.grs_enf.specs.Laws.{CodesTellNotices}
+use Rattle.grs_enf.specs.Notices.{told_notices}
 use Rattle.grs_enf.specs.Text.{notices_text}
 use Rattle.grs_history.specs.Merge.{merged_steps}
-use Rattle.grs_legal.specs.Legal.{Legal}
 use Rattle.grs_medium.specs.Medium.{MediumState}
 use Rattle.latch_form.specs.Faults.{IsFault as IsFaultOfCalls, Answers as AnswersCalls}
 use Rattle.grs_node.specs.Log.{NodeView}
@@ -207,14 +207,13 @@ analyzed_of d es hs slice rows ended lent out status whole sound is stand shared
 
 pub noticed_of :
     (d : DeckValue) (es : List Event) (hs slice : List HistEntry) (ended lent : List (TaskId × TaskEnd)) (out : List ℕ)
-    (status : Status) → IsDeck d → OfRuns Sound → hs ≡ hist d es
+    (status : Status) → IsDeck d → OfRuns Sound → CodesTellNotices → hs ≡ hist d es
     → ended ≡ ends_at (run d es).medium.removed (run d es).nodes (tasks_of d) → slice ≡ hs → lent ≡ ended
-    → (Legal d slice → out ≡ notices_text d (notices d.limit slice))
-    → status ≡ (if all_ended lent then Done else Waits) → AreNoticed d es out status
-noticed_of d es hs slice ended lent out status whole sound is stand shared same written ends = record {
-  whole = λ none.
-      written (subst (Legal d) (sym (shared ∙ is)) (of_deck Sound sound d whole es none).legal)
-      ∙ ap (λ (xs : List HistEntry). notices_text d (notices d.limit xs)) (shared ∙ is);
+    → out ≡ notices_text d (told_notices slice) → status ≡ (if all_ended lent then Done else Waits)
+    → AreNoticed d es out status
+noticed_of d es hs slice ended lent out status whole sound codes is stand shared same written ends = record {
+  whole = written ∙ ap (λ (xs : List HistEntry). notices_text d (told_notices xs)) (shared ∙ is);
+  legal = λ none. codes d (hist d es) (of_deck Sound sound d whole es none).legal;
   ends = ends_so d es ended lent status stand same ends;
   sound = of_deck Sound sound d whole es;
 }

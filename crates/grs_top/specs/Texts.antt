@@ -12,7 +12,7 @@ use Rattle.grs_world.specs.Removing.{RemovedTellNothing}
 use Rattle.grs_world.specs.Running.{at_rest}
 use Rattle.grs_world.specs.World.{first_world, run, hist}
 use Rattle.grs_analyze.specs.Text.{analysis_text}
-use Rattle.grs_enf.specs.Notices.{notices}
+use Rattle.grs_enf.specs.Notices.{notices, told_notices}
 use Rattle.grs_enf.specs.Text.{notices_text}
 use Rattle.grs_audit.specs.Halves.{Audited}
 use Rattle.grs_audit.specs.Text.{verdict_text}
@@ -52,10 +52,11 @@ pub record IsAnalyzed (deck : DeckValue) (es : List Event) (out : List ℕ) (sta
   pub ends : status ≡ ending deck es
   pub sound : NoneInStar deck es → Sound deck es
 
--- The status says how the run ends. Where no system is removed in star mode the run is sound, and written is what is
--- noticed of contention along its history.
+-- Written is what is noticed of contention along the run's history by its codes, and the status says how the run ends.
+-- Where no system is removed in star mode the run is sound, and so these are the notices of its history.
 pub record AreNoticed (deck : DeckValue) (es : List Event) (out : List ℕ) (status : Status) : Type 0 where
-  pub whole : NoneInStar deck es → out ≡ notices_text deck (notices deck.limit (hist deck es))
+  pub whole : out ≡ notices_text deck (told_notices (hist deck es))
+  pub legal : NoneInStar deck es → told_notices (hist deck es) ≡ notices deck.limit (hist deck es)
   pub ends : status ≡ ending deck es
   pub sound : NoneInStar deck es → Sound deck es
 

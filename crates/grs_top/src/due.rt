@@ -27,6 +27,7 @@ use grs_analyze::laws::lists_are_apart;
 use grs_audit::{MOST_AUDITED_BYTES, Verdict, audit, halves_of, verdict_text};
 use grs_base::{DeckFault, Kind, List, NoMemory, ReadError, SysId, TaskId};
 use grs_deck::read_deck;
+use grs_enf::laws::codes_tell_notices;
 use grs_enf::notices_text;
 use grs_history::queues_after;
 use grs_latch::LatchCall;
@@ -182,6 +183,7 @@ fn noticed(alloc: Global, deck: &Deck, events: &[Event]) -> Result<Due, NoMemory
     ensures { IfOk result (λ due. AreNoticed deck.now events.now due.out due.status) }
 {
     runs_are_sound();
+    codes_tell_notices();
     let past = run_of(alloc, deck, events)?;
     let out = notices_text(alloc, deck, past.hist.as_slice())?;
     Ok(told(out, past.ended.as_slice()))
