@@ -1,16 +1,20 @@
 -- The laws of the run of a number: its line is written whole, and its rounds are a run.
 use Rattle.std.proofs.Common.{◌≡◌, ◌⊎◌, ◌≢◌, ◌<◌, ℕ, zero, suc, ◌+◌, Bool, true, false, cond, List, [], ◌∷◌, ◌++◌}
-use Rattle.std.proofs.Common.{length, Option, refl, ap, sym, ◌∙◌, subst, arith, inl, inr, add-one}
+use Rattle.std.proofs.Common.{length, map, ◌||◌, Option, refl, ap, sym, ◌∙◌, subst, arith, inl, inr, add-one}
+use Rattle.std.specs.Prelude.{◌==◌}
+use Rattle.std.specs.List.{list_any, range_with_len}
 use Rattle.std.proofs.lemmas.List.{length-append}
-use Rattle.grs_gen.specs.Generated.{IsSize, deck_of}
+use Rattle.grs_gen.specs.Generated.{IsSize, deck_of, system_count, system_of}
 use Rattle.grs_gen.specs.Rounds.{round_of}
 use Rattle.grs_io.specs.Faults.{last_count, HasRisen}
 use Rattle.grs_wire.specs.Decks.{AreOrders, IsDeck}
 use Rattle.grs_wire.specs.declared.deck.Deck.{Deck}
 use Rattle.grs_wire.specs.declared.deck.Event.{Event}
+use Rattle.grs_wire.specs.declared.deck.Order.TheVariants.{Star}
+use Rattle.grs_wire.specs.declared.deck.SystemDef.{SystemDef}
 use Rattle.grs_world.specs.InStar.{NoneInStar}
 use Rattle.grs_world.specs.Agree.{Sound}
-use Rattle.grs_world.specs.Decks.{may_be_star, FitsStar}
+use Rattle.grs_world.specs.Decks.{may_be_star, may_remove, orders_removal, FitsStar}
 use Rattle.grs_world.specs.Running.{at_rest}
 use Rattle.grs_world.specs.World.{World, first_world, happens, run_from, run}
 use Rattle.grs_top.specs.declared.status.Status.{Status}
@@ -86,15 +90,30 @@ all-made deck (suc left) last r es count made =
     by_rest true rest more = (es, made, inl rest)
     by_rest false busy more = more
 
+-- no desk of the deck of a number orders a removal
+desk-quiet : (b : Bool) → orders_removal (cond b (record { at = 0; order = Star } ∷ []) []) ≡ false
+desk-quiet true = refl
+desk-quiet false = refl
+
+desks-quiet : (n : ℕ) (is : List ℕ) → list_any (λ (s : SystemDef). orders_removal s.desk) (map (system_of n) is) ≡ false
+desks-quiet n [] = refl
+desks-quiet n (i ∷ is) =
+    ap (λ b. b || list_any (λ (s : SystemDef). orders_removal s.desk) (map (system_of n) is)) (desk-quiet (i == 0))
+    ∙ desks-quiet n is
+
+removes-nobody : (n : ℕ) → may_remove (deck_of n) ≡ false
+unfolding deck_of
+removes-nobody n = desks-quiet n (range_with_len 0 (system_count n))
+
 pub generated : ((n : ℕ) → IsSize n → IsDeck (deck_of n))
     → ((deck : Deck) → (may_be_star deck ≡ true → FitsStar deck) → AreOrders (length deck.systems) 0 deck.systems
     → (es : List Event) → NoneInStar deck es → Sound deck es)
-    → GeneratedRuns
+    → ((deck : Deck) → may_remove deck ≡ false → (es : List Event) → NoneInStar deck es) → GeneratedRuns
 unfolding rounds_of Ends
-generated is_deck sound n size = go (deck_of n) (is_deck n size)
+generated is_deck sound spared n size = go (deck_of n) (is_deck n size) (removes-nobody n)
   where
-    go : (deck : Deck) → IsDeck deck → (es : List Event) × AreRounds deck es
-    go deck whole =
+    go : (deck : Deck) → IsDeck deck → may_remove deck ≡ false → (es : List Event) × AreRounds deck es
+    go deck whole quiet =
         let all =
         all-made deck most_rounds most_rounds (no_rounds deck) [] (omega arith)
         (record { rounds = refl; world = refl; events = refl }) in (
@@ -103,7 +122,9 @@ generated is_deck sound n size = go (deck_of n) (is_deck n size)
             rounds = all.1.rounds;
             events = all.1.events;
             world = all.1.world;
-            sound = sound deck (λ star. record { few = whole.fits.few; entries = whole.entries }) whole.orders all.0;
+            sound =
+                sound deck (λ star. record { few = whole.fits.few; entries = whole.entries }) whole.orders all.0
+                (spared deck quiet all.0);
             ends = all.2;
           },
         )

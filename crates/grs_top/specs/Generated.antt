@@ -14,7 +14,6 @@ use Rattle.grs_wire.specs.declared.deck.Deck.{Deck as DeckValue}
 use Rattle.grs_wire.specs.declared.deck.Event.{Event}
 use Rattle.grs_wire.specs.declared.seen.TaskEnd.{TaskEnd}
 use Rattle.grs_wire.specs.declared.seen.TaskEnd.TheVariants.{Ended, Removed, Waits as WaitsEnd, Open}
-use Rattle.grs_world.specs.InStar.{NoneInStar}
 use Rattle.grs_world.specs.Agree.{Sound}
 use Rattle.grs_world.specs.Running.{at_rest, task_end}
 use Rattle.grs_world.specs.World.{World, first_world, run_from, run}
@@ -144,12 +143,12 @@ events_of deck zero = []
 events_of deck (suc made) = events_of deck made ++ round_of deck (made + 1)
 
 -- These events are those of the rounds of a deck, as many as are told, and the world is that of their run. The run is
--- sound where it removes no system in star mode, and the world is at rest, or no more rounds may be made.
+-- sound, and the world is at rest, or no more rounds may be made.
 pub record AreRounds (deck : DeckValue) (es : List Event) : Type 0 where
   pub rounds : es ≡ events_of deck (rounds_of deck).made
   pub events : (rounds_of deck).events ≡ length es
   pub world : (rounds_of deck).world ≡ run deck es
-  pub sound : NoneInStar deck es → Sound deck es
+  pub sound : Sound deck es
   pub ends : (at_rest deck (rounds_of deck).world ≡ true) ⊎ ((rounds_of deck).made ≡ most_rounds)
 
 -- The rounds of the deck of a number are a run of it.

@@ -20,7 +20,7 @@ ghost use Rattle.grs_top.specs.Whole.{WholeUnlessMemory, RefusedUnlessMemory, Fa
 use grs_audit::reports_are_yes;
 use grs_deck::one_deck;
 use grs_gen::laws::are_decks;
-use grs_world::laws::runs_are_sound;
+use grs_world::laws::{decks_without_removals_are_spared, runs_are_sound};
 use latch_form::one_list_of_calls;
 
 /// A source whose bytes spell what the command reads is answered by the whole text of the command, unless a read or write
@@ -126,4 +126,5 @@ pub fn generated_runs()
 {
     are_decks();
     runs_are_sound();
+    decks_without_removals_are_spared();
 }
