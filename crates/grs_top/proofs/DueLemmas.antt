@@ -36,11 +36,10 @@ use Rattle.grs_wire.specs.declared.seen.Seen.{Seen}
 use Rattle.grs_wire.specs.declared.seen.TaskEnd.{TaskEnd}
 use Rattle.grs_workers.specs.Beside.{RanBeside, AllLast}
 use Rattle.grs_world.specs.InStar.{NoneInStar}
-use Rattle.grs_world.specs.Agree.{Sound}
+use Rattle.grs_world.specs.Agree.{Sound, RemovedTellNothing}
 use Rattle.grs_world.specs.AtRest.{RestsInTheEnd}
 use Rattle.grs_world.specs.Decks.{may_be_star, FitsStar}
 use Rattle.grs_world.specs.Passed.{PassedIsTold}
-use Rattle.grs_world.specs.Removing.{RemovedTellNothing}
 use Rattle.grs_world.specs.Running.{at_rest}
 use Rattle.grs_world.specs.Stopped.{stopped}
 use Rattle.grs_world.specs.World.{first_world, run, hist}

@@ -17,7 +17,7 @@ use Rattle.grs_wire.specs.declared.request.Fixed.{Fixed}
 use Rattle.grs_wire.specs.declared.told.Told.{Told}
 use Rattle.grs_world.specs.Agree.{Moment, Agrees, moment, AgreeAt, AllAgree, Sound, RemovalsTold, is_event_of}
 use Rattle.grs_world.specs.InStar.{NoneInStar}
-use Rattle.grs_world.specs.Removing.{is_by_live, RemovedTellNothing}
+use Rattle.grs_world.specs.Agree.{is_by_live, RemovedTellNothing}
 use Rattle.grs_world.specs.World.{World, happens, placed, fixed_by, run_from, run, first_world, told}
 use Rattle.grs_world.specs.Stopped.{cut, turn_of, left_behind, next_of, lap_from, live_count, lap, goes_lap, stopped}
 use Rattle.grs_world.proofs.run.Each.{each_event}

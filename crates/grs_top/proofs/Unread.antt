@@ -1,16 +1,17 @@
 -- What is said of a run is said of it whatever schedule stands in its deck.
 use Rattle.std.proofs.Common.{◌≡◌, ℕ, Bool, true, List, [], ◌∷◌, ◌++◌, length, take, drop, Option, None, Some, refl, ap}
 use Rattle.std.proofs.Common.{sym, ◌∙◌, subst}
-use Rattle.std.specs.Prelude.{◌&&◌, ◌||◌, ◌-◌, ◌==◌, if◌then◌else◌}
+use Rattle.std.specs.Prelude.{◌&&◌, ◌||◌, ◌-◌, ◌==◌, not, if◌then◌else◌}
 use Rattle.std.specs.List.{list_all, list_any}
 use Rattle.deck_tasks.specs.Tasks.{tasks_of}
 use Rattle.grs_base.specs.Rows.{rows_of}
 use Rattle.grs_base.specs.declared.resource.SysId.{SysId}
 use Rattle.grs_display.specs.Names.{names_of}
+use Rattle.grs_known.proofs.lists.Facts.{all-kept}
 use Rattle.grs_legal.specs.Legal.{Legal, LegalFrom, MayStand}
 use Rattle.grs_report.specs.Ends.{all_ended}
 use Rattle.grs_report.specs.Report.{report}
-use Rattle.grs_wire.specs.History.{answered, replay}
+use Rattle.grs_wire.specs.History.{answered, removes, replay}
 use Rattle.grs_wire.specs.declared.deck.Deck.{Deck}
 use Rattle.grs_wire.specs.declared.deck.Event.{Event}
 use Rattle.grs_wire.specs.declared.deck.Order.{Order}
@@ -25,7 +26,7 @@ use Rattle.grs_wire.specs.declared.told.Told.{Told}
 use Rattle.grs_wire.specs.declared.told.ToldLine.{ToldLine}
 use Rattle.grs_wire.specs.declared.told.ToldLine.TheVariants.{Coded, Shown, Post, Ended, Desk}
 use Rattle.grs_world.specs.Agree.{Moment, Agree, AgreeAt, Agrees, AgreesBy, HasCause, RemovalsTold, Sound, fixed_in}
-use Rattle.grs_world.specs.Agree.{is_of_event, is_removal, moment, order_of, tells_removal}
+use Rattle.grs_world.specs.Agree.{is_by_live, is_of_event, is_removal, moment, order_of, tells_removal}
 use Rattle.grs_world.specs.Running.{units_of}
 use Rattle.grs_world.specs.World.{World, hist, run, told}
 use Rattle.grs_top.proofs.Bare.{run-bare}
@@ -145,6 +146,12 @@ module _ (d : Deck) (xs ys : List Event) where
       let m : Moment = record { history = hist Y (take e es); fixed = fs; before = before } in m)
       (fixed-any es e)
 
+  live-any : (es : List Event) (x : Told) → is_by_live X es x ≡ true → is_by_live Y es x ≡ true
+  live-any es x h =
+      sym
+      (ap (λ (hs : List HistEntry). not (list_any (removes x.system) hs)) (hist-any (take (x.event - 1) es)))
+      ∙ h
+
   pub sound-any : (es : List Event) → Sound X es → Sound Y es
   sound-any es s = record {
     legal = subst (λ (h : List HistEntry). Legal Y h) (hist-any es) (legal-any (hist X es) s.legal);
@@ -158,6 +165,9 @@ module _ (d : Deck) (xs ys : List Event) where
           subst (λ (fs : List (SysId × Fixed)). RemovalsTold Y e fs (told Y es)) (fixed-any es e)
           (subst (λ (ls : List Told). RemovalsTold Y e (fixed_in X es e) ls) (lines-any es)
           (told-any e (fixed_in X es e) (told X es) (s.agree.removals e)));
+      silent =
+          subst (λ (ls : List Told). list_all (is_by_live Y es) ls ≡ true) (lines-any es)
+          (all-kept (is_by_live X es) (is_by_live Y es) (live-any es) (told X es) s.agree.silent);
     };
   }
 

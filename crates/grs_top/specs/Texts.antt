@@ -4,11 +4,10 @@ use Rattle.grs_base.specs.Rows.{rows_of}
 use Rattle.grs_wire.specs.History.{replay}
 use Rattle.grs_wire.specs.declared.deck.Deck.{Deck as DeckValue}
 use Rattle.grs_wire.specs.declared.deck.Event.{Event}
-use Rattle.grs_world.specs.Agree.{Sound}
+use Rattle.grs_world.specs.Agree.{Sound, RemovedTellNothing}
 use Rattle.grs_world.specs.AtRest.{NothingIsLost}
 use Rattle.grs_world.specs.InStar.{NoneInStar}
 use Rattle.grs_world.specs.Passed.{PassedIsTold}
-use Rattle.grs_world.specs.Removing.{RemovedTellNothing}
 use Rattle.grs_world.specs.Running.{at_rest}
 use Rattle.grs_world.specs.World.{first_world, run, hist}
 use Rattle.grs_analyze.specs.Text.{analysis_text}

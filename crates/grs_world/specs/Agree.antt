@@ -146,14 +146,24 @@ is_event_of s (Some e) = e.system.0 == s.0
 abbrev pub is_of_event : List Event → Told → Bool
 is_of_event es x = nat_lt 0 x.event && is_event_of x.system (slice_get es (x.event - 1))
 
+-- whether this was told by a system of which the history lacks the removal, as it was before that event
+abbrev pub is_by_live : Deck → List Event → Told → Bool
+is_by_live deck es x = not (list_any (removes x.system) (hist deck (take (x.event - 1) es)))
+
+-- A removed system tells nothing more, to its tasks or at its desk.
+abbrev pub RemovedTellNothing : Deck → List Event → Type 0
+RemovedTellNothing deck es = list_all (is_by_live deck es) (told deck es) ≡ true
+
 -- What a run tells agrees with its history.
 pub record Agree (deck : Deck) (es : List Event) : Type 0 where
   -- each line that is told agrees
   pub lines : AllAgree deck es [] (told deck es)
   -- and is told by an event, and by the system of that event,
   pub events : list_all (is_of_event es) (told deck es) ≡ true
-  -- and each removal is told by the event that makes it
+  -- each removal is told by the event that makes it,
   pub removals : (e : ℕ) → RemovalsTold deck e (fixed_in deck es e) (told deck es)
+  -- and a removed system tells nothing more
+  pub silent : RemovedTellNothing deck es
 
 -- A run is sound: its history is legal, and what it tells agrees with that history.
 pub record Sound (deck : Deck) (es : List Event) : Type 0 where

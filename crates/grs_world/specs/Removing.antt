@@ -1,9 +1,9 @@
 -- What the removal of a system comes to in a run: when each answer of it comes, what stands in the history, which
 -- owners and waiters stay, and where the message goes.
-use Rattle.std.specs.Prelude.{◌≡◌, ◌≢◌, ◌↔◌, ◌-◌, ℕ, Bool, true, false, not, cond, take, List, [], ◌∷◌, ◌++◌, filter}
+use Rattle.std.specs.Prelude.{◌≡◌, ◌≢◌, ◌↔◌, ℕ, true, false, cond, List, [], ◌∷◌, ◌++◌, filter}
 use Rattle.std.specs.Prelude.{Contains, Option, Some}
 use Rattle.std.specs.Prelude.{None, slice_get}
-use Rattle.std.specs.List.{list_all, list_any}
+use Rattle.std.specs.List.{list_any}
 use Rattle.grs_base.specs.Lists.{owns}
 use Rattle.grs_base.specs.State.{is_systems, is_of_other}
 use Rattle.grs_base.specs.declared.resource.Res.{Res}
@@ -26,10 +26,9 @@ use Rattle.grs_wire.specs.declared.medium.Call.{Call as MediumCall}
 use Rattle.grs_wire.specs.declared.medium.Reply.{Reply}
 use Rattle.grs_wire.specs.declared.medium.Reply.TheVariants as replies
 use Rattle.grs_wire.specs.declared.medium.RingEntry.{RingEntry}
-use Rattle.grs_wire.specs.declared.told.Told.{Told}
 use Rattle.grs_world.specs.Kept.{places}
 use Rattle.grs_world.specs.Running.{is_live}
-use Rattle.grs_world.specs.World.{World, run, hist, told, happens, counted}
+use Rattle.grs_world.specs.World.{World, run, hist, happens, counted}
 
 -- ---- the answers
 
@@ -104,16 +103,6 @@ NoneFollows deck es =
     (before behind : List HistEntry) (by target : SysId) (t : TaskId)
     → hist deck es ≡ before ++ Remove by target ∷ behind
     → t.system.0 ≡ target.0 → entries_of t behind ≡ []
-
--- ---- what is told
-
--- whether this was told by a system of which the history lacks the removal, as it was before that event
-abbrev pub is_by_live : Deck → List Event → Told → Bool
-is_by_live deck es x = not (list_any (removes x.system) (hist deck (take (x.event - 1) es)))
-
--- A removed system tells nothing more, to its tasks or at its desk.
-abbrev pub RemovedTellNothing : Deck → List Event → Type 0
-RemovedTellNothing deck es = list_all (is_by_live deck es) (told deck es) ≡ true
 
 -- ---- owners and waiters
 

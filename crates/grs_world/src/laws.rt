@@ -3,7 +3,7 @@ ghost use Rattle.std.specs.Prelude.{◌≡◌, true, false, length, List};
 ghost use Rattle.grs_wire.specs.Decks.{IsBounded, AreOrders};
 ghost use Rattle.grs_wire.specs.declared.deck.Deck.{Deck};
 ghost use Rattle.grs_wire.specs.declared.deck.Event.{Event};
-ghost use Rattle.grs_world.specs.Agree.{Sound};
+ghost use Rattle.grs_world.specs.Agree.{Sound, RemovedTellNothing};
 ghost use Rattle.grs_world.specs.AtRest.{RestsInTheEnd};
 ghost use Rattle.grs_world.specs.Changing.{ChangesFixNothing};
 ghost use Rattle.grs_world.specs.Fixing.{EventFixes};
@@ -12,16 +12,17 @@ ghost use Rattle.grs_world.specs.Interest.{WordsAreManaged, WordsGoWithSystems};
 ghost use Rattle.grs_world.specs.Kept.{KeptArePlaces, ManagersKeepWell};
 ghost use Rattle.grs_world.specs.Laps.{ComesBackLast, ProcessedLast, AnsweredLast};
 ghost use Rattle.grs_world.specs.Passed.{PassedIsTold};
-ghost use Rattle.grs_world.specs.Removing.{RemovedAreInHistory, AnswersHaveCauses, RemovalsAreEntries, NoneFollows, RemovedTellNothing, RemovalsKeepOthers, MessageGoesOn};
+ghost use Rattle.grs_world.specs.Removing.{RemovedAreInHistory, AnswersHaveCauses, RemovalsAreEntries, NoneFollows, RemovalsKeepOthers, MessageGoesOn};
 ghost use Rattle.grs_world.specs.Stopped.{LapsEnd};
 ghost use Rattle.grs_world.specs.Tables.{TablesAreFronts};
 ghost use Rattle.grs_world.specs.Decks.{FitsStar, may_be_star, may_remove};
 ghost use Rattle.grs_world.specs.World.{run};
 
 /// Every run is sound, in ring mode and in star mode and where it changes from the one to the other, at whatever event: its
-/// history is legal, and what is told agrees with it. So it is wherever systems are removed in ring mode, and as long as
-/// none is removed in star mode. Of a deck whose runs may be in star mode it needs the bounds of systems and lock entries,
-/// and of each deck that no desk commands the removal of its own system, or of one that isn't there.
+/// history is legal, and what is told agrees with it, by systems that weren't removed. So it is wherever systems are removed
+/// in ring mode, and as long as none is removed in star mode. Of a deck whose runs may be in star mode it needs the bounds of
+/// systems and lock entries, and of each deck that no desk commands the removal of its own system, or of one that isn't
+/// there.
 pub fn runs_are_sound()
     ensures { (deck : Deck) → (may_be_star deck ≡ true → FitsStar deck) → AreOrders (length deck.systems) 0 deck.systems → (events : List Event) → NoneInStar deck events → Sound deck events }
 {}

@@ -19,8 +19,7 @@ use Rattle.grs_known.proofs.lists.Facts.{all-kept}
 use Rattle.grs_world.proofs.run.Each.{each_live, each_run}
 use Rattle.grs_world.proofs.run.OfEvents.{of-last, of-longer}
 use Rattle.grs_world.proofs.run.Removals.{removed_in_history}
-use Rattle.grs_world.specs.Agree.{is_event_of, is_of_event}
-use Rattle.grs_world.specs.Removing.{RemovedTellNothing, is_by_live}
+use Rattle.grs_world.specs.Agree.{RemovedTellNothing, is_by_live, is_event_of, is_of_event}
 use Rattle.grs_world.specs.World.{Turnout, World, chosen, counted, first_world, happens, hist, placed, run, told_by}
 
 -- whether this is of one of these events, and of a system that was live then

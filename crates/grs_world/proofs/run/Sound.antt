@@ -38,6 +38,7 @@ use Rattle.grs_world.proofs.run.Outcomes.{Outcome, quiet_outcome, still_outcome,
 use Rattle.grs_world.proofs.run.Purging.{desk_world, removed_world, target-fits}
 use Rattle.grs_world.proofs.run.Removals.{AreHome, gone_are_removed, removals_told}
 use Rattle.grs_world.proofs.run.Runs.{GoodTold, GoodWorld, GoodMessage, push, told-counted, seen_at, message_log}
+use Rattle.grs_world.proofs.run.Silent.{removed-silent}
 use Rattle.grs_world.proofs.system.AtNode.{Seen, seen-known}
 use Rattle.grs_world.proofs.system.Begun.{first_seen}
 use Rattle.grs_world.proofs.system.Desks.{desk-told}
@@ -308,5 +309,6 @@ sound-of deck fit es home right told = record {
     lines = told.agree fit;
     events = told_of_events deck es;
     removals = removals_told deck es home;
+    silent = removed-silent deck es;
   };
 }
