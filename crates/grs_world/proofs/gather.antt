@@ -5,3 +5,8 @@ pub mod NeverStar
 pub mod NeverOrdered
 pub mod Unchanged
 pub mod Managed
+pub mod Elements
+pub mod Gathered
+pub mod Clean
+pub mod Known
+pub mod Acts

@@ -10,4 +10,5 @@ pub mod RestSamples
 pub mod RankSamples
 pub mod RemovalSamples
 pub mod InStarSamples
+pub mod GatherSamples
 pub mod StopSamples

@@ -12,5 +12,6 @@ pub mod Changing
 pub mod Passed
 pub mod AtRest
 pub mod Removing
+pub mod Gone
 pub mod InStar
 pub mod Stopped

@@ -7,6 +7,7 @@ ghost use Rattle.grs_world.specs.Agree.{Sound, RemovedTellNothing};
 ghost use Rattle.grs_world.specs.AtRest.{RestsInTheEnd};
 ghost use Rattle.grs_world.specs.Changing.{ChangesFixNothing};
 ghost use Rattle.grs_world.specs.Fixing.{EventFixes};
+ghost use Rattle.grs_world.specs.Gone.{KnownAreGone, ActsWithoutGone};
 ghost use Rattle.grs_world.specs.InStar.{NoneInStar};
 ghost use Rattle.grs_world.specs.Interest.{WordsAreManaged, WordsGoWithSystems};
 ghost use Rattle.grs_world.specs.Kept.{KeptArePlaces, ManagersKeepWell};
@@ -41,7 +42,8 @@ pub fn decks_without_removals_are_spared()
 /// In every run of such a deck that removes no system in star mode what is kept of each Systems resource is the list that
 /// the history leads to. In ring mode each live system keeps it: its table has that list once the entries that it hasn't
 /// seen are processed. In star mode the manager of the resource's lock entry does, in its table as long as it hasn't
-/// changed; where there is none, the history has nothing on the resource.
+/// changed; where there is none, the history has nothing on the resource. What is kept behind the removal of a manager, as
+/// long as the lists of its entries have still to be gathered, `kept` says too; so far that is shown by worked runs.
 pub fn kept_are_places()
     ensures { (deck : Deck) → (may_be_star deck ≡ true → FitsStar deck) → (events : List Event) → NoneInStar deck events → KeptArePlaces deck events }
 {}
@@ -137,6 +139,15 @@ pub fn removals_are_entries()
 /// No entry of a task of the removed system stands behind the removal, in either mode.
 pub fn none_follows_its_removal()
     ensures { (deck : Deck) → (may_be_star deck ≡ true → FitsStar deck) → AreOrders (length deck.systems) 0 deck.systems → (events : List Event) → NoneFollows deck events }
+{}
+
+/// In every run, whichever systems are removed, a system in star mode keeps nothing of one that it knows to be removed: no
+/// element of its tasks in the lists that it manages, none of their requests, and of no lock entry whose lists it gathers
+/// a part of it, or the wait for one. So neither does a system of any removed one by whose call, which isn't refused, an
+/// event is made: it knows all of them.
+pub fn nothing_is_kept_of_removed()
+    ensures known { (deck : Deck) → AreOrders (length deck.systems) 0 deck.systems → (events : List Event) → KnownAreGone deck events }
+    ensures acting { (deck : Deck) → AreOrders (length deck.systems) 0 deck.systems → (events : List Event) (next : Event) → ActsWithoutGone deck events next }
 {}
 
 /// No line is told by a system that was removed before that event, to a task or at its desk.

@@ -156,7 +156,7 @@ is-member set u k h (no other) l before =
     list_any-append (λ (z : SysId). z.0 == u) (members_below set k) (cond (has set k) (record { 0 = k } ∷ []) [])
     ∙ or_left (list_any (λ (z : SysId). z.0 == u) (members_below set k)) _ (before (omega (arith, l, other)))
 
-member : (set u k : ℕ) → has set u ≡ true → u < k → list_any (λ (z : SysId). z.0 == u) (members_below set k) ≡ true
+pub member : (set u k : ℕ) → has set u ≡ true → u < k → list_any (λ (z : SysId). z.0 == u) (members_below set k) ≡ true
 unfolding members_below
 member set u zero h l = absurd (omega (arith, l))
 member set u (suc k) h l = is-member set u k h (ℕ_discrete u k) l (λ m. member set u k h m)

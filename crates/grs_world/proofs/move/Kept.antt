@@ -1,6 +1,8 @@
 -- What is kept is what the history says, in either mode and where the complex changes from ring to star mode.
-use Rattle.std.proofs.Common.{◌≡◌, ◌<◌, ◌≤◌, ◌++◌, [], List, None, Option, Some, ap, append_assoc, arith, cond, false}
+use Rattle.std.proofs.Common.{◌≡◌, ◌<◌, ◌≤◌, ◌++◌, ◌||◌, [], List, None, Option, Some, ap, append_assoc, arith, cond}
+use Rattle.std.proofs.Common.{false}
 use Rattle.std.proofs.Common.{length, refl, subst, sym, true, ◌∙◌, ℕ}
+use Rattle.std.specs.Option.{option_map_or}
 use Rattle.std.specs.Prelude.{slice_get}
 use Rattle.std.proofs.lemmas.Option.{same_Some}
 use Rattle.std.proofs.lemmas.Bool.{eq-eqb}
@@ -16,7 +18,7 @@ use Rattle.grs_known.specs.Items.{items, lists, rounds, history}
 use Rattle.grs_node.proofs.TableParts.{table-lists}
 use Rattle.grs_node.specs.Change.{part_by_table}
 use Rattle.grs_node.specs.Node.{NodeState}
-use Rattle.grs_node.specs.Star.{StarPart, manages}
+use Rattle.grs_node.specs.Star.{StarPart, gathers, manages}
 use Rattle.grs_wire.specs.Masks.{has}
 use Rattle.grs_wire.specs.History.{replay}
 use Rattle.grs_wire.specs.declared.deck.Deck.{Deck}
@@ -32,14 +34,16 @@ use Rattle.grs_world.proofs.move.Waiting.{reads, whole_now}
 use Rattle.grs_world.proofs.run.Growing.{asks-rounds}
 use Rattle.grs_world.proofs.run.KeptPlaces.{kept_is}
 use Rattle.grs_world.proofs.star.Members.{IsMember, all_lists, manager-here}
-use Rattle.grs_world.proofs.star.Worlds.{kept-whole, live-below, manager-live}
+use Rattle.grs_world.proofs.star.Runs.{none-to-gather, own-kept}
+use Rattle.grs_world.proofs.star.Worlds.{kept-whole, live-below, manager-live, quiet-whole}
 use Rattle.grs_world.specs.Decks.{FitsStar, may_be_star}
-use Rattle.grs_world.specs.Kept.{KeptArePlaces, at_manager, at_node, kept, kept_in, managed_list, named_by, places}
+use Rattle.grs_world.specs.Kept.{KeptArePlaces, at_manager, at_node, has_to_gather, kept, kept_in, managed_list}
+use Rattle.grs_world.specs.Kept.{named_by, places, without_gone}
 use Rattle.grs_world.specs.World.{World, run}
 use Rattle.lock_structure.specs.Entries.{entry_of_res, is_entry}
 use Rattle.lock_structure.specs.Laws.{manager_at}
 use Rattle.mode_migrate.specs.Laws.{are_within}
-use Rattle.grs_world.proofs.run.Site.{at_site}
+use Rattle.grs_world.proofs.run.Site.{Site, at_site}
 
 -- a resource of an entry is of that entry
 of-entry : (o : Option ℕ) (x : ℕ) → o ≡ Some x → is_entry x o ≡ true
@@ -113,22 +117,50 @@ module _ (deck : Deck) (some : 0 < deck.entries) (few : length deck.systems ≤ 
           ap (λ o. managed_list deck w m n o r) h.alone
           ∙ (kept-list ∙ (sym shown-list ∙ sym (ap (λ o. managed_list deck shown m k o r) part-is)))
 
+  lists_shown : (r : Res) (x : ℕ) (m : SysId) → entry_of_res deck.entries r ≡ Some x
+      → manager_at w.medium.words x ≡ Some m → (n k : NodeState) → slice_get w.nodes m.0 ≡ Some n
+      → slice_get g.view m.0 ≡ Some k → has w.medium.removed m.0 ≡ false
+      → Shown deck m.0 (items w.fixed) (g.before m.0) (g.due m.0) g.since (g.whole.out m.0) k n →
+      managed_list deck w m n n.star r ≡ managed_list deck (record w { nodes = g.view }) m k k.star r
+  lists_shown r x m of managed n k at there unremoved (has_changed none) =
+      let star = (g.whole.roles.node m.0 k (at_site there unremoved)).star in
+      ap (λ o. managed_list deck w m k o r) star ∙ sym (ap (λ o. managed_list deck shown m k o r) star)
+  lists_shown r x m of managed n k at there unremoved (waits_yet z h is empty) =
+      waits-shown r x m of managed z k at there unremoved h is empty
+
+  -- it has nothing to gather, as who has changed hasn't
+  none-gathers : (x : ℕ) (m : SysId) (n k : NodeState) (there : Site (record w { nodes = g.view }) m.0 k)
+      → Shown deck m.0 (items w.fixed) (g.before m.0) (g.due m.0) g.since (g.whole.out m.0) k n →
+      has_to_gather w m n (Some x) ≡ false
+  none-gathers x m n k there (has_changed none) =
+      none-to-gather deck shown (all_lists shown) m k x (g.whole.roles.node m.0 k there)
+      (quiet-whole deck shown g.whole m.0 k x there)
+  none-gathers x m n k there (waits_yet z h is empty) =
+      ap (λ b. b || option_map_or (λ p. gathers p x) z.star false) (quiet-whole deck shown g.whole m.0 k x there)
+      ∙ ap (λ o. option_map_or (λ p. gathers p x) o false) h.alone
+
   at_shown : (r : Res) (x : ℕ) (m : SysId) → entry_of_res deck.entries r ≡ Some x → manager_at w.medium.words x ≡ Some m
       → (n k : NodeState) → slice_get w.nodes m.0 ≡ Some n → slice_get g.view m.0 ≡ Some k
       → has w.medium.removed m.0 ≡ false
       → Shown deck m.0 (items w.fixed) (g.before m.0) (g.due m.0) g.since (g.whole.out m.0) k n →
       at_node deck w m (Some n) r ≡ at_node deck (record w { nodes = g.view }) m (Some k) r
-  at_shown r x m of managed n k at there unremoved (has_changed none) =
-      let star = (g.whole.roles.node m.0 k (at_site there unremoved)).star in
-      ap (λ o. managed_list deck w m k o r) star ∙ sym (ap (λ o. managed_list deck shown m k o r) star)
-  at_shown r x m of managed n k at there unremoved (waits_yet z h is empty) =
-      waits-shown r x m of managed z k at there unremoved h is empty
+  at_shown r x m of managed n k at there unremoved old =
+      own-kept deck w m n r
+      (ap (has_to_gather w m n) entry ∙ none-gathers x m n k (at_site there unremoved) old)
+      ∙ (lists_shown r x m of managed n k at there unremoved old
+      ∙ sym (own-kept deck shown m k r
+      (ap (has_to_gather shown m k) entry
+      ∙ none-to-gather deck shown (all_lists shown) m k x (g.whole.roles.node m.0 k (at_site there unremoved))
+      (quiet-whole deck shown g.whole m.0 k x (at_site there unremoved)))))
+    where
+      entry : entry_of_res (length w.medium.words) r ≡ Some x
+      entry = ap (λ i. entry_of_res i r) g.whole.roles.words ∙ of
 
   -- ---- so what is kept is what is shown
   kept_shown : (s : SysId) (r : Res) → kept deck w s r ≡ kept deck (record w { nodes = g.view }) s r
   kept_shown s r =
       ap (λ b. kept_in b deck w s r) g.whole.roles.mode
-      ∙ (by_entry (entry_of_res (length w.medium.words) r) refl
+      ∙ (ap (without_gone w.medium.removed) (by_entry (entry_of_res (length w.medium.words) r) refl)
       ∙ sym (ap (λ b. kept_in b deck shown s r) g.whole.roles.mode))
     where
       by_system : (x : ℕ) (m : SysId) → entry_of_res deck.entries r ≡ Some x → manager_at w.medium.words x ≡ Some m

@@ -1,21 +1,27 @@
 -- Each element is of a system that has interest in its entry.
-use Rattle.std.proofs.Common.{◌≡◌, ℕ, Bool, true, false, cond, List, [], ◌∷◌, ◌++◌, Some, refl, ap, sym, ◌∙◌}
+use Rattle.std.proofs.Common.{◌≡◌, ℕ, Bool, true, false, not, cond, List, [], ◌∷◌, ◌++◌, Some, refl, ap, sym, ◌∙◌}
 use Rattle.std.proofs.Common.{append_assoc}
 use Rattle.std.specs.List.{list_all}
-use Rattle.std.proofs.lemmas.Bool.{and_from, or_left, or_right}
+use Rattle.std.proofs.lemmas.Bool.{and_from, and_parts, or_left, or_right}
 use Rattle.lock_structure.specs.Entries.{entry_of_res}
 use Rattle.grs_base.specs.Same.{same_res, same_task}
 use Rattle.grs_base.specs.Lists.{has_task}
+use Rattle.grs_base.specs.Slices.{slice_of, entry_of}
 use Rattle.grs_base.specs.State.{State, list_of}
 use Rattle.grs_base.specs.declared.resource.Elem.{Elem}
 use Rattle.grs_base.specs.declared.resource.Res.{Res}
+use Rattle.grs_base.specs.declared.resource.Res.TheVariants.{Systems}
 use Rattle.grs_base.specs.declared.resource.TaskId.{TaskId}
-use Rattle.grs_base.proofs.SameLaws.{same_res-itself, same_task-itself}
+use Rattle.grs_base.proofs.SameLaws.{same_res-exact, same_res-itself, same_task-itself}
+use Rattle.grs_wire.specs.Masks.{has}
 use Rattle.grs_wire.specs.Wants.{after_want, res_wanted}
 use Rattle.grs_wire.specs.declared.deck.Deck.{Deck}
 use Rattle.grs_wire.specs.declared.request.Want.{Want}
 use Rattle.grs_known.proofs.lists.All.{all-want, has_task-all}
+use Rattle.grs_known.proofs.lists.Truths.{false_by, no_truth}
 use Rattle.grs_world.proofs.star.Systems.{near_at}
+use Rattle.grs_world.specs.Kept.{without_gone}
+use Rattle.lock_structure.specs.Laws.{is_interested}
 
 -- whether a task's system has interest in the entry of a resource, if it has one
 abbrev pub is_near_res : Deck → List ℕ → Res → TaskId → Bool
@@ -34,6 +40,39 @@ near-want deck words s t w mine h = all-want (is_near_res deck words) s t w mine
 pub near-has : (deck : Deck) (words : List ℕ) (s : State) (r : Res) (t : TaskId) → AreNear deck words s
     → has_task (list_of s r) t ≡ true → is_near_res deck words r t ≡ true
 near-has deck words s r t h has = has_task-all (is_near_res deck words) s r t h has
+
+-- No element is of systems that have no interest.
+pub near-stays : (deck : Deck) (words : List ℕ) (gone : ℕ)
+    → ((e u : ℕ) → has gone u ≡ true → is_interested words e u ≡ false) → (q r : List ℕ) (s : State)
+    → AreNear deck words s
+    → without_gone gone (list_of s (Systems q r)) ≡ list_of s (Systems q r)
+near-stays deck words gone none q r [] near = refl
+near-stays deck words gone none q r (h ∷ s) near =
+    go (same_res (Systems q r) h.0) refl (near-stays deck words gone none q r s both.1)
+  where
+    res : Res
+    res = Systems q r
+
+    both : (is_near_res deck words h.0 h.1.task ≡ true) × (AreNear deck words s)
+    both =
+        and_parts (is_near_res deck words h.0 h.1.task) (list_all (λ z. is_near_res deck words z.0 z.1.task) s) near
+
+    go : (b : Bool) → same_res (Systems q r) h.0 ≡ b
+        → without_gone gone (list_of s (Systems q r)) ≡ list_of s (Systems q r)
+        → without_gone gone (cond b (h.1 ∷ list_of s (Systems q r)) (list_of s (Systems q r)))
+        ≡ cond b (h.1 ∷ list_of s (Systems q r)) (list_of s (Systems q r))
+    go false e more = more
+    go true e more =
+        let same : res ≡ h.0 = same_res-exact res h.0 e in
+        let here : is_interested words (entry_of (slice_of q r) deck.entries) h.1.task.system.0 ≡ true =
+        ap (λ z. is_near_res deck words z h.1.task) same ∙ both.0 in
+        let stays : has gone h.1.task.system.0 ≡ false =
+        false_by (has gone h.1.task.system.0)
+        (λ out.
+        no_truth (is_interested words (entry_of (slice_of q r) deck.entries) h.1.task.system.0) here
+        (none (entry_of (slice_of q r) deck.entries) h.1.task.system.0 out)) in
+        ap (λ b. cond (not b) (h.1 ∷ without_gone gone (list_of s res)) (without_gone gone (list_of s res))) stays
+        ∙ ap (λ (xs : List Elem). h.1 ∷ xs) more
 
 -- each element is one of its list
 has-here : (done : State) (h : Res × Elem) (todo : State) → has_task (list_of (done ++ h ∷ todo) h.0) h.1.task ≡ true

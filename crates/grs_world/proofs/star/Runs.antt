@@ -1,21 +1,24 @@
 -- What holds of words, roles and lists at the start of star mode; and the lists that are kept in it.
-use Rattle.std.proofs.Common.{◌≡◌, ◌≤◌, ◌<◌, ◌%◌, ℕ, zero, suc, Bool, true, false, not, cond, List, [], ◌∷◌, length}
-use Rattle.std.proofs.Common.{Option, Some, None, refl, ap, sym, ◌∙◌, subst, arith}
+use Rattle.std.proofs.Common.{◌≡◌, ◌≤◌, ◌<◌, ◌%◌, ◌||◌, ℕ, zero, suc, Bool, true, false, not, cond, List, [], ◌∷◌}
+use Rattle.std.proofs.Common.{length, Option, Some, None, refl, ap, sym, ◌∙◌, subst, arith}
 use Rattle.std.specs.Prelude.{is_some, nat_lt, slice_get, replicate, slice_index_or}
+use Rattle.std.specs.Option.{option_map_or}
 use Rattle.std.proofs.lemmas.Bool.{and_parts, ltb-true, not-true}
 use Rattle.std.proofs.lemmas.List.{length-replicate}
 use Rattle.contention_mgr.specs.Manager.{plain, items_of, kept_at, kept_for}
 use Rattle.lock_structure.specs.Entries.{entry_of_res}
 use Rattle.contention_mgr.proofs.ManagerLaws.{well_kept_begins}
 use Rattle.grs_base.specs.Slices.{slice_of, entry_of}
-use Rattle.grs_base.specs.State.{list_of, is_systems}
+use Rattle.grs_base.specs.State.{State, list_of, is_systems}
 use Rattle.grs_base.specs.declared.resource.Res.{Res}
 use Rattle.grs_base.specs.declared.resource.Res.TheVariants.{Step, System, Systems}
 use Rattle.grs_base.specs.declared.resource.SysId.{SysId}
+use Rattle.grs_medium.specs.Medium.{inbox}
 use Rattle.grs_node.specs.Node.{NodeState, first_node}
-use Rattle.grs_node.specs.Star.{first_part, manages}
+use Rattle.grs_node.specs.Star.{first_part, gathers, manages}
 use Rattle.grs_wire.specs.LockWords.{manager, is_manager}
 use Rattle.grs_wire.specs.Masks.{has, lives}
+use Rattle.grs_wire.specs.Notices.{noticed}
 use Rattle.grs_wire.specs.declared.deck.Deck.{Deck}
 use Rattle.grs_wire.proofs.MaskLaws.{has-zero}
 use Rattle.lock_structure.specs.Laws.{is_interested, manager_at}
@@ -23,15 +26,16 @@ use Rattle.lock_structure.specs.Words.{word_at}
 use Rattle.lock_structure.proofs.LawProofs.{words_begin}
 use Rattle.grs_known.proofs.lists.Facts.{slice_get-past}
 use Rattle.grs_known.proofs.lists.Truths.{no_truth}
-use Rattle.grs_world.proofs.star.Calm.{calm-first}
-use Rattle.grs_world.specs.Kept.{kept, kept_in, at_manager, at_node, managed_list, named_by}
+use Rattle.grs_world.proofs.star.Calm.{calm-first, not-gathered}
+use Rattle.grs_world.specs.Kept.{kept, kept_in, at_manager, at_node, has_to_gather, managed_list, named_by, shown_list}
+use Rattle.grs_world.specs.Kept.{without_gone}
 use Rattle.grs_world.specs.World.{World, first_world, counted}
 use Rattle.grs_world.proofs.run.Sound.{first_is}
 use Rattle.grs_world.proofs.star.Members.{IsPart, IsMember, IsStar, has_manager, manager-here, all_lists}
 use Rattle.grs_world.proofs.star.Under.{in_entry, under, entry-same, list-under}
 use Rattle.grs_known.proofs.lists.Alike.{Alike, alike-itself}
 use Rattle.grs_world.proofs.run.InRing.{count_first}
-use Rattle.grs_world.proofs.run.Site.{at_site}
+use Rattle.grs_world.proofs.run.Site.{Site, at_site}
 
 -- ---- one event
 -- an event that is only counted
@@ -120,12 +124,32 @@ word_past (w ∷ ws) zero past = absurd (omega (arith, past))
 word_past (w ∷ ws) (suc e) past = word_past ws e (omega (arith, past))
 
 -- ---- what is kept are the lists after all that was fixed
-pub kept_lists : (deck : Deck) (w : World) → IsStar deck w → (s : SysId) (r : Res) → is_systems r ≡ true
+-- a system that no notice names an entry to has nothing to gather of it
+pub none-to-gather :
+    (deck : Deck) (w : World) (L : State) (m : SysId) (n : NodeState) (x : ℕ)
+    → IsMember deck w.medium.words L m.0 n → noticed x (inbox w.medium m.0) ≡ false →
+    has_to_gather w m n (Some x) ≡ false
+none-to-gather deck w L m n x k quiet =
+    ap (λ b. b || option_map_or (λ p. gathers p x) n.star false) quiet
+    ∙ (ap (λ o. option_map_or (λ p. gathers p x) o false) k.star ∙ not-gathered k.part k.fits.calm x)
+
+-- so its own list is kept
+pub own-kept : (deck : Deck) (w : World) (m : SysId) (n : NodeState) (r : Res)
+    → has_to_gather w m n (entry_of_res (length w.medium.words) r) ≡ false
+    → at_node deck w m (Some n) r ≡ managed_list deck w m n n.star r
+own-kept deck w m n r none = ap (λ b. cond b (shown_list deck w r) (managed_list deck w m n n.star r)) none
+
+-- Where no notice is in an inbox, and no element is of a removed system, the managers keep the lists.
+pub kept_lists : (deck : Deck) (w : World) → IsStar deck w
+    → ((m : ℕ) (n : NodeState) (e : ℕ) → Site w m n → noticed e (inbox w.medium m) ≡ false) → (s : SysId) (r : Res)
+    → is_systems r ≡ true
+    → without_gone w.medium.removed (list_of (all_lists w) r) ≡ list_of (all_lists w) r
     → kept deck w s r ≡ list_of (all_lists w) r
-kept_lists deck w g s (Step n j q r) all = absurd (cc)
-kept_lists deck w g s (System n q r) all = absurd (cc)
-kept_lists deck w g s (Systems q r) all =
-    ap (λ b. kept_in b deck w s res) g.mode ∙ by_word (manager_at w.medium.words x) refl
+kept_lists deck w g quiet s (Step n j q r) all stay = absurd (cc)
+kept_lists deck w g quiet s (System n q r) all stay = absurd (cc)
+kept_lists deck w g quiet s (Systems q r) all stay =
+    ap (λ b. kept_in b deck w s res) g.mode
+    ∙ (ap (without_gone w.medium.removed) (by_word (manager_at w.medium.words x) refl) ∙ stay)
   where
     res : Res
     res = Systems q r
@@ -151,13 +175,15 @@ kept_lists deck w g s (Systems q r) all =
     at_member : (m : SysId) (n : NodeState) → slice_get w.nodes m.0 ≡ Some n → manager_at w.medium.words x ≡ Some m
         → at_node deck w m (Some n) (Systems q r) ≡ list_of (all_lists w) (Systems q r)
     at_member m n at is =
-        let k =
-        g.node m.0 n (at_site at
-        (not-true _ (and_parts (nat_lt m.0 (length w.nodes)) (not (has w.medium.removed m.0)) (lives_here m is)).1)) in
+        let there : Site w m.0 n =
+        at_site at
+        (not-true _ (and_parts (nat_lt m.0 (length w.nodes)) (not (has w.medium.removed m.0)) (lives_here m is)).1) in
+        let k = g.node m.0 n there in
         let mine : manages k.part x ≡ true = k.fits.roles x ∙ manager-here w.medium.words x m is in
         let entry : entry_of_res (length k.part.manager.entries) res ≡ Some x =
         ap (λ i. Some (entry_of (slice_of q r) i)) (k.fits.entries ∙ sym g.words) in
-        ap (λ o. managed_list deck w m n o res) k.star
+        own-kept deck w m n res (none-to-gather deck w (all_lists w) m n x k (quiet m.0 n x there))
+        ∙ ap (λ o. managed_list deck w m n o res) k.star
         ∙ ap (λ o. list_of (plain (items_of (kept_for k.part.manager.entries o))) res) entry
         ∙ (k.fits.lists x mine).lists res
         ∙ listed

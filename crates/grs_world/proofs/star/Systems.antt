@@ -18,6 +18,7 @@ use Rattle.grs_base.proofs.SameLaws.{same_task-exact}
 use Rattle.grs_legal.specs.declared.meaning.Meaning.{Meaning}
 use Rattle.grs_node.specs.Node.{NodeState}
 use Rattle.grs_wire.specs.History.{entries_for}
+use Rattle.grs_wire.specs.Notices.{noticed}
 use Rattle.grs_wire.specs.Wants.{answer_to}
 use Rattle.grs_wire.specs.declared.deck.Deck.{Deck}
 use Rattle.grs_wire.specs.declared.medium.Mail.{Mail}
@@ -112,6 +113,16 @@ MailFits deck words s (Part e from records) = ⊥
 abbrev pub AllFit : Deck → List ℕ → ℕ → List Mail → Type 0
 AllFit deck words s [] = Unit {0}
 AllFit deck words s (m ∷ ms) = MailFits deck words s m × AllFit deck words s ms
+
+-- so none of these mails is a notice
+pub none-noticed : (deck : Deck) (words : List ℕ) (s e : ℕ) (ms : List Mail) → AllFit deck words s ms
+    → noticed e ms ≡ false
+none-noticed deck words s e [] h = refl
+none-noticed deck words s e (Request x from q ∷ ms) h = none-noticed deck words s e ms h.1
+none-noticed deck words s e (Answered t answer rank ∷ ms) h = none-noticed deck words s e ms h.1
+none-noticed deck words s e (Granted t r ∷ ms) h = none-noticed deck words s e ms h.1
+none-noticed deck words s e (Notice target moved ∷ ms) h = absurd h.0
+none-noticed deck words s e (Part x from records ∷ ms) h = none-noticed deck words s e ms h.1
 
 -- whether a system has interest in the entry of a request
 abbrev pub near_at : List ℕ → ℕ → Option ℕ → Bool

@@ -1,8 +1,10 @@
 -- The systems of a run in star mode together: whose hands each request is in, and how an event of one system is placed.
 use Rattle.std.proofs.Common.{◌≡◌, ◌≢◌, ◌⊎◌, ◌<◌, ℕ, Bool, true, false, List, [], ◌∷◌, ◌++◌, length, Some, refl, ap}
 use Rattle.std.proofs.Common.{sym, ◌∙◌, subst, append-nil, None, Option}
-use Rattle.std.specs.Prelude.{not, nat_lt, get_or}
+use Rattle.std.specs.Prelude.{not, nat_lt, get_or, ◌&&◌}
+use Rattle.std.proofs.Math.Bool.{and-false}
 use Rattle.grs_wire.specs.Masks.{has, lives}
+use Rattle.grs_wire.specs.Notices.{noticed}
 use Rattle.std.proofs.lemmas.Bool.{and_parts, lt-ltb, ltb-true, not-true}
 use Rattle.std.proofs.lemmas.List.{length-set}
 use Rattle.std.proofs.lemmas.Option.{slice_get-get_or}
@@ -25,18 +27,18 @@ use Rattle.grs_wire.specs.History.{replay, after_fixed}
 use Rattle.grs_known.specs.Items.{RunItem, goes_round, mine, lists, items, history}
 use Rattle.grs_known.proofs.known.Histories.{IsHistory, made_item, items-append, replayed, wants-round}
 use Rattle.grs_known.proofs.known.ItemLaws.{lists-push}
-use Rattle.grs_world.specs.Kept.{kept}
+use Rattle.grs_world.specs.Kept.{kept, without_gone}
 use Rattle.grs_world.specs.World.{World, Turnout, fixed_by, placed, counted}
 use Rattle.grs_known.proofs.system.Says.{askers, stand_apart}
 use Rattle.grs_known.proofs.lists.Truths.{no_truth}
-use Rattle.grs_world.proofs.star.Elements.{AreNear, is_near_res, near-want}
+use Rattle.grs_world.proofs.star.Elements.{AreNear, is_near_res, near-stays, near-want}
 use Rattle.grs_world.proofs.system.AtNode.{MayFix, fix-history}
 use Rattle.grs_world.proofs.star.Ghosts.{IsOthers, others-fix}
 use Rattle.grs_world.proofs.star.OwnEvents.{Task, idle_task, local_task, system-task, want-round}
 use Rattle.grs_world.proofs.star.Tasks.{task-quiet}
 use Rattle.grs_world.proofs.star.Members.{IsMember, IsStar, IsStep, has_manager, all_lists, framed}
 use Rattle.grs_world.proofs.star.Runs.{kept_lists, counted-star}
-use Rattle.grs_world.proofs.star.Systems.{IsSystem, requests_in, system-other}
+use Rattle.grs_world.proofs.star.Systems.{IsSystem, none-noticed, requests_in, system-other}
 use Rattle.lock_structure.specs.Entries.{is_entry}
 use Rattle.grs_wire.specs.declared.told.Told.{Told}
 use Rattle.rsa_message.specs.Message.{Message}
@@ -240,11 +242,27 @@ whole-still deck w g message flags events fixed told same = (
   λ u. refl,
 )
 
+-- No system is told that it has to gather an entry, and no element is of a removed system.
+pub quiet-whole : (deck : Deck) (w : World) → IsWhole deck w → (m : ℕ) (n : NodeState) (e : ℕ) → Site w m n
+    → noticed e (inbox w.medium m) ≡ false
+quiet-whole deck w g m n e at = none-noticed deck w.medium.words m e (inbox w.medium m) (g.system m n at).fits
+
+pub stay-whole : (deck : Deck) (w : World) → IsWhole deck w → (r : Res) → is_systems r ≡ true
+    → without_gone w.medium.removed (list_of (all_lists w) r) ≡ list_of (all_lists w) r
+stay-whole deck w g (StepRes z j q r) all = absurd (cc)
+stay-whole deck w g (System z q r) all = absurd (cc)
+stay-whole deck w g (Systems q r) all =
+    near-stays deck w.medium.words w.medium.removed
+    (λ e u gone. (g.roles.nobody e u
+    (ap (λ b. nat_lt u (length w.nodes) && not b) gone ∙ and-false (nat_lt u (length w.nodes)))).0)
+    q r (all_lists w) g.near
+
 -- So what is kept is what the history says.
 pub kept-whole : (deck : Deck) (w : World) → IsWhole deck w → (s : SysId) (r : Res) → is_systems r ≡ true
     → kept deck w s r ≡ list_of (replay deck.limit (history (items w.fixed))) r
 kept-whole deck w g s r all =
-    kept_lists deck w g.roles s r all ∙ ap (λ st. list_of st r) (replayed deck (items w.fixed) g.right)
+    kept_lists deck w g.roles (quiet-whole deck w g) s r all (stay-whole deck w g r all)
+    ∙ ap (λ st. list_of st r) (replayed deck (items w.fixed) g.right)
 
 -- what the system fixes for its own task is of others to each other system
 pub fixes-own : (deck : Deck) (c : SysId) (out : ℕ → List Req) (T : List RunItem) (f : Fixed) → MayFix deck c.0 c T f
