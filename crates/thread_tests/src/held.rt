@@ -1,6 +1,7 @@
 //! That workers are there beside each other: one is held ahead of its first call until another, which begins no sooner, has been
-//! answered its second. Whoever waits for the one that is held, but only for a time, passes this too: that is for `three` to refuse. And
-//! that the printed steps are those of the workers.
+//! answered its second. Whoever waits for the one that is held, but only for a time, passes this too, which is for `star`, `beside` and
+//! `mails` to refuse. And that the printed steps are those of the workers.
+use crate::progress::{Progress, keep};
 use crate::runs::{ran, reaches};
 use crossbeam_utils::atomic::AtomicCell;
 use grs_base::{List, SysId};
@@ -13,19 +14,17 @@ const RING: &[u8] = b"SYSTEM SYA\nJOB J1\nTASK T1\nENQ (A,B,E,SYSTEMS)\nDEQ (A,B
     SYSTEM SYB\nJOB J1\nTASK T1\nENQ (A,B,E,SYSTEMS)\nDEQ (A,B,SYSTEMS)\n";
 
 /// Holds the first call of one system until the second call of another is answered, and the first call of the other until the one has
-/// come. So whichever comes sooner waits for both to be at the gate. It keeps how many steps the log of each worker had that was lent
-/// last.
+/// come. So whichever comes sooner waits for both to be at the gate.
 #[derive(Drop)]
 struct Held {
     first: SysId,
     second: SysId,
     came: AtomicCell<u64>,
-    answered: AtomicCell<u64>,
+    systems: [Progress; 2],
     /// The one saw that the other was answered.
     passed: AtomicCell<bool>,
     /// The other saw that the one had come.
     met: AtomicCell<bool>,
-    steps: [AtomicCell<u64>; 2],
 }
 
 impl Held {
@@ -34,23 +33,24 @@ impl Held {
             first: SysId(first),
             second: SysId(second),
             came: AtomicCell::new(0),
-            answered: AtomicCell::new(0),
+            systems: [Progress::new(), Progress::new()],
             passed: AtomicCell::new(false),
             met: AtomicCell::new(false),
-            steps: [AtomicCell::new(0), AtomicCell::new(0)],
         }
     }
 
-    fn keep(&self, system: SysId, worker: &Worker<'_>) {
-        if let Some(steps) = self.steps.get(system.0 as usize) {
-            steps.store(worker.node.log().steps.len() as u64);
+    /// Whether the other is answered its second call in the end.
+    fn other_gets_on(&self) -> bool {
+        match self.systems.get(self.second.0 as usize) {
+            Some(other) => reaches(&other.calls, 2),
+            None => false,
         }
     }
 
     fn hold(&self, system: SysId) {
         if system == self.first {
             self.came.store(1);
-            self.passed.store(reaches(&self.answered, 1));
+            self.passed.store(self.other_gets_on());
         } else if system == self.second {
             self.met.store(reaches(&self.came, 1));
         }
@@ -59,17 +59,14 @@ impl Held {
 
 impl Gate for Held {
     fn before(&self, system: SysId, worker: &Worker<'_>) {
-        self.keep(system, worker);
+        keep(&self.systems, system, worker);
         if worker.calls == 0 {
             self.hold(system);
         }
     }
 
     fn after(&self, system: SysId, worker: &Worker<'_>) {
-        self.keep(system, worker);
-        if system == self.second && worker.calls == 2 {
-            self.answered.store(1);
-        }
+        keep(&self.systems, system, worker);
     }
 }
 
@@ -95,8 +92,8 @@ struct Outcome {
     steps: [bool; 2],
 }
 
-fn is_counted(kept: &AtomicCell<u64>, count: u64) -> bool {
-    count >= 1 && kept.load() == count
+fn is_counted(progress: &Progress, count: u64) -> bool {
+    count >= 1 && progress.steps.load() == count
 }
 
 impl Outcome {
@@ -105,8 +102,8 @@ impl Outcome {
             status,
             passed: gate.passed.load() && gate.met.load(),
             steps: [
-                is_counted(&gate.steps[0], events_of(report, b"SYA ")),
-                is_counted(&gate.steps[1], events_of(report, b"SYB ")),
+                is_counted(&gate.systems[0], events_of(report, b"SYA ")),
+                is_counted(&gate.systems[1], events_of(report, b"SYB ")),
             ],
         }
     }

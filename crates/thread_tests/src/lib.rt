@@ -3,10 +3,24 @@
 #![tactic(auto)]
 
 #[cfg(test)]
+mod beside;
+#[cfg(test)]
+mod calls;
+#[cfg(test)]
 mod held;
+#[cfg(test)]
+mod hold;
+#[cfg(test)]
+mod long;
+#[cfg(test)]
+mod mails;
+#[cfg(test)]
+mod progress;
+#[cfg(test)]
+mod ring;
 #[cfg(test)]
 mod runs;
 #[cfg(test)]
-mod three;
+mod star;
 #[cfg(test)]
 mod waking;

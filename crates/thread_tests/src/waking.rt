@@ -1,6 +1,6 @@
-//! That who waits is woken: at the bus, and in a worker's bed. No time-out wakes anybody. Two seats call in bursts, so a wake
-//! that is lost in the last call of one isn't made up for by the next: whoever waits for the other gives up behind so many turns. Where nobody is woken at all a test
-//! doesn't end within its minute, which the gate counts as a failure.
+//! That who waits is woken: at the bus, and in a worker's bed. No time-out wakes anybody. Two seats call in bursts, so a wake that is
+//! lost in the last call of one isn't made up for by the next: whoever waits for the other gives up behind so many turns. Where nobody
+//! is woken at all a test doesn't end within its minute, which the gate counts as a failure.
 ghost use Rattle.std.specs.Prelude.{◌≡◌, ◌<◌, All, IfOk};
 ghost use Rattle.grs_bus.specs.Seats.{IsSameSeat};
 ghost use Rattle.grs_medium.specs.Medium.{systems_of};
