@@ -955,7 +955,17 @@ class Says:
                 tells = untold[:untold.index((task, resource)) + 1]
                 mails = sum(it[0] == node.number for it, _ in tells)
                 return "it is told so by %s" % self.recipe((manager, "TELL %d" % entry, len(tells)), (node, "TAKE", len(mail) + mails))
-        return "%s is told when the message comes by: %s" % (node.name, self.turns(node))
+        return self.new_manager(entry) or "%s is told when the message comes by: %s" % (node.name, self.turns(node))
+
+    def new_manager(self, entry):
+        """What the manager of an entry has to do before it has its lists, if the one before it was removed."""
+        medium = self.run.medium
+        manager = medium.words[entry][1] if medium.is_star else None
+        if manager is None:
+            return None
+        if entry in self.run.nodes[manager].gathers:
+            return self.gathers(self.run.nodes[manager], entry)
+        return self.moved(self.run.nodes[manager], entry, "OLD") if medium.moved(manager, entry) else None
 
     def recipe(self, *events):
         """Events that bring something home, each as often as what stands in front of it makes needed."""
