@@ -7,7 +7,6 @@ use Rattle.std.specs.Str.{bytes_eq}
 use Rattle.grs_base.specs.declared.fault.Kind.{Kind}
 use Rattle.grs_base.specs.declared.fault.Kind.TheVariants.{TooLong, BadByte, UnknownStatement, BadOperand, NameLength}
 use Rattle.grs_base.specs.declared.fault.Kind.TheVariants.{Repeated, OutOfPlace, TooMany, UnknownName, NoSystem}
-use Rattle.grs_base.specs.declared.fault.Kind.TheVariants.{NotBuilt}
 use Rattle.deck_scan.specs.declared.token.Token.{Token}
 use Rattle.deck_scan.specs.declared.token.Token.TheVariants.{Word, Unclosed}
 use Rattle.deck_scan.specs.declared.token.TokenLine.{TokenLine}
@@ -192,7 +191,6 @@ none_is scheduled entries l OutOfPlace h = absurd h
 none_is scheduled entries l TooMany h = absurd h
 none_is scheduled entries l UnknownName h = absurd h
 none_is scheduled entries l NoSystem h = absurd h
-none_is scheduled entries l NotBuilt h = absurd h
 
 -- ---- what is answered
 

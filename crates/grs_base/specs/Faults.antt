@@ -3,7 +3,6 @@ use Rattle.std.specs.Prelude.{ℕ}
 use Rattle.grs_base.specs.declared.fault.Kind.{Kind}
 use Rattle.grs_base.specs.declared.fault.Kind.TheVariants.{TooLong, BadByte, UnknownStatement, BadOperand, NameLength}
 use Rattle.grs_base.specs.declared.fault.Kind.TheVariants.{Repeated, OutOfPlace, TooMany, UnknownName, NoSystem}
-use Rattle.grs_base.specs.declared.fault.Kind.TheVariants.{NotBuilt}
 
 -- The number by which a report tells the kind, and by which the least of several is told.
 abbrev pub number : Kind → ℕ
@@ -17,4 +16,3 @@ number OutOfPlace = 7
 number TooMany = 8
 number UnknownName = 9
 number NoSystem = 10
-number NotBuilt = 11

@@ -36,8 +36,6 @@ pub enum Kind {
     UnknownName,
     /// No SYSTEM statement.
     NoSystem,
-    /// A form that is not built yet.
-    NotBuilt,
 }
 
 /// The first fault of a deck: the line on which the faulty statement begins, from 1, or 0 where the

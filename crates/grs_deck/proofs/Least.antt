@@ -6,7 +6,6 @@ use Rattle.grs_base.specs.declared.fault.DeckFault.{DeckFault}
 use Rattle.grs_base.specs.declared.fault.Kind.{Kind}
 use Rattle.grs_base.specs.declared.fault.Kind.TheVariants.{TooLong, BadByte, UnknownStatement, BadOperand, NameLength}
 use Rattle.grs_base.specs.declared.fault.Kind.TheVariants.{Repeated, OutOfPlace, TooMany, UnknownName, NoSystem}
-use Rattle.grs_base.specs.declared.fault.Kind.TheVariants.{NotBuilt}
 use Rattle.deck_scan.specs.declared.token.TokenLine.{TokenLine}
 use Rattle.deck_form.specs.declared.form.Stmt.{Stmt}
 use Rattle.deck_form.specs.Form.{form}
@@ -31,7 +30,6 @@ holds Repeated d st = is_repeated d st
 holds OutOfPlace d st = is_misplaced d st
 holds TooMany d st = is_full d st
 holds UnknownName d st = is_unknown d st
-holds NotBuilt d st = false
 holds TooLong d st = false
 holds BadByte d st = false
 holds UnknownStatement d st = false
@@ -92,7 +90,6 @@ verdict_below d st UnknownName k v t =
     (chain 9 (is_misplaced d st) OutOfPlace k _ (lit≤ tt)
     (chain 9 (is_full d st) TooMany k _ (lit≤ tt) (ends 9 (is_unknown d st) UnknownName k _ (lit≤ tt) t))))
     v
-verdict_below d st NotBuilt k v t = absurd cc
 verdict_below d st TooLong k v t = absurd cc
 verdict_below d st BadByte k v t = absurd cc
 verdict_below d st UnknownStatement k v t = absurd cc
@@ -123,7 +120,6 @@ applies_holds d l st Repeated h a = wrong (is_repeated d st) (new_by d st) (some
 applies_holds d l st OutOfPlace h a = wrong (is_misplaced d st) (placed_by d st) (some_holds d l st (IsPlaced d) h a)
 applies_holds d l st TooMany h a = wrong (is_full d st) (room_by d st) (some_holds d l st (HasRoom d) h a)
 applies_holds d l st UnknownName h a = wrong (is_unknown d st) (known_by d st) (some_holds d l st (IsKnown d) h a)
-applies_holds d l st NotBuilt h a = absurd a
 applies_holds d l st TooLong h a = absurd a
 applies_holds d l st BadByte h a = absurd a
 applies_holds d l st NoSystem h a = absurd a
@@ -135,7 +131,6 @@ holds_applies d l st Repeated h t = (st, h, not_so (is_repeated d st) (of_new d 
 holds_applies d l st OutOfPlace h t = (st, h, not_so (is_misplaced d st) (of_placed d st) t)
 holds_applies d l st TooMany h t = (st, h, not_so (is_full d st) (of_room d st) t)
 holds_applies d l st UnknownName h t = (st, h, not_so (is_unknown d st) (of_known d st) t)
-holds_applies d l st NotBuilt h t = absurd cc
 holds_applies d l st TooLong h t = absurd cc
 holds_applies d l st BadByte h t = absurd cc
 holds_applies d l st UnknownStatement h t = absurd cc
@@ -156,7 +151,6 @@ no_holds d st Repeated v t = both_ways (is_repeated d st) (tests_of d st v).repe
 no_holds d st OutOfPlace v t = both_ways (is_misplaced d st) (tests_of d st v).misplaced t
 no_holds d st TooMany v t = both_ways (is_full d st) (tests_of d st v).full t
 no_holds d st UnknownName v t = both_ways (is_unknown d st) (tests_of d st v).unknown t
-no_holds d st NotBuilt v t = cc
 no_holds d st TooLong v t = cc
 no_holds d st BadByte v t = cc
 no_holds d st UnknownStatement v t = cc
@@ -173,7 +167,6 @@ above_three d l Repeated a = lit≤ tt
 above_three d l OutOfPlace a = lit≤ tt
 above_three d l TooMany a = lit≤ tt
 above_three d l UnknownName a = lit≤ tt
-above_three d l NotBuilt a = absurd a
 above_three d l TooLong a = absurd a
 above_three d l BadByte a = absurd a
 above_three d l NoSystem a = absurd a
@@ -190,7 +183,6 @@ above_four d l bad Repeated a = lit≤ tt
 above_four d l bad OutOfPlace a = lit≤ tt
 above_four d l bad TooMany a = lit≤ tt
 above_four d l bad UnknownName a = lit≤ tt
-above_four d l bad NotBuilt a = absurd a
 above_four d l bad TooLong a = absurd a
 above_four d l bad BadByte a = absurd a
 above_four d l bad NoSystem a = absurd a
@@ -206,7 +198,6 @@ none_least d l OutOfPlace h = absurd h
 none_least d l TooMany h = absurd h
 none_least d l UnknownName h = absurd h
 none_least d l NoSystem h = absurd h
-none_least d l NotBuilt h = absurd h
 
 least_form : (d : Draft) (l : TokenLine) (k : Kind) → form d.scheduled d.deck.entries l ≡ failed k → IsLeast k d l
 least_form d l k h = none_least d l k (is_none d.scheduled d.deck.entries l k h)
@@ -218,7 +209,7 @@ of_number n =
     cond (eqb n 1) TooLong (cond (eqb n 2) BadByte (cond (eqb n 3) UnknownStatement
     (cond (eqb n 4) BadOperand (cond (eqb n 5) NameLength (cond (eqb n 6) Repeated
     (cond (eqb n 7) OutOfPlace
-    (cond (eqb n 8) TooMany (cond (eqb n 9) UnknownName (cond (eqb n 10) NoSystem NotBuilt)))))))))
+    (cond (eqb n 8) TooMany (cond (eqb n 9) UnknownName NoSystem))))))))
 
 numbered : (k : Kind) → of_number (number k) ≡ k
 unfolding of_number
@@ -232,7 +223,6 @@ numbered OutOfPlace = refl
 numbered TooMany = refl
 numbered UnknownName = refl
 numbered NoSystem = refl
-numbered NotBuilt = refl
 
 one_least : (d : Draft) (l : TokenLine) (j k : Kind) → IsLeast j d l → IsLeast k d l → j ≡ k
 one_least d l j k a b =

@@ -22,7 +22,7 @@ use Rattle.grs_deck.specs.Spells.{IsSized, IsNew, IsPlaced, HasRoom, IsKnown, Sa
 abbrev pub SomeStmt : Draft → TokenLine → (Stmt → Type 0) → Type 0
 SomeStmt d l P = (st : Stmt) × Spells d.scheduled d.deck.entries l st × (P st → ⊥)
 
--- Which kinds apply to a line behind the lines that made this deck. All forms are built, so NotBuilt never does.
+-- Which kinds apply to a line behind the lines that made this deck.
 abbrev pub Applies : Kind → Draft → TokenLine → Type 0
 Applies UnknownStatement d l = IsNoStatement UnknownStatement d.scheduled d.deck.entries l
 Applies BadOperand d l = IsNoStatement BadOperand d.scheduled d.deck.entries l

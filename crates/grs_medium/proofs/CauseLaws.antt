@@ -8,7 +8,7 @@ use Rattle.grs_wire.specs.declared.medium.Act.TheVariants.{Turn, Switch, Purge, 
 use Rattle.grs_wire.specs.declared.medium.RingEntry.{RingEntry}
 use Rattle.grs_wire.specs.declared.medium.Reply.{Reply}
 use Rattle.grs_wire.specs.declared.medium.Reply.TheVariants.{Turned, NotYours, Behind, Switched, Already, Purged}
-use Rattle.grs_wire.specs.declared.medium.Reply.TheVariants.{NoSuch, InStar, Resting, Over, Stale, Removed}
+use Rattle.grs_wire.specs.declared.medium.Reply.TheVariants.{NoSuch, Resting, Over, Stale, Removed}
 use Rattle.rsa_message.specs.Message.{first_number, turn_reply, stands_at}
 use Rattle.grs_wire.specs.Replies.{is_of_act}
 use Rattle.grs_wire.specs.Unseen.{unseen}
@@ -18,7 +18,6 @@ use Rattle.grs_medium.specs.Medium.{MediumState, all_rest, medium_at_end}
 use Rattle.grs_medium.specs.Causes.{is_removed, turns_elsewhere, switches_in_star, switches_behind, switches}
 use Rattle.grs_medium.specs.Causes.{purges, purges_nobody, rests_last, rests_early, RemovedComes, StaleComes}
 use Rattle.grs_medium.specs.Causes.{NotYoursComes, AlreadyComes, BehindComes, SwitchedComes, PurgedComes, NoSuchComes}
-use Rattle.grs_medium.specs.Causes.{NeverInStar}
 use Rattle.grs_medium.specs.Causes.{OverComes, RestingComes}
 use Rattle.grs_medium.proofs.Replies.{neither, other_reply, never, heard}
 
@@ -157,24 +156,6 @@ switched_comes m c call = heard m c call Switched refl (row_switched m c call.ac
 
 pub purged_comes : PurgedComes
 purged_comes m c call = heard m c call Purged refl (row_purged m c call.act)
-
--- no act is answered InStar
-row_never : (m : MediumState) (c : SysId) (act : Act) → ¬ ((row m c act).0 ≡ InStar)
-unfolding row purge_row
-row_never m c (Purge t) = by_living (is_live m t)
-  where
-    by_living : (b : Bool)
-        → ¬ ((cond {A = Reply × MediumState} b (Purged, without_target m c t) (NoSuch, m)).0 ≡ InStar)
-    by_living true = λ e. absurd cc
-    by_living false = λ e. absurd cc
-row_never m c act = other_reply m c act InStar refl
-
-nobody_stays : {A : Type 0} → ¬ A → A ↔ (true ≡ false)
-nobody_stays none = neither none true≢false
-
-pub never_in_star : NeverInStar
-never_in_star m c call told =
-    true≢false (((heard m c call InStar refl (nobody_stays (row_never m c call.act))).0 told).1)
 
 pub no_such_comes : NoSuchComes
 no_such_comes m c call = heard m c call NoSuch refl (row_no_such m c call.act)

@@ -170,10 +170,6 @@ PurgedComes =
     (m : MediumState) (c : SysId) (call : Call) → (reply_to m c call ≡ replies.Purged)
     ↔ ((is_heard m c call ≡ true) × (purges m call.act ≡ true))
 
--- nothing is answered InStar
-abbrev pub NeverInStar : Type 0
-NeverInStar = (m : MediumState) (c : SysId) (call : Call) → ¬ (reply_to m c call ≡ replies.InStar)
-
 abbrev pub YoursComes : Type 0
 YoursComes =
     (m : MediumState) (c : SysId) (call : Call) → (reply_to m c call ≡ replies.Yours)

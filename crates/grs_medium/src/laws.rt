@@ -1,5 +1,5 @@
 //! Laws of the medium: each function's contract is one, and there is nothing to run.
-ghost use Rattle.grs_medium.specs.Causes.{RepliesAreListed, RemovedComes, StaleComes, NotYoursComes, AlreadyComes, BehindComes, SwitchedComes, PurgedComes, NeverInStar, YoursComes, OldComes, NoSuchComes, OverComes, RestingComes, SoleComes, SentComes, TakenComes, EmptyComes, SettledComes, ToldComes, KeptComes, LeftComes};
+ghost use Rattle.grs_medium.specs.Causes.{RepliesAreListed, RemovedComes, StaleComes, NotYoursComes, AlreadyComes, BehindComes, SwitchedComes, PurgedComes, YoursComes, OldComes, NoSuchComes, OverComes, RestingComes, SoleComes, SentComes, TakenComes, EmptyComes, SettledComes, ToldComes, KeptComes, LeftComes};
 ghost use Rattle.grs_medium.specs.Changes.{LeavesTheRest, ChangesWhatItSays};
 ghost use Rattle.grs_medium.specs.Removals.{RemovalIsNoticed, RemovalKeepsMail, RemovalEmptiesInbox, RemovalWakes};
 ghost use Rattle.grs_medium.specs.TurnReplies.{TurnIsRefused, TurnIsServed};
@@ -57,11 +57,6 @@ pub fn switched_comes()
 /// A call that is heard is answered Purged exactly where it is a Purge of a live system.
 pub fn purged_comes()
     ensures { PurgedComes }
-{}
-
-/// No call is answered InStar.
-pub fn never_in_star()
-    ensures { NeverInStar }
 {}
 
 /// A call that is heard is answered NoSuch exactly where it is a Purge of a system that was removed, or of none.

@@ -199,20 +199,20 @@ need-other deck n p choices.Rest = refl
 abbrev OfDesk : Reply → Type 0
 OfDesk reply = (act : Act) → is_commanded act ≡ false → is_listed act reply ≡ false
 
--- there are five
+-- there are four
 of-desk : (act : Act) → is_commanded act ≡ false
     → (is_listed act replies.Switched ≡ false) × (is_listed act replies.Already ≡ false)
     × (is_listed act replies.Purged ≡ false)
-    × (is_listed act replies.NoSuch ≡ false) × (is_listed act replies.InStar ≡ false)
-of-desk (acts.Turn out) h = (refl, refl, refl, refl, refl)
+    × (is_listed act replies.NoSuch ≡ false)
+of-desk (acts.Turn out) h = (refl, refl, refl, refl)
 of-desk (acts.Switch words) h = absurd cc
-of-desk (acts.Submit e q) h = (refl, refl, refl, refl, refl)
-of-desk acts.Take h = (refl, refl, refl, refl, refl)
-of-desk (acts.Settle to mail) h = (refl, refl, refl, refl, refl)
-of-desk (acts.Tell to mail) h = (refl, refl, refl, refl, refl)
-of-desk (acts.Leave e) h = (refl, refl, refl, refl, refl)
+of-desk (acts.Submit e q) h = (refl, refl, refl, refl)
+of-desk acts.Take h = (refl, refl, refl, refl)
+of-desk (acts.Settle to mail) h = (refl, refl, refl, refl)
+of-desk (acts.Tell to mail) h = (refl, refl, refl, refl)
+of-desk (acts.Leave e) h = (refl, refl, refl, refl)
 of-desk (acts.Purge target) h = absurd cc
-of-desk acts.Rest h = (refl, refl, refl, refl, refl)
+of-desk acts.Rest h = (refl, refl, refl, refl)
 
 of-switched : OfDesk replies.Switched
 of-switched act h = (of-desk act h).0
@@ -225,9 +225,6 @@ of-purged act h = (of-desk act h).2
 
 of-no_such : OfDesk replies.NoSuch
 of-no_such act h = (of-desk act h).3
-
-of-in_star : OfDesk replies.InStar
-of-in_star act h = (of-desk act h).4
 
 -- such a reply comes only where the desk has a command that isn't done
 module _ (deck : Deck) (n : NodeState) (reply : Reply) (only : OfDesk reply) where
@@ -304,12 +301,7 @@ pub no_such-orders : (deck : Deck) (n : NodeState) (choice : Choice)
     → desk_count (slice_get deck.systems n.tasks.system) ≤ most_commands → n.done < most_commands
 no_such-orders deck n choice h few = omega (arith, ordered deck n replies.NoSuch of-no_such choice h, few)
 
-pub in_star-orders : (deck : Deck) (n : NodeState) (choice : Choice)
-    → may_come (prepare deck n choice) replies.InStar ≡ true
-    → desk_count (slice_get deck.systems n.tasks.system) ≤ most_commands → n.done < most_commands
-in_star-orders deck n choice h few = omega (arith, ordered deck n replies.InStar of-in_star choice h, few)
-
-pub ruleset ordered_desk = (switched-orders, already-orders, purged-orders, no_such-orders, in_star-orders)
+pub ruleset ordered_desk = (switched-orders, already-orders, purged-orders, no_such-orders)
 
 -- ---- what a removal that is commanded is of
 order-at : (P : Order → Type 0) (cs : List Desk) (k : ℕ) (o : Order) → All (λ (c : Desk). P c.order) cs

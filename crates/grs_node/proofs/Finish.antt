@@ -114,7 +114,6 @@ replies_leave deck n choice replies.Told h = absurd (cc)
 replies_leave deck n choice replies.Left h = absurd (cc)
 replies_leave deck n choice replies.Purged h = absurd (cc)
 replies_leave deck n choice replies.NoSuch h = absurd (cc)
-replies_leave deck n choice replies.InStar h = absurd (cc)
 
 pub unjournalled_leaves : UnjournalledLeaves
 unfolding finished

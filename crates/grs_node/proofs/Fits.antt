@@ -704,7 +704,7 @@ module _ (Q : Reply → Type 0) (turned : (es : List RingEntry) (k : ℕ) (b : B
     (settled_one : Q replies.Settled) (told_one : Q replies.Told) (left_one : Q replies.Left)
     (kept : (mask : ℕ) → Q (replies.Kept mask))
     (yours : Q replies.Yours) (old : Q replies.Old)
-    (purged : Q replies.Purged) (no_such : Q replies.NoSuch) (in_star : Q replies.InStar) (resting : Q replies.Resting)
+    (purged : Q replies.Purged) (no_such : Q replies.NoSuch) (resting : Q replies.Resting)
     (over : Q replies.Over) (stale : (set : ℕ) → Q (replies.Stale set)) (removed : Q replies.Removed) where
   pub by-reply : (reply : Reply) → Q reply
   by-reply (replies.Turned es k b) = turned es k b
@@ -724,7 +724,6 @@ module _ (Q : Reply → Type 0) (turned : (es : List RingEntry) (k : ℕ) (b : B
   by-reply replies.Old = old
   by-reply replies.Purged = purged
   by-reply replies.NoSuch = no_such
-  by-reply replies.InStar = in_star
   by-reply replies.Resting = resting
   by-reply replies.Over = over
   by-reply (replies.Stale set) = stale set
@@ -811,38 +810,38 @@ module _ (deck : Deck) (home : ℕ) (v : TasksView) (p : StarPart) (own : v.syst
       fits (begin-fits deck home v p t (state_of v t).outstanding (entry_asked p (state_of v t).outstanding) fits mine
       free)
       (sent-fits deck home v p t (entry_asked p (state_of v t).outstanding) fits) (λ m. fits) fits fits fits fits
-      (λ m. fits) fits fits fits fits fits fits fits (λ n. fits) fits reply
+      (λ m. fits) fits fits fits fits fits fits (λ n. fits) fits reply
 
   take-step-fits : (known : ℕ) (reply : Reply) → PartFits deck home (take_step deck known v p reply).part
   take-step-fits known =
       by-reply (λ reply. PartFits deck home (take_step deck known v p reply).part) (λ es k b. fits) (λ h. fits)
       (λ n. fits) fits fits fits fits (mail-fits known) fits fits fits fits (λ m. fits) fits fits fits fits fits fits
-      fits (λ n. fits) fits
+      (λ n. fits) fits
 
   settle-step-fits : (reply : Reply) → PartFits deck home (settle_step v p reply).part
   settle-step-fits =
       by-reply (λ reply. PartFits deck home (settle_step v p reply).part) (λ es k b. fits) (λ h. fits) (λ n. fits) fits
       fits fits fits (λ m. fits) fits (settled-fits deck home v p fits) fits fits (λ m. fits) fits fits fits fits fits
-      fits fits (λ n. fits) fits
+      fits (λ n. fits) fits
 
   tell-step-fits : (e : ℕ) (reply : Reply) → PartFits deck home (tell_step v p e reply).part
   tell-step-fits e =
       by-reply (λ reply. PartFits deck home (tell_step v p e reply).part) (λ es k b. fits) (λ h. fits) (λ n. fits) fits
       fits fits fits (λ m. fits) fits fits (told-fits deck home p (to_tell p e) fits) fits (λ m. fits) fits fits fits
-      fits fits fits fits (λ n. fits) fits
+      fits fits fits (λ n. fits) fits
 
   part-step-fits : (e : ℕ) (reply : Reply) → PartFits deck home (part_step v p e reply).part
   part-step-fits e =
       by-reply (λ reply. PartFits deck home (part_step v p e reply).part) (λ es k b. fits) (λ h. fits) (λ n. fits) fits
       fits fits fits (λ m. fits) fits fits (sent-part-fits deck home p e fits) fits (λ m. fits) fits fits fits fits
-      fits fits fits (λ n. fits) fits
+      fits fits (λ n. fits) fits
 
   leave-step-fits : (e : ℕ) (reply : Reply) → is_done_with p e ≡ true
       → PartFits deck home (leave_step v p e reply).part
   leave-step-fits e reply done =
       by-reply (λ reply. PartFits deck home (leave_step v p e reply).part) (λ es k b. fits) (λ h. fits) (λ n. fits) fits
       fits fits fits (λ m. fits) fits fits fits (left-fits deck home p e fits done) (λ m. fits) fits fits fits fits fits
-      fits fits (λ n. fits) fits reply
+      fits (λ n. fits) fits reply
 
 -- the task of a Send is of a system of the deck
 abbrev Sends : Deck → Choice → Type 0
@@ -975,7 +974,7 @@ call-part deck n choice reply fits own called =
     (λ same. star replies.Left) (λ m same. star (replies.Kept m)) (λ same. star replies.Yours)
     (λ same. star replies.Old)
     (λ same. purged-part deck n choice fits)
-    (λ same. fits.part) (λ same. fits.part) (λ same. star replies.Resting) (λ same. star replies.Over)
+    (λ same. fits.part) (λ same. star replies.Resting) (λ same. star replies.Over)
     (λ set same.
     losing-part deck n.tasks.system (record n { known = known_from deck n.known set })
     (members (without_those n.known (known_from deck n.known set))) refl fits.system fits.part)
@@ -1099,7 +1098,7 @@ call-table deck n choice reply fits =
     (same replies.Sole) (same replies.Sent) (λ m. same (replies.Taken m)) (same replies.Empty) (same replies.Settled)
     (same replies.Told) (same replies.Left) (λ m. same (replies.Kept m)) (same replies.Yours) (same replies.Old)
     (purged-table deck n choice fits)
-    (own-table deck n fits) (own-table deck n fits) (same replies.Resting) (same replies.Over)
+    (own-table deck n fits) (same replies.Resting) (same replies.Over)
     (λ set.
     lost-table deck (record n { known = known_from deck n.known set })
     (members (without_those n.known (known_from deck n.known set))) (own-table deck n fits))

@@ -69,7 +69,6 @@ ring_finish deck n choice replies.Switched = only (switched deck n)
 ring_finish deck n choice replies.Already = only (desk_told n saids.StarAlready)
 ring_finish deck n choice replies.Purged = ring_purged n choice
 ring_finish deck n choice replies.NoSuch = only (desk_told n saids.VaryNoSuch)
-ring_finish deck n choice replies.InStar = only (desk_told n saids.VaryInStar)
 ring_finish deck n choice reply = only n
 
 no_step : (deck : Deck) (n : NodeState) (choice : Choice) (reply : Reply) → n.star ≡ None
@@ -127,7 +126,6 @@ finish-ring deck n choice replies.Yours h = no_step deck n choice replies.Yours 
 finish-ring deck n choice replies.Old h = no_step deck n choice replies.Old h
 finish-ring deck n choice replies.Purged h = purged-ring deck n choice h
 finish-ring deck n choice replies.NoSuch h = refl
-finish-ring deck n choice replies.InStar h = refl
 finish-ring deck n choice replies.Resting h = no_step deck n choice replies.Resting h
 finish-ring deck n choice replies.Over h = no_step deck n choice replies.Over h
 finish-ring deck n choice replies.Removed h = no_step deck n choice replies.Removed h

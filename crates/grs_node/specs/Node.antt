@@ -493,7 +493,6 @@ finish_call deck n choice replies.Switched = only (switched deck n)
 finish_call deck n choice replies.Already = only (desk_told n saids.StarAlready)
 finish_call deck n choice replies.Purged = purged deck n choice
 finish_call deck n choice replies.NoSuch = only (desk_told n saids.VaryNoSuch)
-finish_call deck n choice replies.InStar = only (desk_told n saids.VaryInStar)
 finish_call deck n choice reply = finish_star deck n n.star choice reply
 
 -- What a system is after a choice, with the reply if a call was made.

@@ -34,7 +34,6 @@ pub fn leaves_all(reply: &Reply) -> bool
         | Reply::Left
         | Reply::Purged
         | Reply::NoSuch
-        | Reply::InStar
         | Reply::Stale { .. } => false,
     }
 }

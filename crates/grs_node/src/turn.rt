@@ -335,10 +335,6 @@ impl NodeState {
                 self.desk_told(Said::VaryNoSuch)?;
                 Ok(List::new(alloc))
             }
-            Reply::InStar => {
-                self.desk_told(Said::VaryInStar)?;
-                Ok(List::new(alloc))
-            }
             reply => self.finish_star(alloc, deck, names, choice, reply),
         }
     }

@@ -270,10 +270,9 @@ looks_and_desks :
     × (told_line three 2 (lines.Desk 2 said.StarAlready) ≡ ended (codes "D 2 SETGRS ALREADY @2"))
     × (told_line three 8 (lines.Desk 1 said.VaryDone) ≡ ended (codes "D 1 VARY DONE @8"))
     × (told_line three 3 (lines.Desk 1 said.VaryNoSuch) ≡ ended (codes "D 1 VARY NOSUCH @3"))
-    × (told_line three 1 (lines.Desk 1 said.VaryInStar) ≡ ended (codes "D 1 VARY INSTAR @1"))
 unfolding digits line name_at name_in task_in_job task_word names_word res_word elem_word row_line place_word
     filter_word history_line told_line
-looks_and_desks = (refl, refl, refl, refl, refl, refl, refl, refl, refl, refl, refl, refl, refl)
+looks_and_desks = (refl, refl, refl, refl, refl, refl, refl, refl, refl, refl, refl, refl)
 
 -- a line at a desk stands behind its system's name, before its tasks
 desk_first :

@@ -8,7 +8,7 @@ use Rattle.grs_base.specs.declared.decision.Code.TheVariants.{C00, C04, C08, C14
 use Rattle.grs_wire.specs.declared.told.Verb.{Verb}
 use Rattle.grs_wire.specs.declared.told.Verb.TheVariants as verbs
 use Rattle.grs_wire.specs.declared.told.Said.{Said}
-use Rattle.grs_wire.specs.declared.told.Said.TheVariants.{StarDone, StarAlready, VaryDone, VaryNoSuch, VaryInStar}
+use Rattle.grs_wire.specs.declared.told.Said.TheVariants.{StarDone, StarAlready, VaryDone, VaryNoSuch}
 use Rattle.grs_wire.specs.declared.seen.TaskEnd.{TaskEnd}
 use Rattle.grs_wire.specs.declared.seen.TaskEnd.TheVariants as ends
 
@@ -47,7 +47,6 @@ order_word StarDone = codes "SETGRS"
 order_word StarAlready = codes "SETGRS"
 order_word VaryDone = codes "VARY"
 order_word VaryNoSuch = codes "VARY"
-order_word VaryInStar = codes "VARY"
 
 -- what was said to an order
 abbrev pub said_word : Said → List ℕ
@@ -55,7 +54,6 @@ said_word StarDone = codes "DONE"
 said_word StarAlready = codes "ALREADY"
 said_word VaryDone = codes "DONE"
 said_word VaryNoSuch = codes "NOSUCH"
-said_word VaryInStar = codes "INSTAR"
 
 -- how a task stands at the end of a run
 abbrev pub end_word : TaskEnd → List ℕ

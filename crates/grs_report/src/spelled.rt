@@ -43,7 +43,7 @@ pub(crate) fn order_word(said: Said) -> &'static [u8]
 {
     match said {
         Said::StarDone | Said::StarAlready => b"SETGRS",
-        Said::VaryDone | Said::VaryNoSuch | Said::VaryInStar => b"VARY",
+        Said::VaryDone | Said::VaryNoSuch => b"VARY",
     }
 }
 
@@ -55,7 +55,6 @@ pub(crate) fn said_word(said: Said) -> &'static [u8]
         Said::StarDone | Said::VaryDone => b"DONE",
         Said::StarAlready => b"ALREADY",
         Said::VaryNoSuch => b"NOSUCH",
-        Said::VaryInStar => b"INSTAR",
     }
 }
 

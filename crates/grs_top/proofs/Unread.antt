@@ -21,7 +21,7 @@ use Rattle.grs_wire.specs.declared.history.HistEntry.TheVariants.{Enq, Deq, Rele
 use Rattle.grs_wire.specs.declared.request.Fixed.{Fixed}
 use Rattle.grs_wire.specs.declared.seen.Seen.{Seen}
 use Rattle.grs_wire.specs.declared.told.Said.{Said}
-use Rattle.grs_wire.specs.declared.told.Said.TheVariants.{StarDone, StarAlready, VaryDone, VaryNoSuch, VaryInStar}
+use Rattle.grs_wire.specs.declared.told.Said.TheVariants.{StarDone, StarAlready, VaryDone, VaryNoSuch}
 use Rattle.grs_wire.specs.declared.told.Told.{Told}
 use Rattle.grs_wire.specs.declared.told.ToldLine.{ToldLine}
 use Rattle.grs_wire.specs.declared.told.ToldLine.TheVariants.{Coded, Shown, Post, Ended, Desk}
@@ -76,12 +76,10 @@ module _ (d : Deck) (xs ys : List Event) where
   cause-any m e s (Some Star) StarAlready c = c
   cause-any m e s (Some Star) VaryDone c = c
   cause-any m e s (Some Star) VaryNoSuch c = c
-  cause-any m e s (Some Star) VaryInStar c = c
   cause-any m e s (Some (Vary t)) StarDone c = c
   cause-any m e s (Some (Vary t)) StarAlready c = c
   cause-any m e s (Some (Vary t)) VaryDone c = c
   cause-any m e s (Some (Vary t)) VaryNoSuch c = c
-  cause-any m e s (Some (Vary t)) VaryInStar c = c
 
   line-any : (m : Moment) (e : ℕ) (s : SysId) (l : ToldLine) → AgreesBy X m e s l → AgreesBy Y m e s l
   line-any m e s (Coded t k part verb code) a = a
@@ -109,7 +107,6 @@ module _ (d : Deck) (xs ys : List Event) where
   removes-any s target (Desk k StarAlready) = refl
   removes-any s target (Desk k VaryDone) = refl
   removes-any s target (Desk k VaryNoSuch) = refl
-  removes-any s target (Desk k VaryInStar) = refl
 
   found-any : (e : ℕ) (s target : SysId) (lines : List Told)
       → list_any (is_removal X e s target) lines ≡ list_any (is_removal Y e s target) lines

@@ -21,7 +21,6 @@ fn kind_number(kind: Kind) -> u32
         Kind::TooMany => 8,
         Kind::UnknownName => 9,
         Kind::NoSystem => 10,
-        Kind::NotBuilt => 11,
     }
 }
 

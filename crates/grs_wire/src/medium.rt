@@ -142,8 +142,6 @@ pub enum Reply {
     Purged,
     /// The system was removed before, or there is no such system.
     NoSuch,
-    /// No system is removed in star mode.
-    InStar,
     /// The caller rests, and not all have come to rest.
     Resting,
     /// All systems are at rest, and nothing is left to do.
@@ -347,7 +345,6 @@ impl Reply {
             Reply::Old => Ok(Reply::Old),
             Reply::Purged => Ok(Reply::Purged),
             Reply::NoSuch => Ok(Reply::NoSuch),
-            Reply::InStar => Ok(Reply::InStar),
             Reply::Resting => Ok(Reply::Resting),
             Reply::Over => Ok(Reply::Over),
             Reply::Stale { set } => Ok(Reply::Stale { set: *set }),

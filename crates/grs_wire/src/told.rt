@@ -25,8 +25,6 @@ pub enum Said {
     VaryDone,
     /// There was no such system any more.
     VaryNoSuch,
-    /// In star mode no system is removed.
-    VaryInStar,
 }
 
 /// One line that a system tells. `k` is the number of a line in its task, or in its system's desk, from 1.

@@ -68,8 +68,7 @@ abbrev pub purges : SysId → SysId → List (SysId × Fixed) → Bool
 purges s target fixed = list_any (λ x. (x.0.0 == s.0) && is_purge target x.1) fixed
 
 -- What is said of a command has its cause. The complex changes to star mode once. A system is removed by the
--- event that tells it, and there is none any more where it was removed. That none is removed in star mode is never
--- said.
+-- event that tells it, and there is none any more where it was removed.
 abbrev pub HasCause : Deck → Moment → ℕ → SysId → Option Order → Said → Type 0
 HasCause deck m e s (Some Star) StarDone = list_any (λ x. tells_star x.line) m.before ≡ false
 HasCause deck m e s (Some Star) StarAlready = was_star deck e m.before ≡ true

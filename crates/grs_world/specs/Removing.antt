@@ -86,8 +86,6 @@ pub record AnswersHaveCauses (deck : Deck) (es : List Event) (e : Event) : Type 
   pub no_such : (target : SysId) → e.choice ≡ Purge target
       → (reply_of deck (run deck es) e ≡ Some replies.NoSuch)
       ↔ (CallsKnowing deck (run deck es) e × (list_any (removes target) (hist deck es) ≡ true))
-  -- and nobody is answered that none is removed in star mode
-  pub in_star : reply_of deck (run deck es) e ≢ Some replies.InStar
 
 -- ---- the history
 

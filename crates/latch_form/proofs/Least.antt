@@ -10,7 +10,6 @@ use Rattle.grs_base.specs.declared.fault.DeckFault.{DeckFault}
 use Rattle.grs_base.specs.declared.fault.Kind.{Kind}
 use Rattle.grs_base.specs.declared.fault.Kind.TheVariants.{TooLong, BadByte, UnknownStatement, BadOperand, NameLength}
 use Rattle.grs_base.specs.declared.fault.Kind.TheVariants.{Repeated, OutOfPlace, TooMany, UnknownName, NoSystem}
-use Rattle.grs_base.specs.declared.fault.Kind.TheVariants.{NotBuilt}
 use Rattle.grs_base.specs.declared.resource.Ctl.TheVariants.{E}
 use Rattle.deck_scan.specs.declared.token.Token.{Token}
 use Rattle.deck_scan.specs.declared.token.Token.TheVariants.{Word, Unclosed}
@@ -140,7 +139,6 @@ above_three d l TooMany a = lit≤ tt
 above_three d l Repeated a = absurd a
 above_three d l OutOfPlace a = absurd a
 above_three d l UnknownName a = absurd a
-above_three d l NotBuilt a = absurd a
 above_three d l TooLong a = absurd a
 above_three d l BadByte a = absurd a
 above_three d l NoSystem a = absurd a
@@ -153,7 +151,6 @@ above_four d l bad TooMany a = lit≤ tt
 above_four d l bad Repeated a = absurd a
 above_four d l bad OutOfPlace a = absurd a
 above_four d l bad UnknownName a = absurd a
-above_four d l bad NotBuilt a = absurd a
 above_four d l bad TooLong a = absurd a
 above_four d l bad BadByte a = absurd a
 above_four d l bad NoSystem a = absurd a
@@ -216,7 +213,6 @@ none_applies d l c TooMany s sized room a = some_holds l c (HasRoom d) s a room
 none_applies d l c Repeated s sized room a = a
 none_applies d l c OutOfPlace s sized room a = a
 none_applies d l c UnknownName s sized room a = a
-none_applies d l c NotBuilt s sized room a = a
 none_applies d l c TooLong s sized room a = a
 none_applies d l c BadByte s sized room a = a
 none_applies d l c NoSystem s sized room a = a
@@ -231,7 +227,6 @@ above_five d l c s TooMany a = lit≤ tt
 above_five d l c s Repeated a = absurd a
 above_five d l c s OutOfPlace a = absurd a
 above_five d l c s UnknownName a = absurd a
-above_five d l c s NotBuilt a = absurd a
 above_five d l c s TooLong a = absurd a
 above_five d l c s BadByte a = absurd a
 above_five d l c s NoSystem a = absurd a
@@ -246,7 +241,6 @@ above_eight d l c s sized TooMany a = lit≤ tt
 above_eight d l c s sized Repeated a = absurd a
 above_eight d l c s sized OutOfPlace a = absurd a
 above_eight d l c s sized UnknownName a = absurd a
-above_eight d l c s sized NotBuilt a = absurd a
 above_eight d l c s sized TooLong a = absurd a
 above_eight d l c s sized BadByte a = absurd a
 above_eight d l c s sized NoSystem a = absurd a
@@ -320,7 +314,6 @@ numbered d l TooMany a = refl
 numbered d l Repeated a = absurd a
 numbered d l OutOfPlace a = absurd a
 numbered d l UnknownName a = absurd a
-numbered d l NotBuilt a = absurd a
 numbered d l TooLong a = absurd a
 numbered d l BadByte a = absurd a
 numbered d l NoSystem a = absurd a

@@ -9,7 +9,7 @@ use Rattle.grs_base.specs.declared.resource.SysId.{SysId}
 use Rattle.grs_medium.specs.Apply.{is_live as is_live_at, reply_to}
 use Rattle.grs_medium.specs.Causes.{is_heard, is_removed, is_uninformed, purges_nobody}
 use Rattle.grs_medium.specs.Medium.{systems_of}
-use Rattle.grs_medium.proofs.CauseLaws.{never_in_star, no_such_comes, removed_comes, stale_comes}
+use Rattle.grs_medium.proofs.CauseLaws.{no_such_comes, removed_comes, stale_comes}
 use Rattle.grs_node.specs.Node.{NodeState, next_order, prepare, purge_call}
 use Rattle.grs_node.specs.declared.prepared.Prepared.TheVariants.{Call, Nothing}
 use Rattle.grs_wire.specs.History.{removes}
@@ -172,7 +172,6 @@ module _ (deck : Deck) (fit : OrdersFit deck) (es : List Event) (e : Event) wher
           reply_is replies.NoSuch k.0.call k.0.made ((no_such_comes w.medium c k.0.call).1
           (knows_heard k.0.call k.0.made k.0.knows, ap (purges_nobody w.medium) asks.is ∙ ap not out)),
     );
-    in_star = λ h. let r = replied_by replies.InStar h in never_in_star w.medium c r.call r.is;
   }
     where
       by_idle : (o : Option NodeState) → slice_get w.nodes e.system.0 ≡ o → is_live w e.system ≡ false

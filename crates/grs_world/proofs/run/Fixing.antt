@@ -182,7 +182,7 @@ by_silence deck n choice (replied reply) silent =
     by-reply (λ r. is_silent (replied r) ≡ true → fixed_by_reply n choice r ≡ []) (λ es k b h. absurd (cc))
     (λ x h. refl) (λ k h. refl) (λ h. absurd (cc)) (λ h. absurd (cc)) (λ h. absurd (cc)) (λ h. refl) (λ m h. refl)
     (λ h. refl) (λ h. absurd (cc)) (λ h. refl) (λ h. refl) (λ k h. refl) (λ h. refl) (λ h. refl) (λ h. absurd (cc))
-    (λ h. refl) (λ h. refl) (λ h. refl) (λ h. refl) (λ k h. refl) (λ h. refl) reply silent
+    (λ h. refl) (λ h. refl) (λ h. refl) (λ k h. refl) (λ h. refl) reply silent
 
 by_acts : (deck : Deck) (m : MediumState) (s : SysId) (n : NodeState) (p : StarPart) → n.star ≡ Some p
     → (choice : Choice) (b : Result) (o : Turnout) → Acts deck m s n p choice b o

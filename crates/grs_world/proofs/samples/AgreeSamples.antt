@@ -21,7 +21,7 @@ use Rattle.grs_wire.specs.declared.request.Fixed.TheVariants.{Purged}
 use Rattle.grs_wire.specs.declared.told.Told.{Told}
 use Rattle.grs_wire.specs.declared.told.ToldLine.{ToldLine}
 use Rattle.grs_wire.specs.declared.told.ToldLine.TheVariants.{Coded, Post, Ended, Desk}
-use Rattle.grs_wire.specs.declared.told.Said.TheVariants.{StarDone, StarAlready, VaryDone, VaryNoSuch, VaryInStar}
+use Rattle.grs_wire.specs.declared.told.Said.TheVariants.{StarDone, StarAlready, VaryDone, VaryNoSuch}
 use Rattle.grs_wire.specs.declared.told.Verb.TheVariants as verbs
 use Rattle.task_state.specs.Replies.{tell_code, record_enq, after_code, replied, passes_wait, tell_line, tell_untold}
 use Rattle.task_state.specs.Replies.{tell_control, tell_all, tell_new}
@@ -219,12 +219,6 @@ removed_before :
     Agrees desks (behind (Remove (system 0) (system 2) ∷ []) []) (at 4 1 (Desk 2 VaryNoSuch))
     × (Agrees desks (behind [] []) (at 4 1 (Desk 2 VaryNoSuch)) → ⊥)
 removed_before = ((omega arith, refl, refl), λ a. let e : false ≡ true = a.2 in absurd (cc))
-
--- nothing has the cause that none is removed in star mode
-in_star :
-    (Agrees desks (fixing [] (star_done ∷ [])) (at 2 0 (Desk 2 VaryInStar)) → ⊥)
-    × (Agrees desks (fixing [] []) (at 2 0 (Desk 2 VaryInStar)) → ⊥)
-in_star = (λ a. a.2, λ a. a.2)
 
 -- the lines of a desk are told in order, each once, and by its command
 desk_backwards : Agrees desks (fixing [] (at 2 0 (Desk 2 VaryNoSuch) ∷ [])) (at 3 0 (Desk 1 StarDone)) → ⊥
