@@ -13,8 +13,9 @@ use Rattle.grs_wire.specs.Unseen.{unseen}
 use Rattle.grs_base.specs.declared.resource.SysId.{SysId}
 use Rattle.grs_base.specs.declared.resource.TaskId.{TaskId}
 use Rattle.grs_world.specs.World.{Turnout, World, chosen}
-use Rattle.grs_world.proofs.run.Came.{Came, acted, already, changed, informed, last_turn, no_such, nothing, IsSpared}
-use Rattle.grs_world.proofs.run.Came.{removes_one, removes_star, turn, went_on, no_part, RemovesNoneInStar, Result}
+use Rattle.grs_world.proofs.run.Came.{Came, acted, already, changed, informed, last_turn, no_such, nothing}
+use Rattle.grs_world.proofs.run.Came.{removes_one, removes_star, turn, went_on, no_part}
+use Rattle.grs_world.proofs.run.Came.{ChoiceRemovesNone, RemovesNoneInStar, Result}
 use Rattle.grs_medium.specs.Apply.{is_live}
 use Rattle.grs_known.proofs.lists.Truths.{no_truth}
 use Rattle.grs_legal.specs.Asks.{lines_of}
@@ -73,6 +74,6 @@ module _ (deck : Deck) (w : World) (mode : w.medium.star ≡ true) (shut : w.med
   late choice b o kept (no_such target next gone) = vary_late target next gone
   late choice b o kept (acted p is k r x acts) = no_part n p is alone
 
-  pub came_late : (choice : Choice) → IsSpared deck w.medium s n choice
+  pub came_late : (choice : Choice) → ChoiceRemovesNone deck w.medium s n choice
       → CameLate deck w s n (chosen deck w.medium s n choice)
   came_late choice kept = late choice _ _ kept (came deck w.medium s n alive choice)

@@ -17,7 +17,7 @@ use Rattle.grs_world.proofs.move.Late.{came_late}
 use Rattle.grs_world.proofs.move.Star.{star-moved}
 use Rattle.grs_world.proofs.move.Waiting.{change-stays, waits-moved}
 use Rattle.grs_world.proofs.run.Knowing.{KnowsRemoved}
-use Rattle.grs_world.proofs.run.Came.{IsSpared, no_part}
+use Rattle.grs_world.proofs.run.Came.{ChoiceRemovesNone, no_part}
 use Rattle.grs_world.proofs.run.Site.{at_site}
 use Rattle.grs_node.specs.Node.{changed as changed_now, change_to_star, read_entries}
 use Rattle.grs_wire.specs.Unseen.{unseen}
@@ -83,7 +83,7 @@ late-stays deck w g c n at unremoved alone known =
 module _ (deck : Deck) (some : 0 < deck.entries) (w : World) (g : IsChanging deck w) (c : SysId)
     (inside : c.0 < most_systems) (n : NodeState) (at : slice_get w.nodes c.0 ≡ Some n)
     (unremoved : has w.medium.removed c.0 ≡ false) (choice : Choice) where
-  pub event-moved : GoneAreRemoved deck w → KnowsRemoved w.medium n → IsSpared deck w.medium c n choice
+  pub event-moved : GoneAreRemoved deck w → KnowsRemoved w.medium n → ChoiceRemovesNone deck w.medium c n choice
       → IsMoved deck w c n (chosen deck w.medium c n choice)
   event-moved removed known kept =
       by_shown (g.shown c.0 n at unremoved).0 n at (g.shown c.0 n at unremoved).1 (g.shown c.0 n at unremoved).2 known
@@ -91,7 +91,7 @@ module _ (deck : Deck) (some : 0 < deck.entries) (w : World) (g : IsChanging dec
     where
       by_shown : (k m : NodeState) → slice_get w.nodes c.0 ≡ Some m → slice_get g.view c.0 ≡ Some k
           → Shown deck c.0 (items w.fixed) (g.before c.0) (g.due c.0) g.since (g.whole.out c.0) k m
-          → KnowsRemoved w.medium m → IsSpared deck w.medium c m choice
+          → KnowsRemoved w.medium m → ChoiceRemovesNone deck w.medium c m choice
           → IsMoved deck w c m (chosen deck w.medium c m choice)
       by_shown k m here there (has_changed none) knows spared =
           star-moved deck some w g c inside k here unremoved there none removed knows choice spared

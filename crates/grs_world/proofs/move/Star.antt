@@ -4,7 +4,7 @@ use Rattle.std.specs.Prelude.{slice_get}
 use Rattle.grs_wire.specs.Masks.{has}
 use Rattle.grs_wire.specs.declared.deck.Choice.{Choice}
 use Rattle.grs_wire.specs.declared.deck.Deck.{Deck}
-use Rattle.grs_world.proofs.run.Came.{IsSpared}
+use Rattle.grs_world.proofs.run.Came.{ChoiceRemovesNone}
 use Rattle.grs_world.proofs.run.Removals.{GoneAreRemoved}
 use Rattle.grs_world.proofs.run.Knowing.{KnowsRemoved}
 use Rattle.grs_world.proofs.star.Usual.{usual}
@@ -27,7 +27,7 @@ module _ (deck : Deck) (some : 0 < deck.entries) (w : World) (g : IsChanging dec
   shown = record w { nodes = g.view }
 
   pub star-moved : GoneAreRemoved deck w → KnowsRemoved w.medium n → (choice : Choice)
-      → IsSpared deck w.medium c n choice
+      → ChoiceRemovesNone deck w.medium c n choice
       → IsMoved deck w c n (chosen deck w.medium c n choice)
   unfolding placed
   star-moved removed known choice kept = record {

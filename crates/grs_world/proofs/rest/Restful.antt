@@ -31,7 +31,7 @@ use Rattle.grs_known.proofs.lists.Truths.{no_truth}
 use Rattle.grs_known.proofs.system.Says.{askers, is_home_at}
 use Rattle.grs_known.proofs.tasks.Invariant.{has_res}
 use Rattle.grs_known.specs.Items.{items, lists}
-use Rattle.grs_world.proofs.run.Came.{IsSpared}
+use Rattle.grs_world.proofs.run.Came.{ChoiceRemovesNone}
 use Rattle.grs_world.proofs.run.Knowing.{KnowsRemoved}
 use Rattle.grs_world.proofs.run.Removals.{GoneAreRemoved}
 use Rattle.grs_world.proofs.star.Usual.{usual}
@@ -141,7 +141,7 @@ module _ (deck : Deck) (w : World) (g : IsChanging deck w) (h : IsRestful deck w
   -- ---- an event of a system that has changed
   module _ (some : 0 < deck.entries) (inside : c.0 < most_systems) (p : StarPart) (star : n.star ≡ Some p)
       (choice : Choice) (removed : GoneAreRemoved deck w) (knows : KnowsRemoved w.medium n)
-      (kept : IsSpared deck w.medium c n choice) where
+      (kept : ChoiceRemovesNone deck w.medium c n choice) where
     abbrev o : Turnout
     o = chosen deck w.medium c n choice
 

@@ -34,7 +34,7 @@ use Rattle.grs_world.proofs.run.Sound.{first_of}
 use Rattle.grs_world.proofs.rest.Switching.{restful-begun}
 use Rattle.grs_world.proofs.rest.View.{node-of, shown-star, shown_at}
 use Rattle.grs_world.proofs.rest.Waiting.{restful-late}
-use Rattle.grs_world.proofs.run.Came.{IsSpared}
+use Rattle.grs_world.proofs.run.Came.{ChoiceRemovesNone}
 use Rattle.grs_world.proofs.run.Chosen.{removes-none}
 use Rattle.grs_world.proofs.run.Knowing.{KnowsRemoved, known_run}
 use Rattle.grs_world.proofs.move.Moved.{late-stays}
@@ -56,7 +56,7 @@ module _ (deck : Deck) (some : 0 < deck.entries) (w : World) (g : IsChanging dec
     (inside : c.0 < most_systems) (n : NodeState) (at : slice_get w.nodes c.0 ≡ Some n)
     (alive : has w.medium.removed c.0 ≡ false) where
   pub restful-event : (e : Event) → e.system ≡ c → GoneAreRemoved deck w → KnowsRemoved w.medium n
-      → IsSpared deck w.medium c n e.choice
+      → ChoiceRemovesNone deck w.medium c n e.choice
       → IsHistory deck (items (w.fixed ++ fixed_by c (chosen deck w.medium c n e.choice).step.fixed)) → IsBounded deck
       → IsRestful deck (placed w c n (chosen deck w.medium c n e.choice))
   restful-event e by removed knows kept right bounds = go n.star refl

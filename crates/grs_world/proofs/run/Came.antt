@@ -67,12 +67,13 @@ is_silent (replied replies.Resting) = true
 is_silent (replied replies.Over) = true
 is_silent _ = false
 
--- where it wasn't that a system was removed in star mode
+-- by this result no system is removed in star mode
 abbrev pub RemovesNoneInStar : MediumState → Result → Type 0
 RemovesNoneInStar m b = m.star ≡ true → b ≢ replied replies.Purged
 
-abbrev pub IsSpared : Deck → MediumState → SysId → NodeState → Choice → Type 0
-IsSpared deck m s n choice = RemovesNoneInStar m (result_of m s (prepare deck n choice))
+-- nor is one by the call that a system prepares for this choice
+abbrev pub ChoiceRemovesNone : Deck → MediumState → SysId → NodeState → Choice → Type 0
+ChoiceRemovesNone deck m s n choice = RemovesNoneInStar m (result_of m s (prepare deck n choice))
 
 -- a task asks for something of a lock entry, and waits to send it
 pub record IsToSend (deck : Deck) (n : NodeState) (p : StarPart) (t : TaskId) (a : Asked) (x : ℕ) : Type 0 where

@@ -60,7 +60,7 @@ use Rattle.grs_world.specs.Removing.{call_at, call_in, reply_by, reply_of}
 use Rattle.grs_world.specs.Running.{is_live as is_live_in}
 use Rattle.grs_world.specs.World.{Turnout, World, carry_out, chosen, counted, happens, placed}
 use Rattle.grs_world.proofs.run.Each.{each_heard, each_live}
-use Rattle.grs_world.proofs.run.Came.{Acts, Came, IsSpared, IsToSend, Result, acted, already, began}
+use Rattle.grs_world.proofs.run.Came.{Acts, Came, ChoiceRemovesNone, IsToSend, Result, acted, already, began}
 use Rattle.grs_world.proofs.run.Came.{by_itself, changed, decided, parted}
 use Rattle.grs_world.proofs.run.Came.{informed, is_silent, last_turn, left, no_such, nothing, replied, removes_star}
 use Rattle.grs_world.proofs.run.Came.{removes_one, result_of, sent, settled, skipped, told, took, turn, went_on}
@@ -522,7 +522,7 @@ reply-in m s (Call call) = refl
 
 pub removes-none : (deck : Deck) (w : World) (e : Event) → removes_in_star deck w e ≡ false → (n : NodeState)
     → slice_get w.nodes e.system.0 ≡ Some n → has w.medium.removed e.system.0 ≡ false
-    → IsSpared deck w.medium e.system n e.choice
+    → ChoiceRemovesNone deck w.medium e.system n e.choice
 removes-none deck w e none n at alive star is =
     true≢false (sym (and_from w.medium.star (is_purged (reply_of deck w e)) star purged) ∙ none)
   where

@@ -52,7 +52,7 @@ use Rattle.grs_world.proofs.star.Under.{under, under-other}
 use Rattle.grs_known.proofs.lists.Alike.{Alike, alike-itself, alike-none}
 use Rattle.grs_wire.specs.declared.told.Said.{Said}
 use Rattle.grs_wire.specs.declared.told.Said.TheVariants as saids
-use Rattle.grs_world.proofs.run.Came.{IsSpared}
+use Rattle.grs_world.proofs.run.Came.{ChoiceRemovesNone}
 use Rattle.grs_world.proofs.star.Plain.{Acts, Came, IsUsual, acted, already, began, decided, informed, left, no_such}
 use Rattle.grs_world.proofs.star.Plain.{came-usual, nothing, sent, settled, told, took, went_on}
 use Rattle.grs_world.proofs.run.Chosen.{came}
@@ -545,8 +545,8 @@ module _ (deck : Deck) (some : 0 < deck.entries) (w : World) (c : SysId) (few : 
   good_came o (no_such target next gone) = good_desk saids.VaryNoSuch
   good_came o (acted x acts) = good_acts o acts
 
-  pub good_choice : IsUsual deck w.medium c n me.part → (choice : Choice) → IsSpared deck w.medium c n choice
-      → IsStep deck w c n (chosen deck w.medium c n choice)
+  pub good_choice : IsUsual deck w.medium c n me.part → (choice : Choice)
+      → ChoiceRemovesNone deck w.medium c n choice → IsStep deck w c n (chosen deck w.medium c n choice)
   good_choice usual choice kept =
       good_came _ (came-usual deck w.medium c n me.part usual g.mode choice _ _ kept
       (came deck w.medium c n at.live choice))

@@ -26,7 +26,7 @@ use Rattle.grs_world.proofs.star.steps.Settle.{outcome-settle}
 use Rattle.grs_world.proofs.star.steps.Take.{outcome-take}
 use Rattle.grs_world.proofs.star.steps.Task.{outcome-task}
 use Rattle.grs_world.proofs.star.steps.Tell.{outcome-tell}
-use Rattle.grs_world.proofs.run.Came.{IsSpared}
+use Rattle.grs_world.proofs.run.Came.{ChoiceRemovesNone}
 use Rattle.grs_world.proofs.star.Plain.{Acts, Came, acted, already, began, decided, informed, left, no_such, nothing}
 use Rattle.grs_world.proofs.star.Plain.{came-usual, sent, settled, told, took, went_on}
 use Rattle.grs_world.proofs.star.Usual.{usual}
@@ -63,8 +63,8 @@ module _ (deck : Deck) (some : 0 < deck.entries) (w : World) (g : IsWhole deck w
   came-outcome removed o (no_such target next gone) = outcome-no_such deck w g c n at removed target next gone
   came-outcome removed o (acted x acts) = acts-outcome o acts
 
-  pub outcome : GoneAreRemoved deck w → KnowsRemoved w.medium n → (choice : Choice) → IsSpared deck w.medium c n choice
-      → Comes deck w g c n (chosen deck w.medium c n choice)
+  pub outcome : GoneAreRemoved deck w → KnowsRemoved w.medium n → (choice : Choice)
+      → ChoiceRemovesNone deck w.medium c n choice → Comes deck w g c n (chosen deck w.medium c n choice)
   outcome removed known choice kept =
       came-outcome removed _ (came-usual deck w.medium c n p (usual deck w g c n at known) g.roles.mode choice _ _ kept
       (came deck w.medium c n at.live choice))
