@@ -1,7 +1,7 @@
 -- Places that lead to one another by their classes, and the entries of one class, the last first.
 use Rattle.std.proofs.Common.{◌≡◌, ◌<◌, ◌≤◌, ◌+◌, ℕ, zero, suc, Bool, true, false, cond, ◌&&◌, List, [], ◌∷◌, ◌++◌, map}
 use Rattle.std.proofs.Common.{length, take, Option, Some, None, refl, ap, sym, ◌∙◌, subst, arith, nat_eq, append_assoc}
-use Rattle.std.proofs.Common.{append-nil, length-append}
+use Rattle.std.proofs.Common.{append-nil}
 use Rattle.std.specs.Prelude.{slice_get, slice_index_or, not, is_some}
 use Rattle.std.proofs.lemmas.Bool.{eqb-true, eq-eqb, and_parts, and_from}
 use Rattle.std.proofs.lemmas.Bool.Decides.{nat_tests}
@@ -16,6 +16,7 @@ use Rattle.grs_base.specs.declared.resource.Res.{Res}
 use Rattle.grs_base.specs.declared.resource.Res.TheVariants.{Step, System, Systems}
 use Rattle.grs_base.proofs.SameLaws.{same_res-exact, same_res-itself}
 use Rattle.queue_table.specs.Classes.{most_classes, end_at, later, last_place, befores, IsChained, class_of, class_at, has_class}
+use Rattle.queue_table.specs.Classes.{visits}
 use Rattle.queue_table.specs.Names.{Numbers, queue_number, name_of, is_paired}
 use Rattle.queue_table.specs.Shown.{may_show}
 
@@ -108,11 +109,6 @@ map-push f (y ∷ xs) x = ap (λ l. f y ∷ l) (map-push f xs x)
 -- ---- the entries of a class
 abbrev pub classes_of : Numbers → List ℕ
 classes_of es = map (λ e. class_of e.0) es
-
--- the last of them first
-abbrev pub visits : ℕ → Numbers → Numbers
-visits c [] = []
-visits c (e ∷ es) = visits c es ++ cond (nat_eq (class_of e.0) c) (e ∷ []) []
 
 -- The last of them stands at this place.
 pub record IsLast (c : ℕ) (es : Numbers) (p : ℕ) : Type 0 where

@@ -64,3 +64,8 @@ has_class (Local s) = true
 pub record ResourcesView : Type 0 where
   pub entries : Numbers
   pub room : ℕ
+
+-- of resources with their numbers those of a class, the last of them first
+abbrev pub visits : ℕ → Numbers → Numbers
+visits c [] = []
+visits c (e ∷ es) = visits c es ++ cond (nat_eq (class_of e.0) c) (e ∷ []) []

@@ -1,6 +1,8 @@
--- Lists on their way to what is shown of them.
-use Rattle.std.specs.Prelude.{ℕ, nat_eq, Bool, true, ◌&&◌, cond, List, [], ◌∷◌, map, Option, None, Some}
-use Rattle.std.specs.FinMap.{put}
+-- Resources and their lists on the way to what is shown of them.
+use Rattle.std.specs.Prelude.{◌≡◌, ℕ, nat_eq, Bool, true, not, ◌&&◌, ◌==◌, List, map, filter, length, Option, None, Some}
+use Rattle.std.specs.Prelude.{All}
+use Rattle.std.specs.Ordering.{is_lt}
+use denote.Ref.{Bor}
 use Rattle.grs_base.specs.State.{Held, list_at}
 use Rattle.grs_base.specs.ResOrder.{res_order}
 use Rattle.grs_base.specs.Looks.{is_of_place, matches, is_contended}
@@ -9,17 +11,30 @@ use Rattle.grs_base.specs.declared.look.Filter.{Filter}
 use Rattle.grs_base.specs.declared.resource.Row.{Row}
 use Rattle.grs_base.specs.declared.resource.Res.{Res}
 use Rattle.grs_base.specs.declared.resource.Elem.{Elem}
-use Rattle.queue_table.specs.declared.placed.Placed.{Placed}
 use Rattle.queue_table.specs.Names.{Numbers}
 
--- the entries of an ordered map, with plain resources as keys
-abbrev pub plain : List (Placed × List Elem) → List (Res × List Elem)
-plain es = map (λ e. (e.0.res, e.1)) es
+-- whether a queue has elements
+abbrev pub has_elements : Held ℕ → ℕ → Bool
+has_elements hs n = not (length (list_at nat_eq hs n) == 0)
 
--- with a list under its resource, unless it is empty
-abbrev pub with_list : Res → List Elem → List (Res × List Elem) → List (Res × List Elem)
-with_list r [] m = m
-with_list r (x ∷ xs) m = put res_order r (x ∷ xs) m
+-- of resources with their queues those that pass and have elements
+abbrev pub kept : (Res → Bool) → Held ℕ → Numbers → Numbers
+kept t hs es = filter (λ e. t e.0 && has_elements hs e.1) es
+
+-- references to resources with the numbers of their queues: as plain resources, and with their lists
+abbrev pub numbers_of : List (Bor Res × ℕ) → Numbers
+numbers_of xs = map (λ x. (x.0.now, x.1)) xs
+
+abbrev pub lists_at : Held ℕ → List (Bor Res × ℕ) → List (Res × List Elem)
+lists_at hs xs = map (λ x. (x.0.now, list_at nat_eq hs x.1)) xs
+
+-- whether the first of two is shown before the other
+abbrev pub sooner : Bor Res × ℕ → Bor Res × ℕ → Bool
+sooner x y = is_lt (res_order x.0.now y.0.now)
+
+-- all of their queues are there
+abbrev pub AreLive : (ℕ → Bool) → List (Bor Res × ℕ) → Type 0
+AreLive live xs = All (λ x. live x.1 ≡ true) xs
 
 -- whether a resource is of the place that is looked at, if it is one
 abbrev pub is_of : Option Place → Res → Bool
@@ -37,8 +52,3 @@ passes f row = matches f row.res (is_contended row)
 -- whether a row is shown
 abbrev pub shows : Option Place → Filter → Row → Bool
 shows o f row = is_of o row.res && passes f row
-
--- with the lists of the resources that pass, one after the other
-abbrev pub with_lists : (Res → Bool) → Numbers → Held ℕ → List (Res × List Elem) → List (Res × List Elem)
-with_lists t [] hs m = m
-with_lists t (e ∷ es) hs m = with_lists t es hs (cond (t e.0) (with_list e.0 (list_at nat_eq hs e.1) m) m)

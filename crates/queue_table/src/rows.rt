@@ -1,22 +1,22 @@
 //! The lists of a table as they are shown: with their resources, in order, and with their numbers of owners;
 //! all of them, or those of a place that pass a filter.
-ghost use Rattle.std.specs.Prelude.{◌≡◌, ◌++◌, ◌∷◌, [], true, cond, filter, map, reverse, nat_eq, Some, IfOk, OnOk};
+ghost use Rattle.std.specs.Prelude.{◌≡◌, ◌++◌, ◌∷◌, ◌&&◌, [], true, cond, filter, map, nat_eq, Some, None, IfOk, OnOk, IsPermutation, IsSortedBy};
+ghost use Rattle.std.specs.List.Sorted.{IsStableBy};
 ghost use Rattle.grs_base.specs.Lists.{is_apart};
 ghost use Rattle.grs_base.specs.State.{list_at, list_of};
 ghost use Rattle.grs_base.specs.Rows.{lists_of, row_of, rows_of};
 ghost use Rattle.queue_table.specs.Classes.{class_of, class_at};
 ghost use Rattle.queue_table.specs.Names.{named, IsTable};
 ghost use Rattle.grs_base.specs.Looks.{look};
-ghost use Rattle.queue_table.specs.Shown.{plain, with_list, may_show, passes, shows};
+ghost use Rattle.queue_table.specs.Shown.{has_elements, kept, numbers_of, lists_at, sooner, AreLive, may_show, passes, shows};
+ghost use Rattle.queue_table.specs.Classes.{visits};
 
 use super::parts::number;
-use super::placed::Placed;
 use super::resources::{Resources, has_class};
-use gqscan::{is_of_place, matches_filter};
+use gqscan::matches_filter;
 use grs_base::{Elem, Filter, List, NoMemory, Place, Queues, Res, Row};
 use ret_codes::owners_among;
 use std::alloc::Global;
-use std::collections::BTreeMap;
 
 /// The elements of a resource.
 pub(crate) fn list_in<Q: Queues>(
@@ -35,40 +35,8 @@ pub(crate) fn list_in<Q: Queues>(
     }
 }
 
-/// Puts the list of a resource among others, unless it is empty.
-fn add_list<Q: Queues>(
-    alloc: Global,
-    queues: &Q,
-    res: &Res,
-    queue: u32,
-    lists: &mut BTreeMap<Placed, List<Elem>>,
-) -> Result<(), NoMemory>
-    requires { Q.is_live queues.now queue ≡ true }
-    ensures { OnOk result (plain lists.new.entries ≡ with_list res.now (list_at nat_eq (Q.elements queues.now) queue) (plain lists.old.entries)) }
-{
-    let held = queues.len(queue);
-    if held == 0 {
-        return Ok(());
-    }
-    let elems = queues.elems(alloc, queue)?;
-    let res = res.copy(alloc)?;
-    match lists.insert(Placed { res }, elems) {
-        Ok(_) => Ok(()),
-        Err(_) => Err(NoMemory),
-    }
-}
-
-/// Whether the list of a resource may be shown, as far as the resource tells.
-fn may_be_shown(place: Option<Place>, chosen: &Filter, res: &Res) -> bool
-    ensures { result ≡ may_show place chosen.now res.now }
-{
-    match place {
-        Some(place) => is_of_place(place, res) && matches_filter(chosen, res, true),
-        None => matches_filter(chosen, res, true),
-    }
-}
-
-/// The same of a resource of the class of a place, whose names tell no more than the class does where it is looked at.
+/// Whether the list of a resource may be shown that is of the class of a place. Its names tell no more than the class does where it is
+/// looked at.
 #[tactic(auto, using(crate::proofs::ClassLemmas::own_classes))]
 fn may_be_shown_at(place: Place, chosen: &Filter, res: &Res) -> bool
     requires { class_of res.now ≡ class_at place }
@@ -77,89 +45,111 @@ fn may_be_shown_at(place: Place, chosen: &Filter, res: &Res) -> bool
     has_class(place) && matches_filter(chosen, res, true)
 }
 
-/// Puts the list of a resource among others, if it is to be shown.
-fn add_list_shown<Q: Queues>(
-    alloc: Global,
+/// Puts a resource last whose list is to be shown, unless that is empty.
+fn add_shown<'t, Q: Queues>(
     queues: &Q,
     shown: bool,
-    res: &Res,
+    res: &'t Res,
     queue: u32,
-    lists: &mut BTreeMap<Placed, List<Elem>>,
+    found: &mut Vec<(&'t Res, u32)>,
 ) -> Result<(), NoMemory>
     requires { Q.is_live queues.now queue ≡ true }
-    ensures { OnOk result (plain lists.new.entries ≡ cond shown (with_list res.now (list_at nat_eq (Q.elements queues.now) queue) (plain lists.old.entries)) (plain lists.old.entries)) }
+    ensures { OnOk result (numbers_of found.new.items ≡ numbers_of found.old.items ++ cond (shown && has_elements (Q.elements queues.now) queue) ((res.now, queue) ∷ []) []) }
 {
-    if shown {
-        add_list(alloc, queues, res, queue, lists)
-    } else {
-        Ok(())
+    if !shown || queues.len(queue) == 0 {
+        return Ok(());
+    }
+    match found.push((res, queue)) {
+        Ok(()) => Ok(()),
+        Err(_) => Err(NoMemory),
     }
 }
 
-/// The lists that aren't empty and may be shown, in order.
-fn lists_in<Q: Queues>(
+/// The resources whose lists aren't empty and may be shown, each with its queue.
+fn found_in<'t, Q: Queues>(
     alloc: Global,
-    numbers: &Resources,
+    numbers: &'t Resources,
     queues: &Q,
-    place: Option<Place>,
     chosen: &Filter,
-) -> Result<BTreeMap<Placed, List<Elem>>, NoMemory>
+) -> Result<Vec<(&'t Res, u32)>, NoMemory>
     requires table { IsTable numbers.now.entries (Q.elements queues.now) (Q.is_live queues.now) }
-    ensures { IfOk result (λ lists. plain lists.entries ≡ filter (λ e. may_show place chosen.now e.0) (lists_of (named numbers.now.entries (Q.elements queues.now)))) }
+    ensures { IfOk result (λ found. numbers_of found.items ≡ kept (may_show None chosen.now) (Q.elements queues.now) numbers.now.entries) }
 {
-    let mut lists = BTreeMap::new(alloc);
+    let mut found = Vec::new(alloc);
     for i in 0..numbers.len() {
         match numbers.entry(i) {
             Some((res, queue)) => {
-                let shown = may_be_shown(place, chosen, res);
-                add_list_shown(alloc, queues, shown, res, queue, &mut lists)?
+                let shown = matches_filter(chosen, res, true);
+                add_shown(queues, shown, res, queue, &mut found)?
             }
             None => unreachable!(),
         }
     }
-    Ok(lists)
+    Ok(found)
 }
 
 /// The same of a place, whose resources are gone through alone, or nearly so.
-fn lists_at<Q: Queues>(
+fn found_at<'t, Q: Queues>(
     alloc: Global,
-    numbers: &Resources,
+    numbers: &'t Resources,
     queues: &Q,
     place: Place,
     chosen: &Filter,
-) -> Result<BTreeMap<Placed, List<Elem>>, NoMemory>
+) -> Result<Vec<(&'t Res, u32)>, NoMemory>
     requires table { IsTable numbers.now.entries (Q.elements queues.now) (Q.is_live queues.now) }
-    ensures { IfOk result (λ lists. plain lists.entries ≡ filter (λ e. may_show (Some place) chosen.now e.0) (lists_of (named numbers.now.entries (Q.elements queues.now)))) }
+    ensures { IfOk result (λ found. numbers_of found.items ≡ kept (may_show (Some place) chosen.now) (Q.elements queues.now) (visits (class_at place) numbers.now.entries)) }
 {
-    let mut lists = BTreeMap::new(alloc);
+    let mut found = Vec::new(alloc);
     let mut next = numbers.last_of(place);
     'places: while let Some(at) = next {
         match numbers.entry(at) {
             Some((res, queue)) => {
                 let shown = may_be_shown_at(place, chosen, res);
-                add_list_shown(alloc, queues, shown, res, queue, &mut lists)?
+                add_shown(queues, shown, res, queue, &mut found)?
             }
             None => unreachable!(),
         }
         next = numbers.before(at, place);
     }
-    Ok(lists)
+    Ok(found)
 }
 
-/// The lists that aren't empty and may be shown, of a place or of all.
-fn lists_shown<Q: Queues>(
+/// Resources in the order in which they are shown.
+fn in_order<'t>(found: Vec<(&'t Res, u32)>) -> Result<Vec<(&'t Res, u32)>, NoMemory>
+    ensures sorted { IfOk result (λ sorted. IsSortedBy sooner sorted.items) }
+    ensures stable { IfOk result (λ sorted. IsStableBy sooner found.entry.items sorted.items) }
+    ensures permutation { IfOk result (λ sorted. IsPermutation found.entry.items sorted.items) }
+{
+    let mut found = found;
+    match found.sort_by(|a, b| a.0.order(b.0)) {
+        Ok(()) => Ok(found),
+        Err(_) => Err(NoMemory),
+    }
+}
+
+/// The resources whose lists aren't empty and may be shown, of a place or of all, in order.
+fn found_shown<'t, Q: Queues>(
     alloc: Global,
-    numbers: &Resources,
+    numbers: &'t Resources,
     queues: &Q,
     place: Option<Place>,
     chosen: &Filter,
-) -> Result<BTreeMap<Placed, List<Elem>>, NoMemory>
+) -> Result<Vec<(&'t Res, u32)>, NoMemory>
     requires table { IsTable numbers.now.entries (Q.elements queues.now) (Q.is_live queues.now) }
-    ensures { IfOk result (λ lists. plain lists.entries ≡ filter (λ e. may_show place chosen.now e.0) (lists_of (named numbers.now.entries (Q.elements queues.now)))) }
+    ensures lists { IfOk result (λ found. lists_at (Q.elements queues.now) found.items ≡ filter (λ e. may_show place chosen.now e.0) (lists_of (named numbers.now.entries (Q.elements queues.now)))) }
+    ensures live { IfOk result (λ found. AreLive (Q.is_live queues.now) found.items) }
 {
     match place {
-        Some(place) => lists_at(alloc, numbers, queues, place, chosen),
-        None => lists_in(alloc, numbers, queues, None, chosen),
+        Some(place) => {
+            let found = found_at(alloc, numbers, queues, place, chosen)?;
+            let sorted = in_order(found)?;
+            Ok(sorted)
+        }
+        None => {
+            let found = found_in(alloc, numbers, queues, chosen)?;
+            let sorted = in_order(found)?;
+            Ok(sorted)
+        }
     }
 }
 
@@ -185,30 +175,32 @@ fn add_row(rows: &mut List<Row>, row: Row, chosen: &Filter) -> Result<(), NoMemo
     }
 }
 
-/// Rows from the last to the first.
-fn turned(rows: List<Row>) -> List<Row>
-    ensures { result ≡ reverse rows }
+/// The row of a resource.
+fn row_at<Q: Queues>(alloc: Global, queues: &Q, res: &Res, queue: u32) -> Result<Row, NoMemory>
+    requires { Q.is_live queues.now queue ≡ true }
+    ensures { IfOk result (λ row. row ≡ row_of (res.now, list_at nat_eq (Q.elements queues.now) queue)) }
 {
-    let mut rows = rows.into_vec();
-    rows.as_mut_slice().reverse();
-    List::from_vec(rows)
+    let elems = queues.elems(alloc, queue)?;
+    let res = res.copy(alloc)?;
+    row(res, elems)
 }
 
-/// The rows that pass, of lists that stand in order. The last list is taken first, since those behind the first one would
-/// have to move.
-#[tactic(auto, using(crate::proofs::RowLemmas::gathered))]
-fn rows_from(
+/// The rows of resources that pass.
+fn rows_from<Q: Queues>(
     alloc: Global,
-    mut lists: BTreeMap<Placed, List<Elem>>,
+    queues: &Q,
+    found: &[(&Res, u32)],
     chosen: &Filter,
 ) -> Result<List<Row>, NoMemory>
-    ensures { IfOk result (λ rows. rows ≡ filter (passes chosen.now) (map row_of (plain lists.entries))) }
+    requires { AreLive (Q.is_live queues.now) found.now }
+    ensures { IfOk result (λ rows. rows ≡ filter (passes chosen.now) (map row_of (lists_at (Q.elements queues.now) found.now))) }
 {
-    let mut rows = List::with_room(alloc, lists.len())?;
-    'lists: while let Some((placed, elems)) = lists.pop_last() {
-        add_row(&mut rows, row(placed.res, elems)?, chosen)?;
+    let mut rows = List::with_room(alloc, found.len())?;
+    for one in found {
+        let row = row_at(alloc, queues, one.0, one.1)?;
+        add_row(&mut rows, row, chosen)?;
     }
-    Ok(turned(rows))
+    Ok(rows)
 }
 
 /// What is shown of the lists of a place, or of all.
@@ -222,8 +214,8 @@ fn shown_in<Q: Queues>(
     requires table { IsTable numbers.now.entries (Q.elements queues.now) (Q.is_live queues.now) }
     ensures { IfOk result (λ rows. rows ≡ filter (shows place chosen.now) (rows_of (named numbers.now.entries (Q.elements queues.now)))) }
 {
-    let lists = lists_shown(alloc, numbers, queues, place, chosen)?;
-    rows_from(alloc, lists, chosen)
+    let found = found_shown(alloc, numbers, queues, place, chosen)?;
+    rows_from(alloc, queues, found.as_slice(), chosen)
 }
 
 /// What is shown of all lists.
