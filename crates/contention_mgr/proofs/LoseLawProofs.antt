@@ -12,7 +12,7 @@ use Rattle.grs_base.specs.State.{State, is_systems, remove_state}
 use Rattle.grs_base.specs.declared.resource.Elem.{Elem}
 use Rattle.grs_base.specs.declared.resource.Res.{Res}
 use Rattle.grs_base.specs.declared.resource.TaskId.{TaskId}
-use Rattle.grs_base.proofs.SameLaws.{same_res-exact, same_res-itself, same_task-exact}
+use Rattle.grs_base.proofs.SameLaws.{same_res-exact, same_res-itself, same_res-sym, same_task-exact}
 use Rattle.grs_wire.proofs.RemoveLaws.{by_systems, list_of-remove_other, owns-remove}
 use Rattle.contention_mgr.specs.Elements.{holds}
 use Rattle.contention_mgr.specs.Laws.{owns_by, untold_at, untold_pass, is_elsewhere, IsRanked, IsWellKept}
@@ -95,19 +95,10 @@ losing_keeps_ranks s n m h =
 abbrev among : List Freed → Res → TaskId → Bool
 among fs r t = list_any (λ f. same_res f.0 r && list_any (same_task t) f.1) fs
 
-turned : (a b : Res) → same_res a b ≡ same_res b a
-turned a b = go (same_res a b) (same_res b a) refl refl
-  where
-    go : (c d : Bool) → same_res a b ≡ c → same_res b a ≡ d → c ≡ d
-    go true true is at = refl
-    go false false is at = refl
-    go true false is at = grind (arith, is, at, same_res-exact a b, same_res-itself a)
-    go false true is at = grind (arith, is, at, same_res-exact b a, same_res-itself a)
-
 among-on : (fs : List Freed) (r : Res) (t : TaskId) → among fs r t ≡ list_any (same_task t) (freed_on r fs)
 among-on [] r t = refl
 among-on (f ∷ fs) r t =
-    ap (λ b. (b && list_any (same_task t) f.1) || among fs r t) (turned f.0 r)
+    ap (λ b. (b && list_any (same_task t) f.1) || among fs r t) (same_res-sym f.0 r)
     ∙ ap (λ b. b || among fs r t) (go (same_res r f.0))
     ∙ ap (λ b. list_any (same_task t) (cond (same_res r f.0) f.1 []) || b) (among-on fs r t)
     ∙ sym (list_any-append (same_task t) (cond (same_res r f.0) f.1 []) (freed_on r fs))

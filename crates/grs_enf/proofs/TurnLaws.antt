@@ -18,7 +18,7 @@ use Rattle.grs_base.specs.declared.resource.Ctl.TheVariants.{E, S}
 use Rattle.grs_base.specs.declared.resource.Elem.{Elem}
 use Rattle.grs_base.specs.declared.resource.Res.{Res}
 use Rattle.grs_base.specs.declared.resource.SysId.{SysId}
-use Rattle.grs_base.proofs.SameLaws.{same_task-exact, same_res-exact, same_res-itself}
+use Rattle.grs_base.proofs.SameLaws.{same_task-exact, same_res-exact, same_res-sym}
 use Rattle.grs_base.proofs.OrderLaws.{res_total, res_order-IsAntisymmetric, same_res-tie}
 use Rattle.grs_wire.specs.History.{step, replay_from}
 use Rattle.grs_wire.specs.Laws.{may_change, list_stepped}
@@ -174,10 +174,6 @@ module _ (before after : State) where
       (of_among r rs ∙ ap (flat_map whats_at) none)
       ∙ leads-unchanged (list_of before r) (list_of after r) same
 
-same_res-turned : (a b : Res) → same_res a b ≡ same_res b a
-same_res-turned a b =
-    grind (arith, same_res-exact a b, same_res-exact b a, same_res-itself a, same_res-itself b)
-
 -- the list of a resource, if it has elements
 abbrev some_list : List Elem → Option (List Elem)
 some_list [] = None
@@ -231,7 +227,7 @@ module _ (R : Res → Res → Ordering) (total : IsTotalOrder R) (exact : IsAnti
       by : (b : Bool) → None ≡ cond b (some_list []) None
       by true = refl
       by false = refl
-  find-single r q (x ∷ xs) = ap (λ (b : Bool). cond b (Some (x ∷ xs)) None) (sym (tie q r) ∙ same_res-turned q r)
+  find-single r q (x ∷ xs) = ap (λ (b : Bool). cond b (Some (x ∷ xs)) None) (sym (tie q r) ∙ same_res-sym q r)
 
   keys-once : (s : State) (r : Res) → where_key R (same_res r) (from s s) ≡ single r (list_of s r)
   keys-once s r =

@@ -4,7 +4,7 @@ use Rattle.std.proofs.Common.{◌++◌, ◌⊎◌, inl, inr, refl, ap, sym, ◌�
 use Rattle.std.specs.Prelude.{nat_eq, nat_lt, ◌==◌}
 use Rattle.std.specs.List.{Contains, IsDistinct, AllByRecursion, list_any, list_all}
 use Rattle.std.specs.List.Sorted.{IsPermutation, IsNonDecreasingBy}
-use Rattle.std.proofs.lemmas.Bool.{and_parts, ltb-true, eq-eqb, true≢false}
+use Rattle.std.proofs.lemmas.Bool.{and_parts, ltb-true, eq-eqb}
 use Rattle.std.proofs.lemmas.Bool.Decides.{nat_tests}
 use Rattle.std.proofs.lemmas.List.Sorted.{IsPermutation-map, IsPermutation-sym, IsPermutation-trans, IsPermutation-refl}
 use Rattle.std.proofs.lemmas.List.Sorted.{IsPermutation-cons, IsPermutation-middle, Contains-permutation}
@@ -12,9 +12,8 @@ use Rattle.std.proofs.lemmas.List.Sorted.{IsNonDecreasingBy-drop}
 use Rattle.std.proofs.lemmas.List.Folds.{list_any-append}
 use Rattle.std.proofs.lemmas.Map.Keys.{IsDistinct-head, IsDistinct-tail, IsDistinct-IsPermutation}
 use Rattle.grs_base.specs.Same.{same_res, same_task}
-use Rattle.grs_base.specs.declared.resource.Res.{Res}
 use Rattle.grs_base.proofs.ListLaws.{same_task-sym}
-use Rattle.grs_base.proofs.SameLaws.{same_res-exact, same_res-itself}
+use Rattle.grs_base.proofs.SameLaws.{same_res-sym}
 use Rattle.grs_wire.specs.declared.gather.PartRec.{PartRec}
 use Rattle.lock_structure.specs.RankedRows.{rises}
 use Rattle.system_purge.specs.Gather.{ranks, AreInOrder, clash, with_counting, counting_behind, counting, are_clear}
@@ -204,19 +203,6 @@ pub in-order-is : (xs zs : List PartRec) → IsDistinct nat_eq (ranks xs) → Ar
 in-order-is xs zs d h = order_is_one xs zs (by_rank xs) h (by-rank-orders xs d)
 
 -- ---- which records count
-same_res-flip : (a b : Res) → same_res a b ≡ same_res b a
-same_res-flip a b = go (same_res a b) refl (same_res b a) refl
-  where
-    go : (x : Bool) → same_res a b ≡ x → (y : Bool) → same_res b a ≡ y → x ≡ y
-    go true e true f = refl
-    go false e false f = refl
-    go true e false f =
-        let s : a ≡ b = same_res-exact a b e in
-        absurd (true≢false (sym (subst (λ (z : Res). same_res z a ≡ true) s (same_res-itself a)) ∙ f))
-    go false e true f =
-        let s : b ≡ a = same_res-exact b a f in
-        absurd (true≢false (sym (subst (λ (z : Res). same_res z b ≡ true) s (same_res-itself b)) ∙ e))
-
 clash-sym : (a b : PartRec) → clash a b ≡ clash b a
 clash-sym a b = grind (arith, nat_tests, same-rank a.rank b.rank, same-ones a b)
   where
@@ -225,7 +211,7 @@ clash-sym a b = grind (arith, nat_tests, same-rank a.rank b.rank, same-ones a b)
 
     same-ones : (x y : PartRec)
         → (same_task x.task y.task && same_res x.res y.res) ≡ (same_task y.task x.task && same_res y.res x.res)
-    same-ones x y = grind (arith, same_task-sym x.task y.task, same_res-flip x.res y.res)
+    same-ones x y = grind (arith, same_task-sym x.task y.task, same_res-sym x.res y.res)
 
 clash-itself : (r : PartRec) → clash r r ≡ true
 clash-itself r = grind (arith, eq-eqb r.rank r.rank refl)

@@ -8,24 +8,13 @@ use Rattle.grs_base.specs.Same.{same_res}
 use Rattle.grs_base.specs.declared.resource.Res.{Res}
 use Rattle.grs_base.specs.declared.resource.Ctl.{Ctl}
 use Rattle.grs_base.specs.declared.resource.Ctl.TheVariants.{E}
-use Rattle.grs_base.proofs.SameLaws.{same_res-exact, same_res-itself}
+use Rattle.grs_base.proofs.SameLaws.{same_res-exact, same_res-itself, same_res-sym}
 use Rattle.grs_wire.proofs.WantLaws.{by_test}
 use Rattle.task_state.specs.declared.state.Rec.{Rec}
 use Rattle.task_state.specs.View.{without_first, on_record}
 use Rattle.grs_known.specs.Past.{has_own, made_exclusive}
 use Rattle.grs_known.proofs.tasks.Invariant.{Each, key, has_res, is_distinct}
 use Rattle.grs_known.proofs.lists.Truths.{no_truth, false_by}
-
-pub same_res-sym : (a b : Res) → same_res a b ≡ same_res b a
-same_res-sym a b = go (same_res a b) refl
-  where
-    go : (x : Bool) → same_res a b ≡ x → x ≡ same_res b a
-    go true e = subst (λ z. true ≡ same_res z a) (same_res-exact a b e) (sym (same_res-itself a))
-    go false e = back (same_res b a) refl
-      where
-        back : (y : Bool) → same_res b a ≡ y → false ≡ y
-        back true f = sym e ∙ subst (λ z. same_res z b ≡ true) (same_res-exact b a f) (same_res-itself b)
-        back false f = refl
 
 -- a task has a record of a resource just where it has an element there
 pub has_res-own : (r : Res) (xs : List Rec) (ks : List (Res × Ctl)) → map key xs ≡ ks → has_res r xs ≡ has_own r ks

@@ -8,7 +8,7 @@ use Rattle.grs_base.specs.Same.{same_res, same_task}
 use Rattle.grs_base.specs.declared.resource.Res.{Res}
 use Rattle.grs_base.specs.declared.resource.TaskId.{TaskId}
 use Rattle.grs_legal.specs.declared.meaning.Meaning.{Meaning}
-use Rattle.grs_base.proofs.SameLaws.{same_res-exact, same_res-itself, same_task-itself}
+use Rattle.grs_base.proofs.SameLaws.{same_res-exact, same_res-itself, same_res-sym, same_task-itself}
 use Rattle.grs_wire.specs.declared.history.HistEntry.{HistEntry}
 use Rattle.grs_wire.specs.declared.history.HistEntry.TheVariants.{Enq, Deq, Release, Look, Remove}
 use Rattle.grs_wire.specs.declared.told.ToldLine.{ToldLine}
@@ -19,7 +19,7 @@ use Rattle.task_state.specs.declared.state.Phase.TheVariants as phases
 use Rattle.task_state.specs.View.{record_place, record_of, on_record}
 use Rattle.grs_known.specs.Told.{entry_of_line, queued_last, tells_control, is_code_of, is_post_of}
 use Rattle.grs_known.proofs.tasks.Invariant.{Each, key, has_res, is_distinct, IsEntryOn, IsRec, IsDue, WaitsFor, also}
-use Rattle.grs_known.proofs.tasks.Keys.{same_res-sym, keys-on_record, distinct-on_record}
+use Rattle.grs_known.proofs.tasks.Keys.{keys-on_record, distinct-on_record}
 use Rattle.grs_known.proofs.lists.Truths.{no_truth, false_by, or_off}
 use Rattle.grs_known.proofs.lists.Facts.{any-last, any-more, none-more}
 
