@@ -9,6 +9,8 @@ mod commands;
 #[cfg(test)]
 mod copies;
 #[cfg(test)]
+mod gathering;
+#[cfg(test)]
 mod lists;
 #[cfg(test)]
 mod looks;

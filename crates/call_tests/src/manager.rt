@@ -24,7 +24,7 @@ fn task(system: u8) -> TaskId {
 }
 
 /// The resource of this rname.
-fn named(alloc: Global, rname: &[u8]) -> Result<Res, NameFault>
+pub(crate) fn named(alloc: Global, rname: &[u8]) -> Result<Res, NameFault>
     ensures { IfOk result (λ res. res ≡ Systems (80 ∷ []) rname.now) }
 {
     let q = Qname::new(alloc, b"P")?;
@@ -111,7 +111,8 @@ fn first_byte(bytes: &[u8]) -> u8 {
     }
 }
 
-fn letter(res: &Res) -> u8 {
+/// The first byte of its rname, of a resource of the whole complex.
+pub(crate) fn letter(res: &Res) -> u8 {
     match res {
         Res::Systems { r, .. } => first_byte(r.bytes()),
         _ => 0,
