@@ -1,6 +1,7 @@
 //! A bus and its seats.
 ghost use Rattle.std.specs.Prelude.{◌≡◌};
 
+use crate::sleepers::Sleepers;
 use crate::slot::Slot;
 use crate::steps::InTurn;
 use crate::view::View;
@@ -10,17 +11,16 @@ use grs_medium::Medium;
 use std::alloc::Global;
 use std::marker::Model;
 use std::snapshot::Snapshot;
-use std::sync::atomic::AtomicU64;
 
 /// A seat's place at the table.
 pub type Place = atomic_table::Seat<Slot, View>;
 
 /// One medium and the journal of its calls, which the seats of several threads call in turn. Contracts see which bus
-/// it is, and its medium at the start. `sleepers` counts the threads that sleep until the word is given back, or are about to.
+/// it is, and its medium at the start.
 #[derive(Drop)]
 pub struct Bus {
     pub(crate) table: Table<Slot, View, Snapshot<Medium>, InTurn, Global>,
-    pub(crate) sleepers: AtomicU64,
+    pub(crate) sleepers: Sleepers,
 }
 
 impl Model for Bus {

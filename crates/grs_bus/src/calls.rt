@@ -12,31 +12,12 @@ use crate::steps::{GiveBack, Take};
 use grs_base::{NoMemory, SysId};
 use grs_wire::{Call, Reply};
 use std::sync::Wait;
-use std::sync::atomic::Ordering;
 
 /// How many numbers of a holder the word tells apart: 0 for nobody, and else a system's number and one. The journal's
 /// length stands above it.
 const HOLDERS: u64 = 64;
 
-/// A thread that waits for the word to change looks at its low 32 bits.
-const LOOKED_AT: u64 = 1 << 32;
-
 impl Bus {
-    // Sleeps until the word may have changed. Whoever changes it either sees that somebody sleeps, or has changed it before
-    // this thread could fall asleep.
-    fn sleep<R: Wait>(&self, rt: &R, word: u64) {
-        self.sleepers.fetch_add(1, Ordering::SeqCst);
-        self.table.shared.park(rt, 0, (word % LOOKED_AT) as u32);
-        self.sleepers.fetch_sub(1, Ordering::SeqCst);
-    }
-
-    // Wakes one thread that sleeps. Where none does the system isn't asked, which costs as much as a short call.
-    fn wake(&self) {
-        if self.sleepers.load(Ordering::SeqCst) > 0 {
-            self.table.shared.wake_one(0);
-        }
-    }
-
     // Waits until no seat has the word, and takes it: the word as it was.
     fn take<R: Wait>(&self, rt: &R, place: &mut Place, system: SysId) -> u64
         requires table { place.old.table_id ≡ self.now.table }
@@ -88,7 +69,7 @@ impl Bus {
         self.table
             .shared
             .store::<GiveBack>(place, 0, count * HOLDERS);
-        self.wake();
+        self.wake(place);
     }
 
     /// Waits until no other seat has the word, takes it, makes the call, and gives the word back: the medium's reply,

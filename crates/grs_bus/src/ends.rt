@@ -8,6 +8,7 @@ ghost use Rattle.grs_bus.specs.Rule.{founder, joined_all};
 ghost use Rattle.grs_bus.specs.Seats.{AllSeats, AreTheSeats, IsNew, Agrees};
 
 use crate::bus::{Bus, Place, Seat};
+use crate::sleepers::Sleepers;
 use crate::slot::Slot;
 use crate::steps::{CutOff, TakeIn};
 use atomic_table::{Refused, Table};
@@ -16,7 +17,6 @@ use grs_medium::Medium;
 use grs_wire::JEntry;
 use std::alloc::Global;
 use std::snapshot::Snapshot;
-use std::sync::atomic::AtomicU64;
 
 impl Bus {
     /// A bus over the medium, with a seat for each of its systems, of which there are one to eight, in their order. Without memory
@@ -42,7 +42,7 @@ impl Bus {
             Ok(made) => made,
             Err(Refused { slots: _ }) => return Err(NoMemory),
         };
-        let sleepers = AtomicU64::new(0);
+        let sleepers = Sleepers::new();
         let bus = Bus { table, sleepers };
         let seats = bus.deal(alloc, place, systems)?;
         Ok((bus, seats))

@@ -6,6 +6,7 @@ mod bus;
 mod calls;
 mod ends;
 pub mod laws;
+mod sleepers;
 mod slot;
 mod steps;
 pub mod threads;
