@@ -5,3 +5,4 @@ pub mod RemovalLemmas
 pub mod StepLemmas
 pub mod TextLemmas
 pub mod CompareLemmas
+pub mod EnqLemmas

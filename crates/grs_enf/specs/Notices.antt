@@ -1,5 +1,5 @@
 -- What is noticed of contention along a history.
-use Rattle.std.specs.Prelude.{ℕ, suc, Bool, true, false, ◌-◌, nat_lt, ◌==◌, List, [], ◌∷◌, ◌++◌, length, map, filter}
+use Rattle.std.specs.Prelude.{ℕ, suc, Bool, true, false, ◌-◌, nat_lt, ◌==◌, List, [], ◌∷◌, ◌++◌, length, map, filter, take}
 use Rattle.std.specs.Prelude.{if◌then◌else◌}
 use Rattle.std.specs.List.{flat_map}
 use Rattle.grs_base.specs.Lists.{owners}
@@ -7,6 +7,8 @@ use Rattle.grs_base.specs.State.{State, list_of, is_systems}
 use Rattle.grs_base.specs.Rows.{lists_of}
 use Rattle.grs_base.specs.declared.resource.Elem.{Elem}
 use Rattle.grs_base.specs.declared.resource.Res.{Res}
+use Rattle.grs_base.specs.declared.resource.Ret.{Ret}
+use Rattle.grs_base.specs.declared.resource.Ret.TheVariants.{RetChng, RetEcb}
 use Rattle.grs_base.specs.declared.decision.Code.{Code}
 use Rattle.grs_base.specs.declared.decision.Code.TheVariants.{C00, C04, C08, C14, C18, Wait, End}
 use Rattle.grs_wire.specs.History.{step}
@@ -40,6 +42,10 @@ abbrev pub notices_at : Res → List Elem → List Elem → List Notice
 notices_at r before after =
     map (λ w. record { what = w; res = r; owners = owners after; waiters = length after - owners after })
     (whats before after)
+
+-- what is noticed of a resource whose list got its last element just now
+abbrev pub last_noticed : Res → List Elem → List Notice
+last_noticed r after = notices_at r (take (length after - 1) after) after
 
 -- The resources whose lists an entry may change, in the order in which they are shown: a request that of its own, a
 -- removal those of the Systems resources that have elements, a look none.
@@ -90,3 +96,22 @@ told_step s (Remove by target) = step 0 s (Remove by target)
 -- the same notices by the codes of the history alone
 abbrev pub told_notices : List HistEntry → List Noted
 told_notices hs = notices_by told_step [] 1 hs
+
+abbrev pub is_ecb : Ret → Bool
+is_ecb RetEcb = true
+is_ecb _ = false
+
+-- whether an ENQ of this kind changes control that its task has (RET=CHNG)
+abbrev pub changes_control : Ret → Bool
+changes_control RetChng = true
+changes_control _ = false
+
+-- whether an ENQ of this kind that is answered so leaves an element that waits
+abbrev pub is_left_waiting : Ret → Code → Bool
+is_left_waiting ret C00 = false
+is_left_waiting ret C04 = is_ecb ret
+is_left_waiting ret C08 = false
+is_left_waiting ret C14 = false
+is_left_waiting ret C18 = false
+is_left_waiting ret Wait = true
+is_left_waiting ret (End n) = false

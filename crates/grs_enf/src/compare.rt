@@ -1,10 +1,10 @@
 //! What is noticed by the list of a resource before and after an entry. How the lists came about is not known here.
-ghost use Rattle.std.specs.Prelude.{◌≡◌, ◌++◌, option_to_list, OnOk, IfOk};
+ghost use Rattle.std.specs.Prelude.{◌≡◌, ◌++◌, ◌-◌, length, take, option_to_list, OnOk, IfOk};
 ghost use Rattle.grs_enf.specs.Same.{same_ctl, same_elems};
-ghost use Rattle.grs_enf.specs.Notices.{is_contended, what_of, whats, notices_at};
+ghost use Rattle.grs_enf.specs.Notices.{is_contended, what_of, whats, notices_at, last_noticed, changes_control, is_left_waiting};
 
 use super::notice::{Notice, What};
-use grs_base::{Ctl, Elem, List, NoMemory, Res, is_same_task};
+use grs_base::{Code, Ctl, Elem, List, NoMemory, Res, Ret, is_same_task};
 use ret_codes::owners_among;
 use std::alloc::Global;
 
@@ -96,4 +96,45 @@ pub(crate) fn put_notice(
         owners: counted(owners)?,
         waiters: counted(waiters)?,
     })
+}
+
+/// Whether an ENQ of this kind changes control that its task has (RET=CHNG).
+pub(crate) fn changes_control(ret: Ret) -> bool
+    ensures { result ≡ changes_control ret }
+{
+    match ret {
+        Ret::RetChng => true,
+        Ret::RetNone | Ret::RetUse | Ret::RetHave | Ret::RetTest | Ret::RetEcb => false,
+    }
+}
+
+/// Whether an ENQ of this kind that is answered so leaves an element that waits.
+pub(crate) fn is_left_waiting(ret: Ret, code: Code) -> bool
+    ensures { result ≡ is_left_waiting ret code }
+{
+    match code {
+        Code::Wait => true,
+        Code::C04 => matches!(ret, Ret::RetEcb),
+        Code::C00 | Code::C08 | Code::C14 | Code::C18 | Code::End(_) => false,
+    }
+}
+
+/// A list without its last element.
+fn without_last(elems: &[Elem]) -> &[Elem]
+    ensures { result.now ≡ take (length elems.now - 1) elems.now }
+{
+    &elems[..elems.len().saturating_sub(1)]
+}
+
+/// The notice of a resource whose list got its last element just now, where there is one.
+pub(crate) fn notice_of_last(
+    alloc: Global,
+    res: &Res,
+    after: &[Elem],
+) -> Result<List<Notice>, NoMemory>
+    ensures { IfOk result (λ ns. ns ≡ last_noticed res.now after.now) }
+{
+    let mut notices = List::new(alloc);
+    put_notice(alloc, res, without_last(after), after, &mut notices)?;
+    Ok(notices)
 }

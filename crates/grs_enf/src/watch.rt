@@ -1,14 +1,14 @@
 //! A watch, which goes along a history and tells what is noticed entry by entry. It needs no limit of elements, since the
 //! codes of a history tell which task had as many as it may.
-ghost use Rattle.std.specs.Prelude.{◌≡◌, ◌++◌, ◌∷◌, [], filter, map, OnOk, IfOk};
+ghost use Rattle.std.specs.Prelude.{◌≡◌, false, ◌++◌, ◌∷◌, [], filter, map, OnOk, IfOk};
 ghost use Rattle.std.specs.List.{flat_map};
-ghost use Rattle.grs_base.specs.State.{is_systems, list_of};
+ghost use Rattle.grs_base.specs.State.{is_systems, list_of, enq_state};
 ghost use Rattle.grs_base.specs.Rows.{lists_of};
-ghost use Rattle.grs_enf.specs.Notices.{notices_at, notices_among, resources_of, noted, is_full_code, told_step, told_notices};
+ghost use Rattle.grs_enf.specs.Notices.{notices_at, notices_among, resources_of, noted, is_full_code, changes_control, told_step, told_notices};
 
-use super::compare::put_notice;
+use super::compare::{changes_control, is_left_waiting, notice_of_last, put_notice};
 use super::notice::{Noted, Notice};
-use grs_base::{Code, List, NoMemory, Res, Row};
+use grs_base::{Code, Ctl, List, NoMemory, Res, Ret, Row, TaskId};
 use grs_wire::HistEntry;
 use qel_store::LinkedQueues;
 use queue_table::Table;
@@ -100,6 +100,30 @@ fn step_one(
     Ok(notices)
 }
 
+/// The notices of an ENQ by its code, which tells whether its element waits. Then that is the last of the list; else nobody
+/// waits for the resource, or its list stays.
+fn step_enq(
+    alloc: Global,
+    table: &mut Table<LinkedQueues>,
+    res: &Res,
+    task: TaskId,
+    ctl: Ctl,
+    ret: Ret,
+    full: bool,
+) -> Result<List<Notice>, NoMemory>
+    requires { changes_control ret ≡ false }
+    ensures notices { IfOk result (λ ns. ns ≡ notices_among table.old.elements (enq_state table.old.elements res.now task ctl ret full) (res.now ∷ [])) }
+    ensures after { OnOk result (table.new.elements ≡ enq_state table.old.elements res.now task ctl ret full) }
+{
+    table.reserve(res)?;
+    let code = table.enq_copied(alloc, res, task, ctl, ret, full)?;
+    if is_left_waiting(ret, code) {
+        let after = table.list(alloc, res)?;
+        return notice_of_last(alloc, res, after.as_slice());
+    }
+    Ok(List::new(alloc))
+}
+
 /// Puts the notices of the Systems resources among rows behind others, by their lists now.
 fn put_systems(
     alloc: Global,
@@ -152,9 +176,26 @@ impl Watch {
         ensures after { OnOk result (self.new ≡ told_step self.old entry.now) }
     {
         match entry {
-            HistEntry::Enq { res, .. }
-            | HistEntry::Deq { res, .. }
-            | HistEntry::Release { res, .. } => step_one(alloc, &mut self.table, entry, res),
+            HistEntry::Enq {
+                task,
+                res,
+                ctl,
+                ret,
+                code,
+            } => {
+                if changes_control(*ret) {
+                    step_one(alloc, &mut self.table, entry, res)
+                } else {
+                    let full = is_full_code(*code);
+                    step_enq(alloc, &mut self.table, res, *task, *ctl, *ret, full)
+                }
+            }
+            HistEntry::Deq { res, .. } | HistEntry::Release { res, .. } => step_one(
+                alloc,
+                &mut self.table,
+                entry,
+                res,
+            ),
             HistEntry::Look { .. } => Ok(List::new(alloc)),
             HistEntry::Remove { .. } => step_all(alloc, &mut self.table, entry),
         }
