@@ -62,6 +62,13 @@ pub fn is_rname(bytes: &[u8]) -> bool
     1 <= bytes.len() && bytes.len() <= MOST_RNAME_BYTES
 }
 
+/// Whether eight bytes are these, by one comparison of numbers.
+pub(crate) fn are_same(a: &[u8; 8], b: &[u8; 8]) -> bool
+    ensures { (result ≡ true) ↔ (a.now ≡ b.now) }
+{
+    u64::from_be_bytes(*a) == u64::from_be_bytes(*b)
+}
+
 /// Bytes with blanks behind them, up to eight.
 #[tactic(auto, using(crate::proofs::NameLaws::pads))]
 fn with_blanks(bytes: &[u8]) -> [u8; MOST_QNAME_BYTES]
@@ -128,8 +135,9 @@ impl PartialEq for Qname {
 
     ghost laws = { Prim.search (comparing, rules) };
 
+    #[tactic(auto, using(crate::proofs::NameLaws::kept_tells))]
     fn eq(&self, other: &Qname) -> bool {
-        self.bytes() == other.bytes()
+        are_same(&self.kept, &other.kept)
     }
 }
 

@@ -1,10 +1,10 @@
 //! The order in which resources are shown, which is this project's own.
-ghost use Rattle.std.specs.Prelude.{◌≡◌, ◌↔◌, true};
+ghost use Rattle.std.specs.Prelude.{◌≡◌};
 ghost use Rattle.std.specs.Ordering.{on, then_cmp};
 ghost use Rattle.grs_base.specs.Names.{padded};
 ghost use Rattle.grs_base.specs.ResOrder.{group_of, qname_of, rname_of, by_numbers, res_order};
 
-use super::name::{Qname, Rname};
+use super::name::{Qname, Rname, are_same};
 use super::resource::Res;
 use std::cmp::Ordering;
 
@@ -69,13 +69,6 @@ fn order_of_groups(a: &Res, b: &Res) -> Ordering
             },
         ) => { s.0.cmp(&t.0).then(j.cmp(k)) }
     }
-}
-
-/// Whether eight bytes are these, by one comparison of numbers.
-fn are_same(a: &[u8; 8], b: &[u8; 8]) -> bool
-    ensures { (result ≡ true) ↔ (a.now ≡ b.now) }
-{
-    u64::from_be_bytes(*a) == u64::from_be_bytes(*b)
 }
 
 /// Two runs of bytes behind as many equal ones as eight at a time pass, which their order doesn't hang on.
