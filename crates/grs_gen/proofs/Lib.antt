@@ -1,3 +1,4 @@
 mod Ranges
 mod DeckLaws
 mod Samples
+mod RoundLemmas

@@ -7,4 +7,4 @@ pub mod laws;
 mod rounds;
 
 pub use generated::deck;
-pub use rounds::round_events;
+pub use rounds::{SWITCH_ROUND, events_in, round_events};

@@ -1,19 +1,30 @@
 //! The rounds of events that run a deck.
-ghost use Rattle.std.specs.Prelude.{◌≡◌, ◌≤◌, ◌++◌, ◌∷◌, [], map, length, IfOk, OnOk};
+ghost use Rattle.std.specs.Prelude.{◌≡◌, ◌≤◌, ◌++◌, ◌∷◌, [], map, drop, length, IfOk, OnOk};
 ghost use Rattle.std.specs.List.{range_with_len};
 ghost use Rattle.grs_base.specs.Limits.{most_jobs, most_tasks};
 ghost use Rattle.grs_wire.specs.Decks.{task_count, IsDeck};
 ghost use Rattle.grs_wire.specs.declared.deck.Choice.TheVariants as choices;
 ghost use Rattle.deck_tasks.specs.Tasks.{tasks_from};
-ghost use Rattle.grs_gen.specs.Rounds.{by, system_round, switch_in, round_of};
+ghost use Rattle.grs_wire.specs.declared.deck.Deck.{Deck as DeckValue};
+ghost use Rattle.grs_gen.specs.Rounds.{by, system_round, switch_in, switch_round, round_of};
 
 use deck_tasks::tasks_of_system;
 use grs_base::{List, NoMemory, SysId, TaskId};
 use grs_wire::{Choice, Deck, Event, JobDef};
 use std::alloc::Global;
 
-/// The round from which on the complex is to change to star mode.
-const SWITCH_ROUND: u32 = 3;
+/// The round from which on the complex is to change to star mode. All rounds from it on have the same events.
+pub const SWITCH_ROUND: u32 = 3;
+
+/// These events without the first.
+fn behind_first(events: &[Event]) -> &[Event]
+    ensures { result.now ≡ drop 1 events.now }
+{
+    match events.split_first() {
+        Some((_, rest)) => rest,
+        None => events,
+    }
+}
 
 /// Puts an event of a system last.
 fn put(system: SysId, choice: Choice, out: &mut List<Event>) -> Result<(), NoMemory>
@@ -114,4 +125,16 @@ pub fn round_events(alloc: Global, deck: &Deck, round: u32) -> Result<List<Event
         )?;
     }
     Ok(out)
+}
+
+/// The events of a round, given those of the round `SWITCH_ROUND`: an earlier one has the same without the first.
+#[tactic(auto, using(crate::proofs::RoundLemmas::earlier_rounds))]
+pub fn events_in(last: &[Event], round: u32) -> &[Event]
+    ensures { (deck : DeckValue) → last.now ≡ round_of deck switch_round → result.now ≡ round_of deck round }
+{
+    if round >= SWITCH_ROUND {
+        last
+    } else {
+        behind_first(last)
+    }
 }
