@@ -22,5 +22,6 @@ mod HistoryLen
 mod GenAnswering
 mod GenLaws
 mod GenLine
+mod LeftOut
 pub mod Bare
 pub mod Unread

@@ -17,5 +17,6 @@ pub mod Unread
 pub mod OwnReports
 pub mod Answers
 pub mod Generated
+pub mod LeftOut
 pub mod Forms
 pub mod Whole

@@ -4,21 +4,23 @@ ghost use Rattle.std.specs.Prelude.{◌≡◌, ◌++◌, ◌∷◌, [], ◌+◌,
 ghost use Rattle.std.specs.Fmt.{decimal};
 ghost use Rattle.grs_base.specs.State.{State};
 ghost use Rattle.grs_gen.specs.Generated.{IsSize};
-ghost use Rattle.grs_gen.specs.Rounds.{round_of};
+ghost use Rattle.grs_gen.specs.Rounds.{round_of, switch_round};
 ghost use Rattle.grs_display.specs.Lines.{spaced};
 ghost use Rattle.grs_wire.specs.Decks.{IsDeck};
 ghost use Rattle.grs_wire.specs.History.{answered, fixed_entries};
 ghost use Rattle.grs_world.specs.Running.{starting, task_end};
 ghost use Rattle.grs_world.specs.World.{run_from};
-ghost use Rattle.grs_top.specs.Generated.{rounds_of, is_ended, figures_of, gen_line, status_of, gen_text, gen_ending, AnswersGen};
+ghost use Rattle.grs_top.specs.LeftOut.{lasting, lasting_of};
+ghost use Rattle.grs_top.specs.Generated.{rounds_of, is_ended, figures_after, figures_of, gen_line, status_of, gen_text, gen_ending, AnswersGen};
 
 use super::Status;
 use super::command::write_due;
 use super::due::Due;
+use super::left_out::happen;
 use deck_tasks::tasks_of;
 use grs_base::{List, NoMemory, SysId, TaskId};
 use grs_display::put_number;
-use grs_gen::{deck, round_events};
+use grs_gen::{SWITCH_ROUND, deck, events_in, round_events};
 use grs_io::Sink;
 use grs_wire::{Deck, Event, Fixed, TaskEnd, Want};
 use grs_world::World;
@@ -56,33 +58,16 @@ fn more(count: u64, more: u64) -> Result<u64, NoMemory>
     }
 }
 
-/// Each of these events happens.
-#[tactic(auto, using(grs_world::proofs::code::Happens::runs))]
-fn happen(world: &mut World<'_>, events: &[Event]) -> Result<(), NoMemory>
+/// The events of a round happen, but for those that come to nothing, given those of the last kind of rounds. It tells how
+/// many events the round has.
+fn make_round(last: &[Event], world: &mut World<'_>, round: u32) -> Result<u64, NoMemory>
+    requires { last.now ≡ round_of world.old.deck switch_round }
     ensures deck { OnOk result (world.new.deck ≡ world.old.deck) }
-    ensures world { OnOk result (world.new.world ≡ run_from world.old.deck world.old.world events.now) }
+    ensures world { OnOk result (lasting world.new.world ≡ lasting (run_from world.old.deck world.old.world (round_of world.old.deck round))) }
+    ensures events { IfOk result (λ events. events ≡ length (round_of world.old.deck round)) }
 {
-    for event in events {
-        world.step(event)?;
-    }
-    Ok(())
-}
-
-/// Makes a round, and tells how many events it has.
-fn make_round(
-    alloc: Global,
-    deck: &Deck,
-    world: &mut World<'_>,
-    round: u32,
-) -> Result<u64, NoMemory>
-    requires deck { IsDeck deck.now }
-    requires world { world.old.deck ≡ deck.now }
-    ensures deck { OnOk result (world.new.deck ≡ deck.now) }
-    ensures world { OnOk result (world.new.world ≡ run_from deck.now world.old.world (round_of deck.now round)) }
-    ensures events { IfOk result (λ events. events ≡ length (round_of deck.now round)) }
-{
-    let events = round_events(alloc, deck, round)?;
-    happen(world, events.as_slice())?;
+    let events = events_in(last, round);
+    happen(world, events)?;
     Ok(events.len() as u64)
 }
 
@@ -91,14 +76,15 @@ fn make_rounds(alloc: Global, deck: &Deck, world: &mut World<'_>) -> Result<Made
     requires deck { IsDeck deck.now }
     requires world { world.old ≡ starting deck.now }
     ensures deck { OnOk result (world.new.deck ≡ deck.now) }
-    ensures made { IfOk result (λ made. record { world = world.new.world; made = made.rounds; events = made.events } ≡ rounds_of deck.now) }
+    ensures made { IfOk result (λ made. lasting_of (record { world = world.new.world; made = made.rounds; events = made.events }) ≡ lasting_of (rounds_of deck.now)) }
 {
+    let last = round_events(alloc, deck, SWITCH_ROUND)?;
     let mut events = 0;
     for rounds in 0..MOST_ROUNDS {
         if world.at_rest() {
             return Ok(Made { rounds, events });
         }
-        let made = make_round(alloc, deck, world, rounds + 1)?;
+        let made = make_round(last.as_slice(), world, rounds + 1)?;
         events = more(events, made)?;
     }
     Ok(Made {
@@ -153,15 +139,18 @@ fn ended_of(world: &World<'_>, tasks: &[TaskId]) -> u64
     count
 }
 
-/// What the rounds of a deck come to.
-#[tactic(auto, using(grs_wire::proofs::DeckLaws::bounds), unfolding(crate::specs::Generated::figures_of))]
-fn figures_of(alloc: Global, deck: &Deck) -> Result<Figures, NoMemory>
+/// What the rounds of a deck come to that led to this world.
+#[tactic(auto, using(grs_wire::proofs::DeckLaws::bounds))]
+fn figures_after(
+    alloc: Global,
+    deck: &Deck,
+    world: &World<'_>,
+    made: Made,
+) -> Result<Figures, NoMemory>
     requires { IsDeck deck.now }
-    ensures { IfOk result (λ figures. figures ≡ figures_of deck.now) }
+    ensures { IfOk result (λ figures. figures ≡ figures_after deck.now (record { world = world.now.world; made = made.rounds; events = made.events })) }
 {
     let tasks = tasks_of(alloc, deck)?;
-    let mut world = World::new(alloc, deck)?;
-    let made = make_rounds(alloc, deck, &mut world)?;
     let history = history_len(world.fixed().as_slice())?;
     Ok(Figures {
         systems: deck.systems.len() as u64,
@@ -169,9 +158,20 @@ fn figures_of(alloc: Global, deck: &Deck) -> Result<Figures, NoMemory>
         rounds: made.rounds,
         events: made.events,
         history,
-        ended: ended_of(&world, tasks.as_slice()),
+        ended: ended_of(world, tasks.as_slice()),
         star: world.medium().star(),
     })
+}
+
+/// What the rounds of a deck come to.
+#[tactic(auto, using(grs_wire::proofs::DeckLaws::bounds))]
+fn figures_of(alloc: Global, deck: &Deck) -> Result<Figures, NoMemory>
+    requires { IsDeck deck.now }
+    ensures { IfOk result (λ figures. figures ≡ figures_of deck.now) }
+{
+    let mut world = World::new(alloc, deck)?;
+    let made = make_rounds(alloc, deck, &mut world)?;
+    figures_after(alloc, deck, &world, made)
 }
 
 /// Puts a name and its number behind a line, each with a blank before it.

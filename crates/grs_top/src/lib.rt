@@ -9,6 +9,7 @@ mod ends;
 mod fault_line;
 mod generate;
 pub mod laws;
+mod left_out;
 mod lists;
 mod seen;
 mod status;

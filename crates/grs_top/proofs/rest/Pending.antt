@@ -66,7 +66,8 @@ unfolding state_of
 task-any test v t is h =
     list_any_at (λ (x : TaskState). test x.phase) v.tasks t.task _ (ltb-true _ _ (and_parts _ _ is).1) h
 
-no_go : (deck : Deck) (n : NodeState) (t : TaskId) → is_pending deck n ≡ false → may_go deck n t ≡ false
+pub no_go : (deck : Deck) (n : NodeState) (t : TaskId) → list_any (λ x. goes_on x.phase) n.tasks.tasks ≡ false
+    → may_go deck n t ≡ false
 unfolding may_go
 no_go deck n t none = by_may (may_go deck n t) refl
   where
@@ -74,11 +75,11 @@ no_go deck n t none = by_may (may_go deck n t) refl
     by_may true is =
         let parts = and_parts (is_task n.tasks t) _ is in
         let goes = (and_parts _ _ parts.1).1 in
-        absurd (true≢false (sym (task-any goes_on n.tasks t parts.0 goes) ∙ (none_pending_parts deck n none).tasks))
+        absurd (true≢false (sym (task-any goes_on n.tasks t parts.0 goes) ∙ none))
     by_may false is = refl
 
-no_send : (deck : Deck) (n : NodeState) (p : StarPart) (t : TaskId) → n.star ≡ Some p → is_pending deck n ≡ false
-    → may_send deck n t ≡ false
+pub no_send : (deck : Deck) (n : NodeState) (p : StarPart) (t : TaskId) → n.star ≡ Some p
+    → is_star_pending n.tasks n.star ≡ false → may_send deck n t ≡ false
 unfolding may_send
 no_send deck n p t star none = by_may (may_send deck n t) refl
   where
@@ -89,15 +90,14 @@ no_send deck n p t star none = by_may (may_send deck n t) refl
         let any : list_any (λ x. is_to_send x.phase) n.tasks.tasks ≡ true =
         task-any is_to_send n.tasks t parts.0 sends in
         let idle : is_star_pending n.tasks (Some p) ≡ false =
-        ap (is_star_pending n.tasks) (sym star) ∙ (none_pending_parts deck n none).star in
+        ap (is_star_pending n.tasks) (sym star) ∙ none in
         absurd (true≢false (sym any ∙ (or_parts _ _ idle).0))
     by_may false is = refl
 
-no_held : (deck : Deck) (n : NodeState) (p : StarPart) → n.star ≡ Some p → is_pending deck n ≡ false
+pub no_held : (n : NodeState) (p : StarPart) → n.star ≡ Some p → is_star_pending n.tasks n.star ≡ false
     → first_held p ≡ None
-no_held deck n p star none =
-    let idle : is_star_pending n.tasks (Some p) ≡ false =
-    ap (is_star_pending n.tasks) (sym star) ∙ (none_pending_parts deck n none).star in
+no_held n p star none =
+    let idle : is_star_pending n.tasks (Some p) ≡ false = ap (is_star_pending n.tasks) (sym star) ∙ none in
     let part : is_part_pending p ≡ false = (or_parts _ _ idle).1 in
     by_held p.held (or_parts _ _ part).0
   where
@@ -113,11 +113,10 @@ none_kept home [] e h = refl
 none_kept home (o ∷ os) zero h = (or_parts _ _ h).0
 none_kept home (o ∷ os) (suc e) h = none_kept home os e (or_parts _ _ h).1
 
-no_tell : (deck : Deck) (n : NodeState) (p : StarPart) (e : ℕ) → n.star ≡ Some p → is_pending deck n ≡ false
+pub no_tell : (n : NodeState) (p : StarPart) (e : ℕ) → n.star ≡ Some p → is_star_pending n.tasks n.star ≡ false
     → to_tell p e ≡ None
-no_tell deck n p e star none =
-    let idle : is_star_pending n.tasks (Some p) ≡ false =
-    ap (is_star_pending n.tasks) (sym star) ∙ (none_pending_parts deck n none).star in
+no_tell n p e star none =
+    let idle : is_star_pending n.tasks (Some p) ≡ false = ap (is_star_pending n.tasks) (sym star) ∙ none in
     let part : is_part_pending p ≡ false = (or_parts _ _ idle).1 in
     let at : any_untold_in p.manager.system.0 (items_of (managed_at p.manager e)) ≡ false =
     none_kept p.manager.system.0 p.manager.entries e (or_parts _ _ (or_parts _ _ part).1).0 in
@@ -189,7 +188,7 @@ pub calm : (deck : Deck) (n : NodeState) (choice : Choice) → is_pending deck n
     → Calm n choice (prepare deck n choice)
 unfolding prepare star_call
 calm deck n (choices.Task t) none =
-    by_test (Calm n (choices.Task t)) (may_go deck n t) Quiet Nothing (λ is. true≢false (sym is ∙ no_go deck n t none))
+    by_test (Calm n (choices.Task t)) (may_go deck n t) Quiet Nothing (λ is. true≢false (sym is ∙ no_go deck n t (none_pending_parts deck n none).tasks))
     (λ is. tt)
 calm deck n choices.Turn none = by_star n.star
   where
@@ -203,7 +202,7 @@ calm deck n (choices.Send t) none = by_star n.star refl
     by_star (Some p) star =
         subst (λ (b : Bool).
         Calm n (choices.Send t) (prepared_by n.known (cond b (send_of p t (state_of n.tasks t).outstanding) Idle)))
-        (sym (no_send deck n p t star none)) tt
+        (sym (no_send deck n p t star (none_pending_parts deck n none).star)) tt
 calm deck n choices.Take none = by_star n.star
   where
     by_star : (o : Option StarPart) → Calm n choices.Take (star_call deck n o choices.Take)
@@ -215,14 +214,14 @@ calm deck n choices.Settle none = by_star n.star refl
     by_star None star = tt
     by_star (Some p) star =
         subst (λ (o : Option Req). Calm n choices.Settle (prepared_by n.known (settle_by p o)))
-        (sym (no_held deck n p star none)) tt
+        (sym (no_held n p star (none_pending_parts deck n none).star)) tt
 calm deck n (choices.Tell e) none = by_star n.star refl
   where
     by_star : (o : Option StarPart) → n.star ≡ o → Calm n (choices.Tell e) (star_call deck n o (choices.Tell e))
     by_star None star = tt
     by_star (Some p) star =
         subst (λ (o : Option (TaskId × Res)). Calm n (choices.Tell e) (prepared_by n.known (tell_by o)))
-        (sym (no_tell deck n p e star none)) tt
+        (sym (no_tell n p e star (none_pending_parts deck n none).star)) tt
 calm deck n (choices.Part e) none = by_star n.star refl
   where
     by_star : (o : Option StarPart) → n.star ≡ o → Calm n (choices.Part e) (star_call deck n o (choices.Part e))
