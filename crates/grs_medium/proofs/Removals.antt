@@ -67,19 +67,19 @@ posted-at t (m ∷ ms) (b ∷ boxes) zero inside = refl
 posted-at t (m ∷ ms) (b ∷ boxes) (suc k) inside = posted-at t ms boxes k (omega (arith, inside))
 
 -- what each gets to know, by number
-abbrev told_by : MediumState → SysId → List (List Moved)
+abbrev pub told_by : MediumState → SysId → List (List Moved)
 told_by m t = moved_by m.words (systems_of m) t
 
-moved-at : (m : MediumState) (t s : SysId) → s.0 < systems_of m → get_or (told_by m t) s.0 [] ≡ moved_for m.words t s
+pub moved-at : (m : MediumState) (t s : SysId) → s.0 < systems_of m → get_or (told_by m t) s.0 [] ≡ moved_for m.words t s
 moved-at m t s low =
     get_or-map-range_with_len (λ k. moved_for m.words t (record { 0 = k })) 0 (systems_of m) s.0 s.0 [] low
     (omega arith)
 
 -- or nothing, where there is no such system
-abbrev told_to : MediumState → SysId → SysId → List Moved
+abbrev pub told_to : MediumState → SysId → SysId → List Moved
 told_to m t s = get_or (told_by m t) s.0 []
 
-inbox-left : (m : MediumState) (t s : SysId) → s.0 < length m.inboxes → s.0 ≢ t.0
+pub inbox-left : (m : MediumState) (t s : SysId) → s.0 < length m.inboxes → s.0 ≢ t.0
     → inbox (without_in_star m t) s.0 ≡ inbox m s.0 ++ notices_to t (told_to m t s)
 inbox-left m t s inside other =
     posted-at t (told_by m t) (emptied m.inboxes t.0) s.0
@@ -125,7 +125,7 @@ some-known e w t s other has_part managed =
         absurd (true≢false (sym (has-without_other (interest w) t.0 s.0 other ∙ has_part)
         ∙ none-passes 8 (has left) is s.0 low))
 
-told-where : (words : List ℕ) (t s : SysId) (e : ℕ) → e < length words → s.0 ≢ t.0
+pub told-where : (words : List ℕ) (t s : SysId) (e : ℕ) → e < length words → s.0 ≢ t.0
     → list_any (λ m. m.entry == e) (moved_for words t s)
     ≡ (is_manager (manager (word_at words e)) t && has (interest (word_at words e)) s.0)
 told-where words t s e inside other =

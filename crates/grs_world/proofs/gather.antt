@@ -10,3 +10,8 @@ pub mod Gathered
 pub mod Clean
 pub mod Known
 pub mod Acts
+pub mod OnTheWay
+pub mod Views
+pub mod Invariant
+pub mod Notices
+pub mod Again

@@ -13,5 +13,7 @@ pub mod Passed
 pub mod AtRest
 pub mod Removing
 pub mod Gone
+pub mod Again
+pub mod Noticed
 pub mod InStar
 pub mod Stopped

@@ -3,6 +3,7 @@ ghost use Rattle.std.specs.Prelude.{◌≡◌, true, false, length, List};
 ghost use Rattle.grs_wire.specs.Decks.{IsBounded, AreOrders};
 ghost use Rattle.grs_wire.specs.declared.deck.Deck.{Deck};
 ghost use Rattle.grs_wire.specs.declared.deck.Event.{Event};
+ghost use Rattle.grs_world.specs.Again.{NoticesSendAgain};
 ghost use Rattle.grs_world.specs.Agree.{Sound, RemovedTellNothing};
 ghost use Rattle.grs_world.specs.AtRest.{RestsInTheEnd};
 ghost use Rattle.grs_world.specs.Changing.{ChangesFixNothing};
@@ -12,6 +13,7 @@ ghost use Rattle.grs_world.specs.InStar.{NoneInStar};
 ghost use Rattle.grs_world.specs.Interest.{WordsAreManaged, WordsGoWithSystems};
 ghost use Rattle.grs_world.specs.Kept.{KeptArePlaces, ManagersKeepWell};
 ghost use Rattle.grs_world.specs.Laps.{ComesBackLast, ProcessedLast, AnsweredLast};
+ghost use Rattle.grs_world.specs.Noticed.{NoticesName};
 ghost use Rattle.grs_world.specs.Passed.{PassedIsTold};
 ghost use Rattle.grs_world.specs.Removing.{RemovedAreInHistory, AnswersHaveCauses, RemovalsAreEntries, NoneFollows, RemovalsKeepOthers, MessageGoesOn};
 ghost use Rattle.grs_world.specs.Stopped.{LapsEnd};
@@ -148,6 +150,20 @@ pub fn none_follows_its_removal()
 pub fn nothing_is_kept_of_removed()
     ensures known { (deck : Deck) → AreOrders (length deck.systems) 0 deck.systems → (events : List Event) → KnownAreGone deck events }
     ensures acting { (deck : Deck) → AreOrders (length deck.systems) 0 deck.systems → (events : List Event) (next : Event) → ActsWithoutGone deck events next }
+{}
+
+/// In every run of a deck that begins in star mode and fits it, whichever systems are removed, the notices in a live
+/// system's inbox name the managers of lock entries: of those that name an entry the last one names the manager that the
+/// entry's word names, each other one a system that was removed since. And the entry's set holds whose inbox it is.
+pub fn notices_name_managers()
+    ensures { (deck : Deck) → deck.star ≡ true → FitsStar deck → (events : List Event) → NoticesName deck events }
+{}
+
+/// In every run, by an event that takes a notice a task that has sent its request, which isn't answered yet, is to send it
+/// again exactly where the notice names the request's lock entry, and its system neither manages nor gathers that; of any
+/// other task that has sent one the request is still sent.
+pub fn notices_send_again()
+    ensures { (deck : Deck) → (events : List Event) (next : Event) → NoticesSendAgain deck events next }
 {}
 
 /// No line is told by a system that was removed before that event, to a task or at its desk.

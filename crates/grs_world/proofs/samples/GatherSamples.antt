@@ -102,7 +102,7 @@ share = enq 66 S Systems RetNone
 -- ---- the manager is removed
 -- The first system manages the entry, and its task owns. The third one's first task waits, and then the second's. The
 -- request of the third one's other task is taken, and not settled (event 13).
-abbrev manager_goes : Deck
+abbrev pub manager_goes : Deck
 manager_goes =
     at_desk 1 (vary 0 ∷ []) (star_of (((one ∷ []) ∷ []) ∷ ((one ∷ []) ∷ []) ∷ ((one ∷ []) ∷ (share ∷ []) ∷ []) ∷ []))
 
@@ -112,21 +112,21 @@ all_asked =
     ∷ goes 2 1 ∷ sends 2 1 ∷ takes 0 ∷ []
 
 -- The second system removes the first (14), and has its notice (16).
-abbrev without_manager : List Event
+abbrev pub without_manager : List Event
 without_manager = all_asked ++ purges 1 0 ∷ []
 
-abbrev it_gathers : List Event
+abbrev pub it_gathers : List Event
 it_gathers = without_manager ++ takes 1 ∷ takes 1 ∷ []
 
 -- The third is told who is removed (17), has its answer and its notice (19), and sends its part (20).
-abbrev part_sent : List Event
+abbrev pub part_sent : List Event
 part_sent = it_gathers ++ takes 2 ∷ takes 2 ∷ takes 2 ∷ parts 2 ∷ []
 
 -- With that the second has the lists (21). It tells the third's task, and settles the request that was sent again (26).
 abbrev all_there : List Event
 all_there = part_sent ++ takes 1 ∷ []
 
-abbrev goes_on : List Event
+abbrev pub goes_on : List Event
 goes_on = all_there ++ tells 1 ∷ sends 2 1 ∷ takes 2 ∷ takes 1 ∷ settles 1 ∷ takes 2 ∷ []
 
 abbrev two_left : List Elem
@@ -288,7 +288,7 @@ control_kept = (refl, refl, refl, refl)
 -- The tasks of the other three systems wait, in the order of the systems (event 14). The third system removes the first
 -- (17), and the second gathers. It has the third one's part (22), and not the fourth's, when the fourth removes it
 -- (24).
-abbrev two_go : Deck
+abbrev pub two_go : Deck
 two_go =
     at_desk 2 (vary 0 ∷ []) (at_desk 3 (vary 1 ∷ [])
     (star_of (((one ∷ []) ∷ []) ∷ ((one ∷ []) ∷ []) ∷ ((share ∷ []) ∷ []) ∷ ((share ∷ []) ∷ []) ∷ [])))
@@ -301,7 +301,7 @@ four_asked =
 abbrev one_gone : List Event
 one_gone = four_asked ++ purges 2 0 ∷ []
 
-abbrev one_part : List Event
+abbrev pub one_part : List Event
 one_part = one_gone ++ takes 1 ∷ takes 1 ∷ takes 2 ∷ parts 2 ∷ takes 1 ∷ []
 
 abbrev two_gone : List Event
@@ -309,10 +309,10 @@ two_gone = one_part ++ purges 3 1 ∷ purges 3 1 ∷ []
 
 -- The fourth takes its answer and both notices (28); to the second it can send no part any more (27), and it sends one
 -- to the third (29), which is told who is removed, takes its notice, and that part (32).
-abbrev its_part : List Event
+abbrev pub its_part : List Event
 its_part = two_gone ++ takes 3 ∷ takes 3 ∷ parts 3 ∷ takes 3 ∷ parts 3 ∷ []
 
-abbrev both_share : List Event
+abbrev pub both_share : List Event
 both_share = its_part ++ takes 2 ∷ takes 2 ∷ takes 2 ∷ tells 2 ∷ takes 3 ∷ []
 
 abbrev three_wait : List Elem
@@ -349,7 +349,7 @@ two_kept = (refl, refl, refl, refl)
 -- (12).
 -- The third is told so (14), processes its request by lists in which the first one's element still stands, and changes
 -- (15).
-abbrev never_changes : Deck
+abbrev pub never_changes : Deck
 never_changes =
     at_desk 1 (record { at = 0; order = orders.Star } ∷ vary 0 ∷ [])
     (deck_of (((one ∷ []) ∷ []) ∷ ((one ∷ []) ∷ (enq 66 S Systems RetTest ∷ []) ∷ [])
@@ -369,7 +369,7 @@ third_changed = never_changed ++ takes 1 ∷ turn 2 ∷ turn 2 ∷ []
 abbrev third_part : List Event
 third_part = third_changed ++ takes 2 ∷ parts 2 ∷ []
 
-abbrev decided_there : List Event
+abbrev pub decided_there : List Event
 decided_there = third_part ++ takes 1 ∷ sends 1 1 ∷ []
 
 abbrev both_stay : List Elem
