@@ -5,7 +5,7 @@ ghost use Rattle.grs_medium.specs.Medium.{systems_of};
 ghost use Rattle.grs_wire.specs.Decks.{IsBounded};
 ghost use Rattle.grs_workers.specs.Stands.{stand, first_stand, IsOn, Agrees};
 
-use crate::lap::Lap;
+use crate::agenda::Agenda;
 use crate::worker::Worker;
 use grs_base::{List, NoMemory};
 use grs_bus::{Bus, Seat};
@@ -37,9 +37,9 @@ fn add_worker<'d>(
     ensures { OnOk result (map stand workers.new.items ≡ map stand workers.old.items ++ first_stand deck.now seat ∷ []) }
 {
     make_room(workers)?;
-    let lap = Lap::new(alloc, deck, seat.system())?;
+    let agenda = Agenda::new(alloc, deck, seat.system())?;
     let node = Node::new(alloc, deck, seat.system())?;
-    workers.push_reserved(Worker::new(node, seat, lap));
+    workers.push_reserved(Worker::new(node, seat, agenda));
     Ok(())
 }
 

@@ -2,10 +2,10 @@
 //! events that have something to do. What a run comes to isn't known here.
 #![tactic(auto)]
 
+mod agenda;
 mod beds;
 mod crew;
 mod gate;
-mod lap;
 mod rounds;
 mod run;
 mod stretch;

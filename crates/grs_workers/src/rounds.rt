@@ -53,7 +53,7 @@ fn make_call<R: Wait, G: Gate>(
     if let Some(sleeper) = sleeper {
         sleeper.tell(worker.seat.concerned());
     }
-    worker.lap.replied(&reply);
+    worker.agenda.replied(&reply);
     let out = is_last_reply(&reply);
     worker.node.finish(&choice, Some((reply, entered)))?;
     worker.calls = worker.calls.saturating_add(1);
@@ -104,7 +104,7 @@ fn event<R: Wait, G: Gate>(
     ensures on { OnOk result (IsOn bus.now (stand worker.new)) }
     ensures agrees { OnOk result (Agrees (stand worker.new)) }
 {
-    let (choice, prepared) = worker.lap.pick(&mut worker.node)?;
+    let (choice, prepared) = worker.agenda.pick(&mut worker.node)?;
     act(rt, bus, worker, gate, None, choice, prepared)
 }
 

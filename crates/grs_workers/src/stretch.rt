@@ -3,9 +3,9 @@ ghost use Rattle.std.specs.Prelude.{◌≡◌, All, IfOk, IfErr, OnOk};
 ghost use Rattle.grs_workers.specs.Stands.{stand, IsOn, Agrees};
 ghost use Rattle.grs_workers.specs.Rounds.{Grew, Each, HasMoved};
 
+use crate::agenda::Agenda;
 use crate::beds::{Beds, Sleeper, Woken};
 use crate::gate::Gate;
-use crate::lap::Lap;
 use crate::rounds::{act, all_out};
 use crate::worker::Worker;
 use grs_base::{MOST_SYSTEMS, NoMemory};
@@ -41,7 +41,7 @@ fn event_if<R: Wait, G: Gate>(
     ensures on { OnOk result (IsOn bus.now (stand worker.new)) }
     ensures agrees { OnOk result (Agrees (stand worker.new)) }
 {
-    let Some((choice, prepared)) = worker.lap.next(&mut worker.node)? else {
+    let Some((choice, prepared)) = worker.agenda.next(&mut worker.node)? else {
         return Ok(None);
     };
     if matches!(choice, Choice::Turn | Choice::Take) {
@@ -55,13 +55,13 @@ fn event_if<R: Wait, G: Gate>(
 }
 
 /// There is nothing to do: the worker asks once more, where it has yet to sleep, and else it sleeps until it is called.
-fn rest<R: Wait>(rt: &R, lap: &mut Lap, sleeper: &mut Sleeper<'_>) -> Goes {
+fn rest<R: Wait>(rt: &R, agenda: &mut Agenda, sleeper: &mut Sleeper<'_>) -> Goes {
     if sleeper.asks_again() {
-        lap.ask();
+        agenda.ask();
         return Goes::On;
     }
-    let woken = sleeper.sleep(rt, lap.at_rest());
-    lap.wake(woken == Woken::Alone);
+    let woken = sleeper.sleep(rt, agenda.at_rest());
+    agenda.wake(woken == Woken::Alone);
     match woken {
         Woken::Called | Woken::Alone => Goes::On,
         Woken::Never => Goes::Away,
@@ -90,7 +90,7 @@ fn step<R: Wait, G: Gate>(
             }
             Ok(goes)
         }
-        None => Ok(rest(rt, &mut worker.lap, sleeper)),
+        None => Ok(rest(rt, &mut worker.agenda, sleeper)),
     }
 }
 
@@ -132,7 +132,7 @@ fn work_on<R: Wait, G: Gate>(
     ensures { HasMoved bus.now worker.old worker.new }
 {
     let mut sleeper = Sleeper::new(beds, place);
-    worker.lap.wake(false);
+    worker.agenda.wake(false);
     worker.outcome = events_in_stretch(rt, bus, worker, gate, &mut sleeper);
     sleeper.done(rt, !matches!(worker.outcome, Ok(true)));
 }

@@ -1,7 +1,7 @@
 //! A worker: a system with its seat at the bus.
 ghost use Rattle.std.specs.Prelude.{◌≡◌};
 
-use crate::lap::Lap;
+use crate::agenda::Agenda;
 use grs_base::NoMemory;
 use grs_bus::Seat;
 use grs_node::Node;
@@ -15,13 +15,13 @@ pub struct Worker<'d> {
     pub seat: Seat,
     pub calls: u64,
     pub outcome: Result<bool, NoMemory>,
-    pub(crate) lap: Lap,
+    pub(crate) agenda: Agenda,
 }
 
 impl<'d> Worker<'d> {
     /// A system with its seat, which is to be of that system, before its first round. All that wants memory was made before, so
     /// that no system is ever dropped here.
-    pub(crate) fn new(node: Node<'d>, seat: Seat, lap: Lap) -> Worker<'d>
+    pub(crate) fn new(node: Node<'d>, seat: Seat, agenda: Agenda) -> Worker<'d>
         ensures node { result.node ≡ node.entry }
         ensures seat { result.seat ≡ seat }
         ensures calls { result.calls ≡ 0 }
@@ -31,7 +31,7 @@ impl<'d> Worker<'d> {
             seat,
             calls: 0,
             outcome: Ok(false),
-            lap,
+            agenda,
         }
     }
 }

@@ -49,7 +49,7 @@ enum Then {
 /// The choices of a system, which are tried one after the other and round again while the system changes, and where it is among
 /// them.
 #[derive(Drop)]
-pub(crate) struct Lap {
+pub(crate) struct Agenda {
     tries: List<Choice>,
     /// Those of star mode, until the system is in it.
     later: List<Choice>,
@@ -195,10 +195,10 @@ fn turn_or_take(node: &mut Node<'_>) -> Result<(Choice, Prepared), NoMemory>
     }
 }
 
-impl Lap {
+impl Agenda {
     /// The choices of a system of a deck: its tasks go on, its desk commands; and in star mode its requests are sent, settled
     /// and told, its parts are sent, and its interest in lock entries is given up.
-    pub(crate) fn new(alloc: Global, deck: &Deck, system: SysId) -> Result<Lap, NoMemory> {
+    pub(crate) fn new(alloc: Global, deck: &Deck, system: SysId) -> Result<Agenda, NoMemory> {
         let mut tries = List::new(alloc);
         let mut later = List::new(alloc);
         let mut desk = List::new(alloc);
@@ -211,7 +211,7 @@ impl Lap {
         add_entries(&mut later, deck.entries)?;
         let ready = tasks_of(alloc, tries.as_slice())?;
         let left = tries.len();
-        Ok(Lap {
+        Ok(Agenda {
             tries,
             later,
             desk,
