@@ -8,8 +8,8 @@ use Rattle.std.proofs.lemmas.Option.{slice_get_within}
 use Rattle.grs_wire.specs.Decks.{IsDeck, IsEventOf}
 use Rattle.grs_wire.specs.declared.deck.Deck.{Deck}
 use Rattle.grs_wire.specs.declared.deck.Event.{Event}
-use Rattle.grs_world.proofs.rest.Homes.{homes_run}
-use Rattle.grs_world.proofs.rest.Sized.{sized_run}
+use Rattle.grs_world.proofs.at_rest.Homes.{homes_run}
+use Rattle.grs_world.proofs.at_rest.Sized.{sized_run}
 use Rattle.grs_world.proofs.run.Each.{run-push}
 use Rattle.grs_world.proofs.run.GoesOn.{as_many}
 use Rattle.grs_world.specs.World.{World, first_world, run}

@@ -1,5 +1,6 @@
 -- Events that come to nothing, and worlds that differ by such events.
-use Rattle.std.proofs.Common.{◌≡◌, ℕ, Bool, true, false, cond, List, [], ◌∷◌, ◌++◌, Option, Some, None, refl, ap, sym, ◌∙◌}
+use Rattle.std.proofs.Common.{◌≡◌, ℕ, Bool, true, false, cond, List, [], ◌∷◌, ◌++◌, Option, Some, None, refl, ap, sym}
+use Rattle.std.proofs.Common.{◌∙◌}
 use Rattle.std.proofs.Common.{append-nil}
 use Rattle.std.specs.Prelude.{◌&&◌, ◌||◌, not, slice_get, set}
 use Rattle.std.specs.List.{list_any}
@@ -28,7 +29,7 @@ use Rattle.grs_world.specs.World.{run_from}
 use Rattle.task_state.specs.View.{is_task, state_of}
 use Rattle.task_state.specs.declared.state.Phase.{Phase}
 use Rattle.task_state.specs.declared.state.Phase.TheVariants as phases
-use Rattle.grs_top.proofs.rest.Pending.{none_pending_parts, no_go, no_send, no_held, no_tell}
+use Rattle.grs_top.proofs.at_rest.Pending.{none_pending_parts, no_go, no_send, no_held, no_tell}
 use Rattle.grs_top.specs.LeftOut.{ComesToNothing, IsNothingAt, is_idle, is_over, lasting}
 
 -- ---- worlds
@@ -111,7 +112,8 @@ last-fails true false c fails = refl
 last-fails true true c fails = fails refl
 
 task-nothing : (deck : Deck) (n : NodeState) (t : TaskId)
-    → (is_task n.tasks t ≡ true → goes_on (state_of n.tasks t).phase ≡ false) → prepare deck n (choices.Task t) ≡ Nothing
+    → (is_task n.tasks t ≡ true → goes_on (state_of n.tasks t).phase ≡ false)
+    → prepare deck n (choices.Task t) ≡ Nothing
 unfolding prepare may_go
 task-nothing deck n t stays =
     ap (λ (b : Bool). cond b Quiet Nothing)
@@ -142,7 +144,8 @@ ring-star deck n none = by_star n.star none
 pub ring-sends : (deck : Deck) (n : NodeState) (t : TaskId) → prepare deck n choices.Take ≡ Nothing
     → ComesToNothing n (choices.Send t)
 unfolding prepare star_call
-ring-sends deck n t none = λ own. ap (λ (o : Option StarPart). star_call own n o (choices.Send t)) (ring-star deck n none)
+ring-sends deck n t
+    none = λ own. ap (λ (o : Option StarPart). star_call own n o (choices.Send t)) (ring-star deck n none)
 
 pub ring-settles : (deck : Deck) (n : NodeState) → prepare deck n choices.Take ≡ Nothing
     → ComesToNothing n choices.Settle
@@ -152,13 +155,15 @@ ring-settles deck n none = λ own. ap (λ (o : Option StarPart). star_call own n
 pub ring-tells : (deck : Deck) (n : NodeState) (e : ℕ) → prepare deck n choices.Take ≡ Nothing
     → ComesToNothing n (choices.Tell e)
 unfolding prepare star_call
-ring-tells deck n e none = λ own. ap (λ (o : Option StarPart). star_call own n o (choices.Tell e)) (ring-star deck n none)
+ring-tells deck n e
+    none = λ own. ap (λ (o : Option StarPart). star_call own n o (choices.Tell e)) (ring-star deck n none)
 
 -- ---- where nothing is pending
 
 idle-parts : (n : NodeState) → is_idle n ≡ true
     → (list_any (λ x. goes_on x.phase) n.tasks.tasks ≡ false) × (is_star_pending n.tasks n.star ≡ false)
-idle-parts n idle = or_parts _ _ (by (list_any (λ x. goes_on x.phase) n.tasks.tasks || is_star_pending n.tasks n.star) idle)
+idle-parts n idle =
+    or_parts _ _ (by (list_any (λ x. goes_on x.phase) n.tasks.tasks || is_star_pending n.tasks n.star) idle)
   where
     by : (b : Bool) → not b ≡ true → b ≡ false
     by true k = cc

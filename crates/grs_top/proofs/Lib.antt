@@ -1,5 +1,5 @@
 pub mod merged
-pub mod rest
+pub mod at_rest
 pub mod Answering
 pub mod Complete
 pub mod DueLemmas

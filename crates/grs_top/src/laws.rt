@@ -60,7 +60,7 @@ pub fn merged_runs()
 
 /// Where each of the systems, of which there is one at least, ends with a call that is answered that all have come to rest, or that the
 /// system was removed, that run ends at rest.
-#[tactic(auto, using(crate::proofs::rest::Merged::merged_rests))]
+#[tactic(auto, using(crate::proofs::at_rest::Merged::merged_rests))]
 pub fn merged_rests()
     ensures { MergedRests }
 {}

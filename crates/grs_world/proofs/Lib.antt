@@ -5,6 +5,6 @@ pub mod code
 pub mod samples
 pub mod star
 pub mod move
-pub mod rest
+pub mod at_rest
 pub mod lap
 pub mod gather

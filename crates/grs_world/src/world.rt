@@ -169,7 +169,7 @@ impl<'d> World<'d> {
 
     /// An event of a system that is there and wasn't removed.
     #[tactic(auto, using(crate::proofs::code::Happens::happening), unfolding(crate::specs::World::placed))]
-    fn place(&mut self, event: &Event) -> Result<(), NoMemory>
+    fn happens(&mut self, event: &Event) -> Result<(), NoMemory>
         requires live { is_live self.old.world event.now.system ≡ true }
         requires more { self.old.world.events < last_number }
         ensures { OnOk result (self.new ≡ after self.old event.now) }
@@ -199,7 +199,7 @@ impl<'d> World<'d> {
             return Err(NoMemory);
         }
         if self.is_live(event.system) {
-            self.place(event)
+            self.happens(event)
         } else {
             self.events += 1;
             Ok(())

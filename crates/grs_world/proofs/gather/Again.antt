@@ -44,7 +44,7 @@ use Rattle.task_state.specs.declared.state.TaskState.{TaskState}
 use Rattle.grs_wire.specs.declared.told.ToldLine.{ToldLine}
 use Rattle.grs_known.proofs.lists.Facts.{slice_get-set}
 use Rattle.grs_known.proofs.lists.Truths.{no_truth}
-use Rattle.grs_world.proofs.rest.Control.{Controlled, Hears, coded, controlled, given, none, passed, posted}
+use Rattle.grs_world.proofs.at_rest.Control.{Controlled, Hears, coded, controlled, given, none, passed, posted}
 use Rattle.grs_world.proofs.run.Came as any
 use Rattle.grs_world.proofs.run.Came.{Acts, Came, Result, acted, already, began, changed, decided, informed, is_silent}
 use Rattle.grs_world.proofs.run.Came.{last_turn, left, no_such, parted, removes_one, removes_star, replied, result_of}
@@ -379,7 +379,9 @@ send_again deck es e n k p target moved t at star now answer inside here is_out 
     by_live (is_live (run deck es) e.system) refl
   where
     -- its call, as far as it makes one
-    call : reply_by (run deck es).medium e.system (cond (is_live (run deck es) e.system) (call_in (prepare deck n e.choice)) None)
+    call :
+        reply_by (run deck es).medium e.system
+        (cond (is_live (run deck es) e.system) (call_in (prepare deck n e.choice)) None)
         ≡ Some (replies.Taken (mails.Notice target moved))
     call = sym (ap (λ o. reply_by (run deck es).medium e.system (call_at deck (run deck es) e o)) at) ∙ answer
 

@@ -28,7 +28,7 @@ use Rattle.grs_world.proofs.gather.Elements.{KeepsNone, gone-none, installed-non
 use Rattle.grs_world.proofs.gather.Gathered.{AreFree, AreRight, awaiting-free, awaiting-right, came-free, came-right}
 use Rattle.grs_world.proofs.gather.Gathered.{gathered-free, gone-all, losing-free, losing-right, taken-free}
 use Rattle.grs_world.proofs.gather.Gathered.{taken-right}
-use Rattle.grs_world.proofs.rest.Full.{size-control}
+use Rattle.grs_world.proofs.at_rest.Full.{size-control}
 use Rattle.grs_world.proofs.run.Lost.{by-loss, by-part, tasks-each}
 
 -- ---- a system's tasks and part

@@ -54,8 +54,8 @@ use Rattle.task_state.specs.declared.state.Rec.{Rec}
 use Rattle.grs_known.proofs.known.Histories.{OrdersFit}
 use Rattle.grs_known.proofs.lists.Truths.{false_by, no_truth}
 use Rattle.grs_world.proofs.gather.HeldBack.{HoldsNone, held_run, none-found}
-use Rattle.grs_world.proofs.rest.Homes.{homes_run}
-use Rattle.grs_world.proofs.rest.KeptUp.{IsBoxed, kept_run}
+use Rattle.grs_world.proofs.at_rest.Homes.{homes_run}
+use Rattle.grs_world.proofs.at_rest.KeptUp.{IsBoxed, kept_run}
 use Rattle.grs_world.proofs.run.Came as any
 use Rattle.grs_world.proofs.run.Came.{Acts, Came, Result, acted, already, began, changed, decided, informed, last_turn}
 use Rattle.grs_world.proofs.run.Came.{left, no_such, parted, removes_one, removes_star, replied, result_of, sent}

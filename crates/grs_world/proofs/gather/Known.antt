@@ -41,8 +41,8 @@ use Rattle.grs_world.proofs.gather.Clean.{clean-up, of-lost, of-moved, of-part, 
 use Rattle.grs_world.proofs.gather.Elements.{KeepsNone, leaving-none, managing-none, request-none, telling-none}
 use Rattle.grs_world.proofs.gather.Gathered.{AreFree, AreRight, are_right, is_free}
 use Rattle.grs_world.proofs.gather.HeldBack.{HasNone, HoldsNone, held_run, member, none-found}
-use Rattle.grs_world.proofs.rest.Full.{size-changed, size-desk, size-entries}
-use Rattle.grs_world.proofs.rest.Homes.{homes_run}
+use Rattle.grs_world.proofs.at_rest.Full.{size-changed, size-desk, size-entries}
+use Rattle.grs_world.proofs.at_rest.Homes.{homes_run}
 use Rattle.grs_world.proofs.run.Came.{Acts, Came, Result, acted, already, began, changed, decided, informed, last_turn}
 use Rattle.grs_world.proofs.run.Came.{left, no_part, no_such, nothing, parted, removes_one, removes_star, sent, settled}
 use Rattle.grs_world.proofs.run.Came.{told, took, turn, went_on}

@@ -1,7 +1,8 @@
--- In a complex that begins in star mode the notices in a live system's inbox name the managers of lock entries, whichever
--- systems are removed: of those that name an entry the last one names its manager, each other one a system that was
--- removed since; and whose inbox it is has interest in the entry.
-use Rattle.std.proofs.Common.{◌≡◌, ◌≢◌, ◌<◌, ◌≤◌, ℕ, Bool, true, false, cond, not, ◌&&◌, ◌||◌, List, [], ◌∷◌, ◌++◌, length}
+-- In a complex that begins in star mode the notices in a live system's inbox name the managers of lock entries,
+-- whichever systems are removed: of those that name an entry the last one names its manager, each other one a system
+-- that was removed since; and whose inbox it is has interest in the entry.
+use Rattle.std.proofs.Common.{◌≡◌, ◌≢◌, ◌<◌, ◌≤◌, ℕ, Bool, true, false, cond, not, ◌&&◌, ◌||◌, List, [], ◌∷◌, ◌++◌}
+use Rattle.std.proofs.Common.{length}
 use Rattle.std.proofs.Common.{Option, Some, None, refl, ap, sym, ◌∙◌, subst, arith, append-nil, zero, suc}
 use Rattle.std.specs.Prelude.{◌==◌, drop, filter, nat_lt, replicate, slice_get}
 use Rattle.std.specs.List.{All, list_any}
@@ -52,7 +53,7 @@ use Rattle.lock_structure.specs.Words.{left_words, submitted_words, word_at}
 use Rattle.system_purge.specs.Gather.{part_of}
 use Rattle.task_state.specs.declared.state.Asked.{Asked}
 use Rattle.grs_known.proofs.lists.Truths.{no_truth}
-use Rattle.grs_world.proofs.rest.Sized.{IsSized, sized_run}
+use Rattle.grs_world.proofs.at_rest.Sized.{IsSized, sized_run}
 use Rattle.grs_world.proofs.run.Came as any
 use Rattle.grs_world.proofs.run.Came.{Acts, Came, Result, acted, already, began, changed, decided, informed, last_turn}
 use Rattle.grs_world.proofs.run.Came.{left, no_such, parted, removes_one, removes_star, replied, result_of, sent}
@@ -282,7 +283,8 @@ module _ (words : List ℕ) (removed : ℕ) (t s : SysId) (e : ℕ) (there : e <
   was-named : is_manager (manager_at words e) t ≡ true → (x : Moved) → manager_at words e ≡ Some x.manager
       → has gone_set x.manager.0 ≡ true
   was-named mine x at =
-      ap (has gone_set) (eqb-true x.manager.0 t.0 (sym (ap (λ o. is_manager o t) at) ∙ mine)) ∙ has-with_same removed t.0
+      ap (has gone_set) (eqb-true x.manager.0 t.0 (sym (ap (λ o. is_manager o t) at) ∙ mine))
+      ∙ has-with_same removed t.0
 
   box-far : is_interested words e s.0 ≡ false → (ms : List Mail) → InBox words removed e s.0 ms
       → InBox behind gone_set e s.0 ms
@@ -579,7 +581,8 @@ module _ (deck : Deck) (few : length deck.systems ≤ most_systems) (some : 0 < 
 
   fit-came : (choice : Choice) (b : Result) (o : Turnout) → b ≡ result_of m c (prepare deck n choice)
       → Came deck m c n choice b o → AreFit deck o.medium
-  fit-came choice b o was (any.nothing k r silent flags) = same-words deck m (record m { rest = flags }) refl refl refl refl g
+  fit-came choice b o was (any.nothing k r silent flags) =
+      same-words deck m (record m { rest = flags }) refl refl refl refl g
   fit-came choice b o was (informed k) = g
   fit-came choice b o was (went_on t may) = g
   fit-came choice b o was (turn flags alone unclosed here) = same-words deck m _ refl refl refl refl g

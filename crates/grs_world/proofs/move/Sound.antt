@@ -23,7 +23,7 @@ use Rattle.grs_world.proofs.move.Changing.{IsChanging, IsMoved, Shown, has_chang
 use Rattle.grs_world.proofs.move.Decks.{order-may}
 use Rattle.grs_world.proofs.move.Moved.{changing-counted, event-moved}
 use Rattle.grs_world.proofs.run.Desks.{GoodDesks, desk-agrees, desks-after, desks-counted}
-use Rattle.grs_world.proofs.rest.Homes.{homes_run}
+use Rattle.grs_world.proofs.at_rest.Homes.{homes_run}
 use Rattle.grs_world.proofs.run.Chosen.{removes-none}
 use Rattle.grs_world.proofs.run.Knowing.{known_run}
 use Rattle.grs_world.proofs.run.Each.{each_live}

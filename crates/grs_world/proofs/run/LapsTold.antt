@@ -71,7 +71,7 @@ use Rattle.grs_world.proofs.run.InRing.{went_on}
 use Rattle.grs_world.proofs.run.OwnLines.{TellsOwn, is_own, tells_own}
 use Rattle.grs_world.proofs.gather.Unchanged.{Meets, by_itself, has_changed, meets_run}
 use Rattle.grs_world.proofs.move.Sound.{ring_good}
-use Rattle.grs_world.proofs.rest.Homes.{homes_run}
+use Rattle.grs_world.proofs.at_rest.Homes.{homes_run}
 use Rattle.grs_medium.proofs.LiveLaws.{has-live}
 use Rattle.grs_node.specs.Star.{StarPart}
 use Rattle.grs_wire.specs.declared.deck.Choice.{Choice}

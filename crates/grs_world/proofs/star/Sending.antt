@@ -65,7 +65,7 @@ use Rattle.grs_world.proofs.star.Heard.{StaysHeard}
 use Rattle.grs_world.proofs.star.hearing.Sent.{heard-sent}
 use Rattle.grs_world.proofs.star.steps.Outcome.{IsOutcome}
 use Rattle.grs_world.proofs.run.Desks.{tells_tasks}
-use Rattle.grs_world.proofs.rest.StarTasks.{dated-by, keeps-decided, keeps-sent}
+use Rattle.grs_world.proofs.at_rest.StarTasks.{dated-by, keeps-decided, keeps-sent}
 use Rattle.grs_legal.specs.Asks.{lines_of}
 use Rattle.grs_world.proofs.star.Ghosts.{others-fix}
 use Rattle.grs_world.proofs.system.AtNode.{own_ask}

@@ -23,7 +23,7 @@ use Rattle.grs_wire.specs.declared.deck.Order.TheVariants as orders
 use Rattle.grs_known.specs.Items.{RunItem, history, items}
 use Rattle.grs_medium.specs.Apply.{is_live}
 use Rattle.grs_medium.specs.Medium.{inbox}
-use Rattle.grs_world.proofs.rest.StarTasks.{IsDated, dated-by, keeps-telling}
+use Rattle.grs_world.proofs.at_rest.StarTasks.{IsDated, dated-by, keeps-telling}
 use Rattle.grs_world.proofs.run.Site.{Site}
 
 module _ (deck : Deck) (w : World) (g : IsWhole deck w) (c : SysId) (n : NodeState) (at : Site w c.0 n) where

@@ -19,7 +19,7 @@ use Rattle.grs_world.proofs.star.Heard.{StaysHeard}
 use Rattle.grs_world.proofs.star.hearing.Gentle.{Gentle, gentle-none}
 use Rattle.grs_world.proofs.star.hearing.Quiet.{heard-still}
 use Rattle.grs_world.proofs.run.Desks.{EventTells, tells_tasks}
-use Rattle.grs_world.proofs.rest.StarTasks.{IsDated}
+use Rattle.grs_world.proofs.at_rest.StarTasks.{IsDated}
 use Rattle.grs_world.proofs.run.Site.{Site}
 
 -- The world stays whole, what the system tells agrees with the history, what is still to be heard stays so, and the

@@ -36,7 +36,7 @@ use Rattle.grs_world.proofs.star.hearing.Settled.{heard-settled}
 use Rattle.grs_world.proofs.star.steps.Outcome.{Comes}
 use Rattle.grs_known.proofs.lists.Alike.{Alike, answer-alike, owners-alike}
 use Rattle.grs_world.proofs.run.Desks.{tells_tasks}
-use Rattle.grs_world.proofs.rest.StarTasks.{dated-by, keeps-new}
+use Rattle.grs_world.proofs.at_rest.StarTasks.{dated-by, keeps-new}
 use Rattle.grs_base.specs.declared.resource.Res.{Res}
 use Rattle.grs_world.proofs.run.Site.{Site}
 

@@ -45,8 +45,8 @@ use Rattle.grs_world.proofs.star.Worlds.{IsIn, IsHand, AllHands, Hands, IsWhole,
 use Rattle.grs_world.proofs.star.Worlds.{whole-placed, none_fixed}
 use Rattle.grs_world.proofs.star.steps.Outcome.{Comes, part}
 use Rattle.grs_world.proofs.run.Desks.{tells_tasks}
-use Rattle.grs_world.proofs.rest.StarTasks.{Keeps, dated-by, keeps-control, keeps-mail, keeps-none}
-use Rattle.grs_world.proofs.rest.Steps.{AllDate}
+use Rattle.grs_world.proofs.at_rest.StarTasks.{Keeps, dated-by, keeps-control, keeps-mail, keeps-none}
+use Rattle.grs_world.proofs.at_rest.Steps.{AllDate}
 use Rattle.grs_world.proofs.run.Site.{Site, site-below}
 use Rattle.grs_world.proofs.star.Boxes.{taken-box, untaken-box}
 

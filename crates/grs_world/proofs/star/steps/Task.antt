@@ -15,8 +15,8 @@ use Rattle.grs_world.proofs.star.steps.Outcome.{Comes}
 use Rattle.grs_node.proofs.Keeping.{stays-task}
 use Rattle.grs_world.proofs.run.Desks.{tells_tasks}
 use Rattle.grs_legal.specs.Asks.{lines_of}
-use Rattle.grs_world.proofs.rest.Ring.{distinct-at}
-use Rattle.grs_world.proofs.rest.StarTasks.{IsDated, dated-task}
+use Rattle.grs_world.proofs.at_rest.Ring.{distinct-at}
+use Rattle.grs_world.proofs.at_rest.StarTasks.{IsDated, dated-task}
 use Rattle.grs_world.proofs.star.Ghosts.{ghosted}
 use Rattle.grs_world.proofs.run.Site.{Site}
 
