@@ -22,7 +22,7 @@ pub enum Which {
 
 /// How the names of an entry are compared with those of a request.
 #[derive(Clone, Copy, Debug, PartialEq, Eq)]
-pub enum Form {
+pub enum RnlType {
     /// Both names are equal.
     Specific,
     /// The qname is equal, and the rname begins with the entry's.
@@ -36,7 +36,7 @@ pub enum Form {
 #[derive(Drop)]
 pub struct RnlEntry {
     pub which: Which,
-    pub form: Form,
+    pub rnl_type: RnlType,
     pub q: Qname,
     pub r: Option<Rname>,
 }
@@ -50,7 +50,7 @@ impl RnlEntry {
         let r = copy_rname(alloc, &self.r)?;
         Ok(RnlEntry {
             which: self.which,
-            form: self.form,
+            rnl_type: self.rnl_type,
             q,
             r,
         })

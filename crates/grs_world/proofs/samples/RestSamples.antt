@@ -16,7 +16,7 @@ use Rattle.grs_base.specs.declared.resource.Res.TheVariants as kinds
 use Rattle.grs_base.specs.declared.line.Scope.TheVariants.{System}
 use Rattle.grs_base.specs.declared.resource.Ret.TheVariants.{RetNone, RetEcb}
 use Rattle.grs_base.specs.declared.resource.TaskId.{TaskId}
-use Rattle.grs_base.specs.declared.rnl.Form.TheVariants.{Specific}
+use Rattle.grs_base.specs.declared.rnl.RnlType.TheVariants.{Specific}
 use Rattle.grs_base.specs.declared.rnl.RnlEntry.{RnlEntry}
 use Rattle.grs_base.specs.declared.rnl.Which.TheVariants as which
 use Rattle.grs_known.specs.Told.{entries_of_line, entry_of_line, is_code_of, tells_control}
@@ -63,7 +63,7 @@ abbrev volume : ℕ → Res
 volume r = kinds.System (system 0) (86 ∷ []) (r ∷ [])
 
 abbrev excluded : ℕ → RnlEntry
-excluded r = record { which = which.Excl; form = Specific; q = 86 ∷ []; r = Some (r ∷ []) }
+excluded r = record { which = which.Excl; rnl_type = Specific; q = 86 ∷ []; r = Some (r ∷ []) }
 
 abbrev crossed : Deck
 crossed =

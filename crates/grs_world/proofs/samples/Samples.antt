@@ -16,7 +16,7 @@ use Rattle.grs_base.specs.declared.line.Scope.{Scope}
 use Rattle.grs_base.specs.declared.line.Scope.TheVariants.{System, Systems}
 use Rattle.grs_base.specs.declared.rnl.Which.{Which}
 use Rattle.grs_base.specs.declared.rnl.Which.TheVariants as which
-use Rattle.grs_base.specs.declared.rnl.Form.TheVariants.{Specific}
+use Rattle.grs_base.specs.declared.rnl.RnlType.TheVariants.{Specific}
 use Rattle.grs_base.specs.declared.rnl.RnlEntry.{RnlEntry}
 use Rattle.grs_base.specs.Rnl.{no_entries}
 use Rattle.grs_medium.specs.Apply.{turn_row, rest_row, row, apply, reply_to}
@@ -173,7 +173,7 @@ reserve r unit = lines.Reserve (86 ∷ []) (r ∷ []) E unit RetNone true
 
 -- an entry of a name list for (V, r)
 abbrev specific : Which → ℕ → RnlEntry
-specific w r = record { which = w; form = Specific; q = 86 ∷ []; r = Some (r ∷ []) }
+specific w r = record { which = w; rnl_type = Specific; q = 86 ∷ []; r = Some (r ∷ []) }
 
 -- a task that reserves three volumes, of which the first is excluded and the second converted
 abbrev volumes : Deck
