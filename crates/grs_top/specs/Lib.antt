@@ -18,5 +18,5 @@ pub mod OwnReports
 pub mod Answers
 pub mod Generated
 pub mod LeftOut
-pub mod Forms
+pub mod Invocations
 pub mod Whole

@@ -7,8 +7,8 @@ use Rattle.grs_base.specs.Limits.{most_tasks}
 use Rattle.deck_form.specs.Words.{written_number}
 use Rattle.grs_base.specs.ShortNames.{is_digit}
 use Rattle.grs_top.specs.StopWords.{stop_of}
-use Rattle.grs_top.specs.declared.words.Form.{Form}
-use Rattle.grs_top.specs.declared.words.Form.TheVariants.{OfText, Generate}
+use Rattle.grs_top.specs.declared.words.Invocation.{Invocation}
+use Rattle.grs_top.specs.declared.words.Invocation.TheVariants.{OfText, Generate}
 use Rattle.grs_top.specs.declared.words.Command.{Command}
 use Rattle.grs_top.specs.declared.words.Command.TheVariants.{Replay, Run, Lists, Analyze, Notices, Latch, Stop, Audit}
 
@@ -36,23 +36,23 @@ size_named (ten ∷ unit ∷ []) =
 size_named (ten ∷ unit ∷ other ∷ more) = None
 
 -- gen, and a number
-abbrev pub form_of_two : List ℕ → List ℕ → Option Form
-form_of_two word number = if bytes_eq word (codes "gen") then option_map Generate (size_named number) else None
+abbrev pub invocation_of_two : List ℕ → List ℕ → Option Invocation
+invocation_of_two word number = if bytes_eq word (codes "gen") then option_map Generate (size_named number) else None
 
 -- stop, the name of a system, and how many events it makes before
-abbrev pub stopping : List ℕ → Option ℕ → Option Form
+abbrev pub stopping : List ℕ → Option ℕ → Option Invocation
 stopping name None = None
 stopping name (Some n) = option_map (λ x. OfText (Stop x)) (stop_of name n)
 
-abbrev pub form_of_three : List ℕ → List ℕ → List ℕ → Option Form
-form_of_three word name events =
+abbrev pub invocation_of_three : List ℕ → List ℕ → List ℕ → Option Invocation
+invocation_of_three word name events =
     if bytes_eq word (codes "stop") then stopping name (written_number events) else None
 
--- The form of the words after the program's name: one word alone that names a command, gen and a number, or stop with
+-- What the words after the program's name ask for: one word alone that names a command, gen and a number, or stop with
 -- the name of a system and a number.
-abbrev pub form_of : List (List ℕ) → Option Form
-form_of [] = None
-form_of (word ∷ []) = option_map OfText (command_named word)
-form_of (word ∷ number ∷ []) = form_of_two word number
-form_of (word ∷ name ∷ events ∷ []) = form_of_three word name events
-form_of (word ∷ name ∷ events ∷ other ∷ more) = None
+abbrev pub invocation_of : List (List ℕ) → Option Invocation
+invocation_of [] = None
+invocation_of (word ∷ []) = option_map OfText (command_named word)
+invocation_of (word ∷ number ∷ []) = invocation_of_two word number
+invocation_of (word ∷ name ∷ events ∷ []) = invocation_of_three word name events
+invocation_of (word ∷ name ∷ events ∷ other ∷ more) = None

@@ -5,8 +5,8 @@ ghost use Rattle.grs_io.specs.Faults.{HasRisen};
 ghost use Rattle.grs_top.specs.Answers.{streams, Answers, ReadsDue, Writes};
 ghost use Rattle.grs_top.specs.Commands.{limit_of, NamesStatus};
 ghost use Rattle.grs_top.specs.Due.{IsDue};
-ghost use Rattle.grs_top.specs.Forms.{AnswersForm};
-ghost use Rattle.grs_top.specs.Words.{form_of};
+ghost use Rattle.grs_top.specs.Invocations.{AnswersInvocation};
+ghost use Rattle.grs_top.specs.Words.{invocation_of};
 
 use super::Status;
 use super::due::{
@@ -15,7 +15,7 @@ use super::due::{
 };
 use super::generate::gen_command;
 use super::stop::Stop;
-use super::words::{Command, Form, form_of};
+use super::words::{Command, Invocation, invocation_of};
 use deck_scan::MOST_TEXT_BYTES;
 use grs_audit::MOST_AUDITED_BYTES;
 use grs_base::NoMemory;
@@ -323,20 +323,20 @@ pub fn grs<R: Threads + Wait + Sync, S: Source, K: Sink, G: Gate + Sync>(
     sink: &mut K,
     gate: &G,
 ) -> Status
-    ensures form { IfSome (form_of (map string_bytes words.now)) (λ form. AnswersForm form
+    ensures invocation { IfSome (invocation_of (map string_bytes words.now)) (λ asked. AnswersInvocation asked
         (streams (S.left source.old) (K.written sink.old) (S.faults source.old) (K.faults sink.old))
         (streams (S.left source.new) (K.written sink.new) (S.faults source.new) (K.faults sink.new))
         result) }
     // Other words are answered Words alone, and nothing happens.
-    ensures words { IfNone (form_of (map string_bytes words.now)) (result ≡ Status.Words) }
-    ensures unread { IfNone (form_of (map string_bytes words.now))
+    ensures words { IfNone (invocation_of (map string_bytes words.now)) (result ≡ Status.Words) }
+    ensures unread { IfNone (invocation_of (map string_bytes words.now))
         ((S.left source.new ≡ S.left source.old) × (S.faults source.new ≡ S.faults source.old)) }
-    ensures unwritten { IfNone (form_of (map string_bytes words.now))
+    ensures unwritten { IfNone (invocation_of (map string_bytes words.now))
         ((K.written sink.new ≡ K.written sink.old) × (K.faults sink.new ≡ K.faults sink.old)) }
 {
-    match form_of(words) {
-        Some(Form::OfText(command)) => of_text(rt, alloc, command, source, sink, gate),
-        Some(Form::Generate(n)) => gen_command(alloc, n, sink),
+    match invocation_of(words) {
+        Some(Invocation::OfText(command)) => of_text(rt, alloc, command, source, sink, gate),
+        Some(Invocation::Generate(n)) => gen_command(alloc, n, sink),
         None => Status::Words,
     }
 }

@@ -25,4 +25,4 @@ pub use generate::gen_command;
 pub use seen::seen_by_replay;
 pub use status::Status;
 pub use stop::Stop;
-pub use words::{Command, Form};
+pub use words::{Command, Invocation};

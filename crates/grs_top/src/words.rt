@@ -1,6 +1,6 @@
 //! The words after the program's name. What a command does is not known here.
 ghost use Rattle.std.specs.Prelude.{◌≡◌, map, string_bytes};
-ghost use Rattle.grs_top.specs.Words.{command_named, size_in, size_named, form_of_two, form_of_three, form_of};
+ghost use Rattle.grs_top.specs.Words.{command_named, size_in, size_named, invocation_of_two, invocation_of_three, invocation_of};
 
 use super::stop::Stop;
 use deck_form::written_number;
@@ -31,7 +31,7 @@ pub enum Command {
 
 /// What the words after the program's name ask for.
 #[derive(Clone, Copy)]
-pub enum Form {
+pub enum Invocation {
     /// A command on a text that is read.
     OfText(Command),
     /// The run of the deck that is made from this number, which is one from 1 to 64.
@@ -86,39 +86,39 @@ fn size_named(word: &[u8]) -> Option<u32>
 }
 
 /// What two words ask for: `gen` and a number.
-fn form_of_two(word: &[u8], number: &[u8]) -> Option<Form>
-    ensures { result ≡ form_of_two word.now number.now }
+fn invocation_of_two(word: &[u8], number: &[u8]) -> Option<Invocation>
+    ensures { result ≡ invocation_of_two word.now number.now }
 {
     if word == b"gen".as_slice() {
-        size_named(number).map(Form::Generate)
+        size_named(number).map(Invocation::Generate)
     } else {
         None
     }
 }
 
 /// What three words ask for: `stop`, a system's name and a number of 1 to 9 digits.
-fn form_of_three(word: &[u8], name: &[u8], events: &[u8]) -> Option<Form>
-    ensures { result ≡ form_of_three word.now name.now events.now }
+fn invocation_of_three(word: &[u8], name: &[u8], events: &[u8]) -> Option<Invocation>
+    ensures { result ≡ invocation_of_three word.now name.now events.now }
 {
     if word != b"stop".as_slice() {
         return None;
     }
     match written_number(events) {
-        Ok(events) => Stop::new(name, events).map(|stop| Form::OfText(Command::Stop(stop))),
+        Ok(events) => Stop::new(name, events).map(|stop| Invocation::OfText(Command::Stop(stop))),
         Err(_) => None,
     }
 }
 
 /// What the words ask for, if they are of one of the forms: a command's name alone, `gen` and a number, or `stop` with the name of a
 /// system and a number.
-pub(crate) fn form_of(words: &[String]) -> Option<Form>
-    ensures { result ≡ form_of (map string_bytes words.now) }
+pub(crate) fn invocation_of(words: &[String]) -> Option<Invocation>
+    ensures { result ≡ invocation_of (map string_bytes words.now) }
 {
     match words {
-        [word] => command_named(word.as_bytes()).map(Form::OfText),
-        [word, number] => form_of_two(word.as_bytes(), number.as_bytes()),
+        [word] => command_named(word.as_bytes()).map(Invocation::OfText),
+        [word, number] => invocation_of_two(word.as_bytes(), number.as_bytes()),
         [word, name, events] => {
-            form_of_three(word.as_bytes(), name.as_bytes(), events.as_bytes())
+            invocation_of_three(word.as_bytes(), name.as_bytes(), events.as_bytes())
         }
         _ => None,
     }

@@ -1,8 +1,8 @@
 use Rattle.std.proofs.Common.{refl}
 use Rattle.grs_top.proofs.command.grs.Goals as goal
 
-pub returns-in-Some-OfText-clause-form : goal.returns-in-Some-OfText-clause-form
-returns-in-Some-OfText-clause-form g c =
+pub returns-in-Some-OfText-clause-invocation : goal.returns-in-Some-OfText-clause-invocation
+returns-in-Some-OfText-clause-invocation g c =
     rw (← c.in-Some-OfText.ensures, c.in-Some-OfText.field-0-is)
     (c.of_text.ensures.answer, c.of_text.ensures.named)
 
@@ -15,8 +15,8 @@ returns-in-Some-OfText-clause-unread g c = rw (← c.in-Some-OfText.ensures) tt
 pub returns-in-Some-OfText-clause-unwritten : goal.returns-in-Some-OfText-clause-unwritten
 returns-in-Some-OfText-clause-unwritten g c = rw (← c.in-Some-OfText.ensures) tt
 
-pub returns-in-None-clause-form : goal.returns-in-None-clause-form
-returns-in-None-clause-form g c = rw (← c.in-None.ensures) tt
+pub returns-in-None-clause-invocation : goal.returns-in-None-clause-invocation
+returns-in-None-clause-invocation g c = rw (← c.in-None.ensures) tt
 
 pub returns-in-None-clause-words : goal.returns-in-None-clause-words
 returns-in-None-clause-words g c = rw (← c.in-None.ensures) refl
