@@ -10,7 +10,7 @@ use Rattle.grs_legal.specs.declared.meaning.Meaning.TheVariants as lines
 use Rattle.grs_node.specs.Node.{NodeState, Step, decide, post, ask, has_most, look_home, look_around, show, take_line}
 use Rattle.grs_node.specs.Node.{end_step, ready_step, phase_step, task_step, read_entry, read_entries, put_in}
 use Rattle.grs_node.specs.Node.{is_of_deck, with_side, with_tasks}
-use Rattle.grs_wire.specs.Wants.{res_wanted}
+use Rattle.grs_wire.specs.Wants.{res_wanted, is_for_all}
 use Rattle.grs_wire.specs.declared.deck.Deck.{Deck}
 use Rattle.grs_wire.specs.declared.medium.RingBody.{RingBody}
 use Rattle.grs_wire.specs.declared.medium.RingBody.TheVariants as bodies
@@ -20,7 +20,7 @@ use Rattle.grs_base.specs.declared.resource.TaskId.{TaskId}
 use Rattle.grs_wire.specs.declared.request.Want.{Want}
 use Rattle.grs_node.specs.Star.{StarPart}
 use Rattle.grs_wire.specs.declared.request.Want.TheVariants.{Enq, Deq, Release}
-use Rattle.ring_mode.specs.Ring.{is_for_all, side_of, process_entry}
+use Rattle.ring_mode.specs.Ring.{side_of, process_entry}
 use Rattle.task_state.specs.declared.state.Phase.{Phase}
 use Rattle.task_state.specs.declared.state.Phase.TheVariants as phases
 use Rattle.task_state.specs.declared.state.Rec.{Rec}

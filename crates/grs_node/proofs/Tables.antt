@@ -18,7 +18,7 @@ use Rattle.grs_node.specs.Log.{stepped}
 use Rattle.grs_node.specs.Node.{NodeState, Step, read_entry, read_entries, put_in, is_of_deck, with_side}
 use Rattle.grs_wire.proofs.RemoveLaws.{apart-remove}
 use Rattle.grs_wire.proofs.WantLaws.{apart-want}
-use Rattle.grs_wire.specs.Wants.{after_want, res_wanted}
+use Rattle.grs_wire.specs.Wants.{after_want, res_wanted, is_for_all}
 use Rattle.grs_wire.specs.declared.deck.Deck.{Deck}
 use Rattle.grs_wire.specs.declared.medium.RingBody.{RingBody}
 use Rattle.grs_wire.specs.declared.medium.RingBody.TheVariants as bodies
@@ -28,7 +28,7 @@ use Rattle.grs_wire.specs.declared.request.Req.{Req}
 use Rattle.grs_wire.specs.declared.request.Want.{Want}
 use Rattle.grs_wire.specs.declared.request.Want.TheVariants.{Enq, Deq, Release, Look}
 use Rattle.mode_migrate.specs.Migrate.{AreApart}
-use Rattle.ring_mode.specs.Ring.{Side, side_of, is_for_all, process, process_entry}
+use Rattle.ring_mode.specs.Ring.{Side, side_of, process, process_entry}
 
 both : (a b : Bool) → a ≡ true → b ≡ true → (a && b) ≡ true
 both true true e f = refl

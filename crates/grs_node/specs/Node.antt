@@ -20,7 +20,7 @@ use Rattle.grs_legal.specs.declared.meaning.Display.{Display}
 use Rattle.grs_legal.specs.declared.meaning.Meaning.{Meaning}
 use Rattle.grs_legal.specs.declared.meaning.Meaning.TheVariants as lines
 use Rattle.grs_wire.specs.Masks.{with_also}
-use Rattle.grs_wire.specs.Wants.{answer_to, after_want, res_wanted, new_owners}
+use Rattle.grs_wire.specs.Wants.{answer_to, after_want, res_wanted, new_owners, is_for_all}
 use Rattle.grs_wire.specs.declared.deck.Choice.{Choice}
 use Rattle.grs_wire.specs.declared.deck.Choice.TheVariants as choices
 use Rattle.grs_wire.specs.declared.deck.Deck.{Deck}
@@ -59,7 +59,7 @@ use Rattle.grs_node.specs.declared.star.Need.{Need}
 use Rattle.grs_node.specs.declared.star.Need.TheVariants.{Asks, Idle}
 use Rattle.grs_node.specs.declared.prepared.Prepared.{Prepared}
 use Rattle.grs_node.specs.declared.prepared.Prepared.TheVariants.{Quiet, Call, Nothing}
-use Rattle.ring_mode.specs.Ring.{Side, side_of, is_for_all, process_entry}
+use Rattle.ring_mode.specs.Ring.{Side, side_of, process_entry}
 use Rattle.star_client.specs.Client.{after_mail}
 use Rattle.system_purge.specs.Purge.{tell_freed}
 use Rattle.task_state.specs.Replies.{replied, tell_code, tell_new, tell_rows}

@@ -1,8 +1,9 @@
 -- What one request is answered by the lists, and the lists after it.
-use Rattle.std.specs.Prelude.{ℕ, zero, suc, not, ◌&&◌, List, [], ◌++◌, take, Option, Some, None}
+use Rattle.std.specs.Prelude.{ℕ, zero, suc, Bool, true, not, ◌&&◌, List, [], ◌++◌, take, Option, Some, None}
 use Rattle.grs_base.specs.Same.{same_task}
 use Rattle.grs_base.specs.Lists.{owns, owners}
-use Rattle.grs_base.specs.State.{pick, State, list_of, enq_code, enq_state, deq_reply, deq_state, release_state}
+use Rattle.grs_base.specs.State.{pick, State, is_systems, list_of, enq_code, enq_state, deq_reply, deq_state}
+use Rattle.grs_base.specs.State.{release_state}
 use Rattle.grs_base.specs.Looks.{look}
 use Rattle.grs_base.specs.declared.look.Filter.{Filter}
 use Rattle.grs_base.specs.declared.look.Place.TheVariants.{Slice}
@@ -41,6 +42,11 @@ res_wanted (Enq r c ret full) = Some r
 res_wanted (Deq r have) = Some r
 res_wanted (Release r) = Some r
 res_wanted (Look first count f) = None
+
+-- whether a request is for the whole complex; looks at slices are
+abbrev pub is_for_all : Option Res → Bool
+is_for_all None = true
+is_for_all (Some r) = is_systems r
 
 -- The tasks other than the asker that own by the list afterwards and didn't by the list before, in the
 -- order of the list.

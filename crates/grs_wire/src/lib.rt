@@ -18,6 +18,6 @@ pub use gather::{Moved, PartRec};
 pub use history::HistEntry;
 pub use log::{NodeLog, StepDone};
 pub use medium::{Act, Call, JEntry, Mail, Reply, RingBody, RingEntry};
-pub use request::{Answer, Fixed, Req, Want};
+pub use request::{Answer, Fixed, Req, Want, is_for_all, res_of};
 pub use seen::{Names, Seen, TaskEnd};
 pub use told::{Said, Told, ToldLine, Verb};

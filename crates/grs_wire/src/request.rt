@@ -1,5 +1,7 @@
 //! Requests and their answers.
 ghost use Rattle.std.specs.Prelude.{◌≡◌, IfOk};
+ghost use Rattle.std.specs.Option.{option_copied};
+ghost use Rattle.grs_wire.specs.Wants as wants;
 
 use grs_base::{Code, Copied, Ctl, Filter, List, NoMemory, Res, Ret, Row, SysId, TaskId, copy_all};
 use std::alloc::Global;
@@ -29,6 +31,23 @@ pub enum Want {
         count: u32,
         filter: Filter,
     },
+}
+
+/// The resource that is spoken of, if one is.
+pub fn res_of(want: &Want) -> Option<&Res>
+    ensures { option_copied result ≡ wants.res_wanted want.now }
+{
+    match want {
+        Want::Enq { res, .. } | Want::Deq { res, .. } | Want::Release { res } => Some(res),
+        Want::Look { .. } => None,
+    }
+}
+
+/// Whether a request for this is for the whole complex. Looks at slices are.
+pub fn is_for_all(res: Option<&Res>) -> bool
+    ensures { result ≡ wants.is_for_all (option_copied res.entry) }
+{
+    matches!(res, None | Some(Res::Systems { .. }))
 }
 
 /// A request: who asks, and what for.

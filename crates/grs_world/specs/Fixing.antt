@@ -12,7 +12,7 @@ use Rattle.grs_node.specs.Star.{StarPart, first_held}
 use Rattle.grs_node.specs.declared.prepared.Prepared.{Prepared}
 use Rattle.grs_node.specs.declared.prepared.Prepared.TheVariants.{Quiet, Call, Nothing}
 use Rattle.grs_wire.specs.Masks.{has}
-use Rattle.grs_wire.specs.Wants.{res_wanted}
+use Rattle.grs_wire.specs.Wants.{res_wanted, is_for_all}
 use Rattle.grs_wire.specs.declared.deck.Choice.{Choice}
 use Rattle.grs_wire.specs.declared.deck.Choice.TheVariants as choices
 use Rattle.grs_wire.specs.declared.deck.Deck.{Deck}
@@ -24,7 +24,6 @@ use Rattle.grs_wire.specs.declared.request.Fixed.TheVariants.{Asked, LocalLook, 
 use Rattle.grs_wire.specs.declared.request.Req.{Req}
 use Rattle.grs_wire.specs.declared.request.Want.{Want}
 use Rattle.grs_wire.specs.declared.request.Want.TheVariants.{Enq, Deq, Release}
-use Rattle.ring_mode.specs.Ring.{is_for_all}
 use Rattle.task_state.specs.View.{state_of}
 use Rattle.task_state.specs.declared.state.Asked.{Asked as AskedOf}
 use Rattle.task_state.specs.declared.state.Phase.{Phase}

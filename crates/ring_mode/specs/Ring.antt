@@ -1,10 +1,9 @@
 -- What a system does with the entries of the authority message, one by one: its table of the Systems resources,
 -- and what its tasks are told.
-use Rattle.std.specs.Prelude.{Bool, true, false, cond, ◌&&◌, Option, Some, None}
-use Rattle.grs_base.specs.State.{State, is_systems}
-use Rattle.grs_base.specs.declared.resource.Res.{Res}
+use Rattle.std.specs.Prelude.{Bool, false, cond, ◌&&◌, Option, Some, None}
+use Rattle.grs_base.specs.State.{State}
 use Rattle.grs_wire.specs.contracts.request.WantPartialEq.TheImpl.{eq-value as same_want}
-use Rattle.grs_wire.specs.Wants.{answer_to, after_want, res_wanted, new_owners}
+use Rattle.grs_wire.specs.Wants.{answer_to, after_want, is_for_all, res_wanted, new_owners}
 use Rattle.grs_wire.specs.declared.request.Answer.{Answer}
 use Rattle.grs_wire.specs.declared.request.Req.{Req}
 use Rattle.grs_wire.specs.declared.request.Want.{Want}
@@ -19,11 +18,6 @@ pub record Side : Type 0 where
 
 abbrev pub side_of : TasksView → State → Side
 side_of tasks shared = record { tasks = tasks; shared = shared }
-
--- whether a request is for the whole complex; looks at slices are
-abbrev pub is_for_all : Option Res → Bool
-is_for_all None = true
-is_for_all (Some r) = is_systems r
 
 -- whether a task's outstanding request is this one
 abbrev pub is_asked : Want → Option Asked → Bool

@@ -6,4 +6,4 @@
 mod ring;
 mod same;
 
-pub use ring::{is_for_all, on_request, res_of};
+pub use ring::on_request;

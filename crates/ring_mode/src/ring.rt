@@ -1,34 +1,15 @@
 //! A request of the authority message, at one system.
 ghost use Rattle.std.specs.Prelude.{◌≡◌, ◌&&◌, length, OnOk};
-ghost use Rattle.std.specs.Option.{option_copied};
-ghost use Rattle.grs_wire.specs.Wants.{res_wanted};
 ghost use Rattle.task_state.specs.View.{is_task, state_of, is_sent};
 ghost use Rattle.ring_mode.specs.Ring as ring;
 ghost use Rattle.ring_mode.specs.Ring.{side_of};
 
 use super::same::is_asked;
-use grs_base::{NoMemory, Queues, Res};
-use grs_wire::{Answer, Req, Want};
+use grs_base::{NoMemory, Queues};
+use grs_wire::{Answer, Req, Want, is_for_all, res_of};
 use queue_table::{Outcome, Table};
 use std::alloc::Global;
 use task_state::{Tasks, tell_answer, tell_new};
-
-/// The resource that is spoken of, if one is.
-pub fn res_of(want: &Want) -> Option<&Res>
-    ensures { option_copied result ≡ res_wanted want.now }
-{
-    match want {
-        Want::Enq { res, .. } | Want::Deq { res, .. } | Want::Release { res } => Some(res),
-        Want::Look { .. } => None,
-    }
-}
-
-/// Whether a request is for the whole complex. Looks at slices are.
-pub fn is_for_all(res: Option<&Res>) -> bool
-    ensures { result ≡ ring.is_for_all (option_copied res.entry) }
-{
-    matches!(res, None | Some(Res::Systems { .. }))
-}
 
 /// Whether a request is that of a task of this system which isn't answered yet.
 fn is_awaited(tasks: &Tasks, req: &Req) -> bool

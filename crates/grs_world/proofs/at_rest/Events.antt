@@ -18,7 +18,7 @@ use Rattle.grs_node.specs.Change.{with_ranks}
 use Rattle.grs_node.specs.Node.{NodeState, all_sent, is_of_deck, read_entries, read_entry}
 use Rattle.grs_node.specs.Removal.{again, has_sent_in, sent_again}
 use Rattle.grs_node.specs.Star.{StarPart}
-use Rattle.grs_wire.specs.Wants.{answer_to, new_owners, res_wanted}
+use Rattle.grs_wire.specs.Wants.{answer_to, new_owners, res_wanted, is_for_all}
 use Rattle.grs_wire.specs.contracts.request.WantPartialEq.TheImpl.{eq-value as same_want}
 use Rattle.grs_wire.specs.declared.deck.Deck.{Deck}
 use Rattle.grs_wire.specs.declared.medium.RingBody.{RingBody}
@@ -32,7 +32,7 @@ use Rattle.grs_wire.specs.declared.request.Want.TheVariants.{Enq, Deq, Release, 
 use Rattle.grs_wire.specs.declared.told.ToldLine.{ToldLine}
 use Rattle.grs_wire.proofs.WantLaws.{by_test}
 use Rattle.lock_structure.specs.RankedRows.{RankedRow}
-use Rattle.ring_mode.specs.Ring.{Side, answer_own, is_asked, is_for_all, process, process_entry, side_of}
+use Rattle.ring_mode.specs.Ring.{Side, answer_own, is_asked, process, process_entry, side_of}
 use Rattle.star_client.specs.Client.{can_get, tell_answer_ranked, unrecorded, with_rank_of}
 use Rattle.task_state.specs.Replies.{tell_answer, tell_answer_any}
 use Rattle.task_state.specs.View.{TasksView, is_sent, is_task, new_task, on_record, state_of, telling, with_outstanding}

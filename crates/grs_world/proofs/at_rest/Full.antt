@@ -38,7 +38,7 @@ use Rattle.grs_node.specs.Node.{is_for_deck, is_of_deck, phase_step, look_around
 use Rattle.grs_node.specs.Node.{read_entries, read_entry, ready_step, switched, take_line, task_step, wait, with_side}
 use Rattle.grs_node.specs.Node.{changed as changed_now, is_item_of, known_from, losing, purged, stale, take_mail}
 use Rattle.grs_node.specs.Node.{took_mail, with_tasks}
-use Rattle.grs_wire.specs.Wants.{answer_to, new_owners, res_wanted}
+use Rattle.grs_wire.specs.Wants.{answer_to, new_owners, res_wanted, is_for_all}
 use Rattle.grs_wire.specs.declared.deck.Deck.{Deck}
 use Rattle.grs_wire.specs.declared.medium.RingBody.{RingBody}
 use Rattle.grs_wire.specs.declared.medium.RingBody.TheVariants.{Request, Remove}
@@ -53,7 +53,7 @@ use Rattle.grs_wire.specs.declared.told.ToldLine.TheVariants as told
 use Rattle.grs_wire.specs.declared.told.Verb.TheVariants as verbs
 use Rattle.lock_structure.specs.RankedRows.{RankedRow}
 use Rattle.mode_migrate.specs.Migrate.{ranked_by}
-use Rattle.ring_mode.specs.Ring.{answer_own, is_for_all, process, process_entry, side_of}
+use Rattle.ring_mode.specs.Ring.{answer_own, process, process_entry, side_of}
 use Rattle.star_client.specs.Client.{after_mail, has_effect, tell_answer_any_ranked, tell_answer_ranked, unrecorded}
 use Rattle.star_client.specs.Client.{with_rank_of}
 use Rattle.task_state.specs.Replies.{after_code, answered, goes_on_looking, looked, is_granted, is_held_for, is_leaving}

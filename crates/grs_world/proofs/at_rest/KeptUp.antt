@@ -24,7 +24,7 @@ use Rattle.grs_node.specs.Names.{names_of}
 use Rattle.grs_node.specs.Removal.{members, standing, without_those}
 use Rattle.grs_node.specs.Star.{StarPart, StarStep, begun, decide_own, fixing_none, lists_for, owners_by, rank_of}
 use Rattle.grs_node.specs.Star.{request_of}
-use Rattle.grs_wire.specs.Wants.{answer_to, res_wanted}
+use Rattle.grs_wire.specs.Wants.{answer_to, res_wanted, is_for_all}
 use Rattle.grs_wire.specs.Masks.{with_also}
 use Rattle.grs_wire.specs.declared.deck.Choice.{Choice}
 use Rattle.grs_wire.specs.declared.deck.Choice.TheVariants as choices
@@ -41,7 +41,6 @@ use Rattle.grs_wire.specs.declared.told.Said.{Said}
 use Rattle.grs_wire.specs.declared.told.Said.TheVariants as saids
 use Rattle.grs_wire.proofs.WantLaws.{by_test}
 use Rattle.mode_migrate.specs.Migrate.{ranked_by}
-use Rattle.ring_mode.specs.Ring.{is_for_all}
 use Rattle.star_client.specs.Client.{after_mail, tell_answer_ranked}
 use Rattle.task_state.specs.View.{TasksView, is_task, state_of, with_line, with_phase}
 use Rattle.task_state.specs.declared.state.Asked.{Asked}

@@ -12,12 +12,12 @@ use Rattle.grs_node.specs.Node.{NodeState, is_of_deck, read_entries, read_entry,
 use Rattle.grs_wire.proofs.MaskLaws.{has-with_other, has-without_other, has-zero}
 use Rattle.grs_wire.specs.Masks.{has, only}
 use Rattle.grs_wire.specs.Unseen.{is_unseen, unseen}
-use Rattle.grs_wire.specs.Wants.{after_want, res_wanted}
+use Rattle.grs_wire.specs.Wants.{after_want, res_wanted, is_for_all}
 use Rattle.grs_wire.specs.declared.deck.Deck.{Deck}
 use Rattle.grs_wire.specs.declared.medium.RingBody.{RingBody}
 use Rattle.grs_wire.specs.declared.medium.RingBody.TheVariants.{Request, Remove}
 use Rattle.grs_wire.specs.declared.medium.RingEntry.{RingEntry}
-use Rattle.ring_mode.specs.Ring.{is_for_all, process, process_entry, side_of}
+use Rattle.ring_mode.specs.Ring.{process, process_entry, side_of}
 use Rattle.task_state.specs.View.{is_task}
 use Rattle.rsa_message.specs.Message.{cleared, left_by}
 use Rattle.grs_known.proofs.lists.Truths.{no_truth}

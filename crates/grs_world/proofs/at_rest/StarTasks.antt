@@ -23,7 +23,7 @@ use Rattle.grs_legal.specs.declared.meaning.Meaning.TheVariants as lines
 use Rattle.grs_node.specs.Node.{NodeState, Step, ask, decide, end_step, has_most, is_of_deck, may_go, look_around}
 use Rattle.grs_node.specs.Node.{look_home, looks_asked, phase_step, post, posted, ready_step, show, take_line}
 use Rattle.grs_node.specs.Node.{task_step, wait, with_tasks}
-use Rattle.grs_wire.specs.Wants.{after_want, answer_to, new_owners, res_wanted}
+use Rattle.grs_wire.specs.Wants.{after_want, answer_to, new_owners, res_wanted, is_for_all}
 use Rattle.grs_wire.specs.declared.deck.Deck.{Deck}
 use Rattle.grs_wire.specs.declared.medium.Mail.TheVariants.{Answered as AnsweredMail}
 use Rattle.grs_wire.specs.declared.request.Answer.{Answer}
@@ -34,7 +34,6 @@ use Rattle.grs_wire.specs.declared.told.ToldLine.{ToldLine}
 use Rattle.grs_wire.specs.declared.told.ToldLine.TheVariants as told
 use Rattle.grs_wire.specs.declared.told.Verb.TheVariants as verbs
 use Rattle.grs_wire.proofs.WantLaws.{by_test}
-use Rattle.ring_mode.specs.Ring.{is_for_all}
 use Rattle.star_client.specs.Client.{after_mail, has_effect, has_sent, is_awaited, tell_answer_any_ranked}
 use Rattle.star_client.specs.Client.{tell_answer_ranked, unrecorded, with_rank_of}
 use Rattle.task_state.specs.Replies.{replied, tell_all, tell_answer, tell_code, tell_control, tell_new, tell_rows}

@@ -23,7 +23,7 @@ use Rattle.grs_node.specs.Node.{NodeState, Step, ask, decide, end_step, look_aro
 use Rattle.grs_node.specs.Node.{post, ready_step, show, take_line}
 use Rattle.grs_node.specs.Star.{StarPart}
 use Rattle.grs_node.specs.Node.{task_step, wait, with_tasks, goes_on, has_most, is_of_deck, may_go}
-use Rattle.grs_wire.specs.Wants.{answer_to, new_owners, res_wanted}
+use Rattle.grs_wire.specs.Wants.{answer_to, new_owners, res_wanted, is_for_all}
 use Rattle.grs_wire.specs.declared.deck.Deck.{Deck}
 use Rattle.grs_wire.specs.declared.request.Want.{Want}
 use Rattle.grs_wire.specs.declared.request.Want.TheVariants.{Enq, Deq, Release, Look}
@@ -31,7 +31,6 @@ use Rattle.grs_wire.specs.declared.told.ToldLine.{ToldLine}
 use Rattle.grs_wire.specs.declared.told.ToldLine.TheVariants as told
 use Rattle.grs_wire.specs.declared.told.Verb.TheVariants as verbs
 use Rattle.grs_wire.proofs.WantLaws.{by_test}
-use Rattle.ring_mode.specs.Ring.{is_for_all}
 use Rattle.task_state.specs.Replies.{replied, tell_all, tell_code, tell_control, tell_new, tell_rows, tell_untold}
 use Rattle.task_state.specs.View.{TasksView, is_task, record_of, record_place, state_of, telling, with_line}
 use Rattle.task_state.specs.View.{with_outstanding, with_phase, with_rows}

@@ -23,7 +23,7 @@ use Rattle.grs_node.specs.Node.{NodeState, Step, ask, decide, end_step, has_most
 use Rattle.grs_node.specs.Node.{look_around, look_home, looks_asked, phase_step, post, posted, ready_step, show}
 use Rattle.grs_node.specs.Node.{take_line, task_step, wait, with_tasks}
 use Rattle.grs_node.specs.Star.{StarPart}
-use Rattle.grs_wire.specs.Wants.{after_want, answer_to, new_owners, res_wanted}
+use Rattle.grs_wire.specs.Wants.{after_want, answer_to, new_owners, res_wanted, is_for_all}
 use Rattle.grs_wire.specs.declared.deck.Deck.{Deck}
 use Rattle.grs_wire.specs.declared.request.Req.{Req}
 use Rattle.grs_wire.specs.declared.request.Want.{Want}
@@ -32,7 +32,6 @@ use Rattle.grs_wire.specs.declared.told.ToldLine.{ToldLine}
 use Rattle.grs_wire.specs.declared.told.ToldLine.TheVariants as told
 use Rattle.grs_wire.specs.declared.told.Verb.TheVariants as verbs
 use Rattle.grs_wire.proofs.WantLaws.{by_test}
-use Rattle.ring_mode.specs.Ring.{is_for_all}
 use Rattle.task_state.specs.Replies.{replied, tell_code, tell_new, tell_rows}
 use Rattle.task_state.specs.View.{TasksView, is_sent, record_of, state_of, telling, with_line, with_outstanding}
 use Rattle.task_state.specs.View.{with_phase, with_rows}

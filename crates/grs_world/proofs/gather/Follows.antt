@@ -29,7 +29,7 @@ use Rattle.grs_wire.proofs.WantLaws.{by_test}
 use Rattle.grs_wire.specs.History.{after_fixed, answered_from, entries_for, fixed_entries, is_by, look_entries, removes}
 use Rattle.grs_wire.specs.Masks.{has, with_also}
 use Rattle.grs_wire.specs.Unseen.{unseen}
-use Rattle.grs_wire.specs.Wants.{res_wanted}
+use Rattle.grs_wire.specs.Wants.{res_wanted, is_for_all}
 use Rattle.grs_wire.specs.declared.deck.Choice.{Choice}
 use Rattle.grs_wire.specs.declared.deck.Choice.TheVariants as choices
 use Rattle.grs_wire.specs.declared.deck.Deck.{Deck}
@@ -46,7 +46,6 @@ use Rattle.grs_wire.specs.declared.request.Fixed.TheVariants.{Asked, LocalLook, 
 use Rattle.grs_wire.specs.declared.request.Req.{Req}
 use Rattle.grs_wire.specs.declared.request.Want.{Want}
 use Rattle.grs_wire.specs.declared.request.Want.TheVariants as wants
-use Rattle.ring_mode.specs.Ring.{is_for_all}
 use Rattle.task_state.specs.View.{is_task, state_of}
 use Rattle.task_state.specs.declared.state.Phase.{Phase}
 use Rattle.task_state.specs.declared.state.Phase.TheVariants as phases

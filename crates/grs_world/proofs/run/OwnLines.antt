@@ -34,7 +34,7 @@ use Rattle.grs_node.specs.Star.{StarPart, answer_for, begun, decide_own, fixing_
 use Rattle.grs_wire.proofs.WantLaws.{by_test}
 use Rattle.grs_wire.specs.Masks.{with_also}
 use Rattle.grs_wire.specs.Unseen.{unseen}
-use Rattle.grs_wire.specs.Wants.{answer_to, new_owners, res_wanted}
+use Rattle.grs_wire.specs.Wants.{answer_to, new_owners, res_wanted, is_for_all}
 use Rattle.grs_wire.specs.declared.deck.Choice.{Choice}
 use Rattle.grs_wire.specs.declared.deck.Deck.{Deck}
 use Rattle.grs_wire.specs.declared.medium.Mail.{Mail}
@@ -56,7 +56,7 @@ use Rattle.grs_wire.specs.declared.told.Verb.{Verb}
 use Rattle.grs_wire.specs.declared.told.Verb.TheVariants as verbs
 use Rattle.lock_structure.specs.RankedRows.{RankedRow}
 use Rattle.mode_migrate.specs.Migrate.{ranked_by}
-use Rattle.ring_mode.specs.Ring.{answer_own, is_asked, is_for_all, process, process_entry, side_of}
+use Rattle.ring_mode.specs.Ring.{answer_own, is_asked, process, process_entry, side_of}
 use Rattle.star_client.specs.Client.{after_mail, has_effect, tell_answer_any_ranked, tell_answer_ranked, unrecorded}
 use Rattle.star_client.specs.Client.{with_rank_of}
 use Rattle.system_purge.specs.Purge.{tell_freed}

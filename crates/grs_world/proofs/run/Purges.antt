@@ -14,7 +14,7 @@ use Rattle.grs_medium.specs.Medium.{MediumState}
 use Rattle.grs_node.specs.Node.{NodeState, has_most, next_order, purged, put_in, read_entries}
 use Rattle.grs_node.specs.Star.{StarPart, decide_own, request_of}
 use Rattle.grs_wire.specs.Unseen.{unseen}
-use Rattle.grs_wire.specs.Wants.{res_wanted}
+use Rattle.grs_wire.specs.Wants.{res_wanted, is_for_all}
 use Rattle.grs_wire.specs.declared.deck.Choice.{Choice}
 use Rattle.grs_wire.specs.declared.deck.Choice.TheVariants as choices
 use Rattle.grs_wire.specs.declared.deck.Deck.{Deck}
@@ -24,7 +24,6 @@ use Rattle.grs_wire.specs.declared.request.Fixed.TheVariants.{Asked, LocalLook}
 use Rattle.grs_wire.specs.declared.request.Req.{Req}
 use Rattle.grs_wire.specs.declared.request.Want.{Want}
 use Rattle.grs_wire.specs.declared.request.Want.TheVariants as wants
-use Rattle.ring_mode.specs.Ring.{is_for_all}
 use Rattle.task_state.specs.View.{state_of}
 use Rattle.task_state.specs.declared.state.Phase.{Phase}
 use Rattle.task_state.specs.declared.state.Phase.TheVariants as phases

@@ -11,11 +11,11 @@ use Rattle.grs_wire.specs.declared.medium.RingBody.TheVariants.{Request}
 use Rattle.grs_wire.specs.declared.medium.RingEntry.{RingEntry}
 use Rattle.grs_wire.specs.declared.request.Fixed.{Fixed}
 use Rattle.grs_wire.specs.declared.request.Fixed.TheVariants.{Asked, LocalLook, Purged}
-use Rattle.grs_wire.specs.Wants.{res_wanted}
+use Rattle.grs_wire.specs.Wants.{res_wanted, is_for_all}
 use Rattle.grs_wire.specs.declared.request.Req.{Req}
 use Rattle.grs_wire.specs.declared.request.Want.{Want}
 use Rattle.grs_wire.specs.declared.request.Want.TheVariants.{Enq, Deq, Release, Look}
-use Rattle.ring_mode.specs.Ring.{Side, is_for_all, process, process_entry}
+use Rattle.ring_mode.specs.Ring.{Side, process, process_entry}
 use Rattle.grs_known.specs.Items.{RunItem, wants_round, goes_round, rounds, history}
 use Rattle.grs_known.proofs.known.Histories.{IsAsk, AsksOrRemoves, an_ask, a_look, a_removal, AllAsk, IsHistory}
 use Rattle.grs_known.proofs.known.Histories.{asks-behind}

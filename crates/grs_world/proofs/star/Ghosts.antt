@@ -19,7 +19,7 @@ use Rattle.grs_legal.specs.declared.meaning.Meaning.{Meaning}
 use Rattle.grs_legal.specs.declared.meaning.Meaning.TheVariants as lines
 use Rattle.grs_node.specs.Node.{NodeState, Step, with_tasks, post, decide, ask, take_line, end_step, ready_step, posted}
 use Rattle.grs_node.specs.Node.{phase_step, task_step, has_most, may_go, look_home, look_around, show, looks_asked}
-use Rattle.grs_wire.specs.Wants.{res_wanted}
+use Rattle.grs_wire.specs.Wants.{res_wanted, is_for_all}
 use Rattle.grs_wire.specs.declared.deck.Deck.{Deck}
 use Rattle.grs_wire.specs.declared.history.HistEntry.{HistEntry}
 use Rattle.grs_wire.specs.declared.request.Fixed.{Fixed}
@@ -28,7 +28,6 @@ use Rattle.grs_wire.specs.declared.request.Want.{Want}
 use Rattle.grs_wire.specs.declared.request.Want.TheVariants.{Enq, Deq, Release}
 use Rattle.grs_wire.specs.declared.told.ToldLine.{ToldLine}
 use Rattle.grs_wire.specs.declared.told.ToldLine.TheVariants as told
-use Rattle.ring_mode.specs.Ring.{is_for_all}
 use Rattle.task_state.specs.View.{TasksView, state_of, with_line, with_phase, with_rows}
 use Rattle.task_state.specs.declared.state.Asked.{Asked}
 use Rattle.task_state.specs.declared.state.Phase.{Phase}

@@ -16,14 +16,13 @@ use Rattle.grs_legal.specs.declared.meaning.Meaning.TheVariants as lines
 use Rattle.grs_node.specs.Node.{NodeState, Step, with_tasks, only, post, decide, ask, take_line, end_step, ready_step}
 use Rattle.grs_node.specs.Node.{phase_step, task_step, has_most, wait, look_home, look_around, looks_asked, show}
 use Rattle.grs_node.specs.Star.{StarPart}
-use Rattle.grs_wire.specs.Wants.{res_wanted}
+use Rattle.grs_wire.specs.Wants.{res_wanted, is_for_all}
 use Rattle.grs_wire.specs.declared.request.Fixed.{Fixed}
 use Rattle.grs_wire.specs.declared.request.Fixed.TheVariants as fixing
 use Rattle.grs_wire.specs.declared.request.Req.{Req}
 use Rattle.grs_wire.specs.declared.request.Want.{Want}
 use Rattle.grs_wire.specs.declared.request.Want.TheVariants.{Enq, Deq, Release, Look}
 use Rattle.grs_wire.proofs.WantLaws.{by_test}
-use Rattle.ring_mode.specs.Ring.{is_for_all}
 use Rattle.task_state.specs.View.{state_of, record_of, with_line, with_phase, with_rows}
 use Rattle.task_state.specs.declared.state.Phase.{Phase}
 use Rattle.task_state.specs.declared.state.Phase.TheVariants as phases

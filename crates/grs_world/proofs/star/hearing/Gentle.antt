@@ -26,7 +26,7 @@ use Rattle.grs_legal.specs.declared.meaning.Meaning.{Meaning}
 use Rattle.grs_legal.specs.declared.meaning.Meaning.TheVariants as lines
 use Rattle.grs_node.specs.Node.{NodeState, Step, ask, decide, end_step, phase_step, post, ready_step, take_line}
 use Rattle.grs_node.specs.Node.{task_step, wait, with_tasks, posted, looks_asked, look_home, look_around, show}
-use Rattle.grs_wire.specs.Wants.{new_owners, res_wanted}
+use Rattle.grs_wire.specs.Wants.{new_owners, res_wanted, is_for_all}
 use Rattle.grs_wire.specs.declared.request.Answer.{Answer}
 use Rattle.grs_wire.specs.declared.request.Answer.TheVariants.{Coded as CodedAnswer, Rows}
 use Rattle.grs_wire.specs.declared.request.Want.{Want}
@@ -35,7 +35,6 @@ use Rattle.grs_wire.specs.declared.told.ToldLine.{ToldLine}
 use Rattle.grs_wire.specs.declared.told.Verb.TheVariants as verbs
 use Rattle.grs_wire.specs.declared.told.ToldLine.TheVariants as told
 use Rattle.grs_wire.proofs.WantLaws.{by_test}
-use Rattle.ring_mode.specs.Ring.{is_for_all}
 use Rattle.star_client.specs.Client.{tell_answer_ranked, unrecorded, with_rank_of}
 use Rattle.task_state.specs.Replies.{after_code, is_changed, is_granted, is_queued, phase_after, phase_asking, recalled}
 use Rattle.task_state.specs.Replies.{replied, tell_all, tell_answer, tell_code, tell_control, tell_new, tell_untold}
