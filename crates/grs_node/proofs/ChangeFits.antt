@@ -17,7 +17,8 @@ use Rattle.grs_base.specs.declared.resource.Elem.{Elem}
 use Rattle.grs_base.specs.declared.resource.Res.{Res}
 use Rattle.grs_base.specs.declared.resource.SysId.{SysId}
 use Rattle.grs_base.specs.declared.resource.TaskId.{TaskId}
-use Rattle.grs_node.proofs.RemovalFits.{none-gathering, none-orderly}
+use Rattle.grs_node.proofs.RemovalFits.{none-gathering}
+use Rattle.grs_node.proofs.Orderly.{none-orderly}
 use Rattle.grs_node.specs.Addressed.{is_within, is_addressed, PartFits}
 use Rattle.grs_node.specs.Change.{entry_by_table, part_by_table, with_rank_by, with_list_ranks, with_ranks}
 use Rattle.grs_node.specs.Change.{with_first_look, one_by_one}

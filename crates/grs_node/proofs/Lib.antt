@@ -9,6 +9,7 @@ pub mod Keeping
 pub mod Tables
 pub mod SentAgain
 pub mod RemovalStays
+pub mod Orderly
 pub mod RemovalFits
 pub mod RemovalSteps
 pub mod ChangeFits
@@ -16,6 +17,10 @@ pub mod Owed
 pub mod Loading
 pub mod Settled
 pub mod Decided
+pub mod AskFits
+pub mod StartFits
+pub mod StepFits
+pub mod ReplyFits
 pub mod Fits
 pub mod InRing
 pub mod Samples

@@ -8,7 +8,7 @@ use Rattle.std.specs.Option.{option_map_or}
 use Rattle.std.specs.Prelude.{IfSome, nat_lt, ◌&&◌}
 use Rattle.grs_base.specs.Limits.{most_systems}
 use Rattle.grs_base.specs.declared.resource.SysId.{SysId}
-use Rattle.grs_node.proofs.RemovalFits.{all-at}
+use Rattle.grs_node.proofs.Orderly.{all-at}
 use Rattle.grs_node.specs.Addressed.{AnyPartFits, is_owed_within}
 use Rattle.grs_node.specs.Star.{StarPart, is_owed_named}
 use Rattle.grs_wire.specs.declared.deck.Deck.{Deck}

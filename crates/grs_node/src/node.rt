@@ -110,7 +110,7 @@ impl<'d> Node<'d> {
 
     /// What a choice comes to. It changes nothing. A call goes to systems of the deck and to lock entries that there are, and
     /// removes another system alone.
-    #[tactic(auto, using(crate::proofs::Fits::prepares))]
+    #[tactic(auto, using(crate::proofs::AskFits::prepares))]
     pub fn prepare(&mut self, choice: &Choice) -> Result<Prepared, NoMemory>
         ensures prepared { IfOk result (λ prepared. prepared ≡ steps.prepare self.old.deck self.old.node choice.now) }
         ensures addressed { IfOk result (λ prepared. is_addressed self.old.deck self.old.node.tasks.system prepared ≡ true) }

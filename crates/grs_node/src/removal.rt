@@ -229,7 +229,7 @@ impl StarPart {
     }
 
     /// The same of each entry of a notice.
-    #[tactic(auto, using(crate::proofs::RemovalFits::named), unfolding(crate::specs::Removal::move_each))]
+    #[tactic(auto, using(crate::proofs::Orderly::named), unfolding(crate::specs::Removal::move_each))]
     fn move_each(&mut self, tasks: &mut Tasks, known: u32, items: &[Moved]) -> Result<(), NoMemory>
         requires { list_all removal.names_system items.now ≡ true }
         ensures step { OnOk result (standing tasks.new self.new ≡ removal.move_each known (standing tasks.old self.old) items.now) }

@@ -1,6 +1,7 @@
--- What has something to do is of the deck: its task stands in its system, its lock entry is one that there is, and who is
--- to be removed is another system.
-use Rattle.std.proofs.Common.{◌≡◌, ◌≢◌, ◌<◌, ◌+◌, ◌⊎◌, ℕ, zero, suc, Bool, true, false, cond, List, [], ◌∷◌, ◌++◌, length}
+-- What has something to do is of the deck: its task stands in its system, its lock entry is one that there is, and who
+-- is to be removed is another system.
+use Rattle.std.proofs.Common.{◌≡◌, ◌≢◌, ◌<◌, ◌+◌, ◌⊎◌, ℕ, zero, suc, Bool, true, false, cond, List, [], ◌∷◌, ◌++◌}
+use Rattle.std.proofs.Common.{length}
 use Rattle.std.proofs.Common.{take, Option, Some, None, refl, ap, sym, ◌∙◌, subst, arith, inl, inr}
 use Rattle.std.specs.Prelude.{◌==◌, ◌&&◌, is_some, nat_lt, slice_get, slice_index_or, unwrap_or}
 use Rattle.std.specs.Option.{option_map}
@@ -15,7 +16,7 @@ use Rattle.grs_base.specs.declared.rnl.Lists.{Lists}
 use Rattle.grs_known.proofs.lists.Facts.{take-none}
 use Rattle.grs_legal.specs.Asks.{Script, lines_at, meanings, scripts_at, scripts_from, scripts_in}
 use Rattle.grs_node.proofs.Calls.{target-of}
-use Rattle.grs_node.proofs.Fits.{orders-at}
+use Rattle.grs_node.proofs.StartFits.{orders-at}
 use Rattle.grs_node.specs.Node.{NodeState, goes_on, is_of_deck, is_to_send, may_go, may_send, next_order, prepare}
 use Rattle.grs_node.specs.Node.{prepared_by, purge_call, star_call}
 use Rattle.grs_node.specs.Names.{names_of}
@@ -204,7 +205,8 @@ module _ (deck : Deck) (whole : IsDeck deck) (n : NodeState) (id : SysId) (s : S
     send_there t (Some p) h = go (may_send deck n t) refl h
       where
         go : (b : Bool) → may_send deck n t ≡ b
-            → prepared_by n.known (cond b (send_of p t (state_of n.tasks t).outstanding) Idle) ≢ Nothing → IsTaskOf s id t
+            → prepared_by n.known (cond b (send_of p t (state_of n.tasks t).outstanding) Idle) ≢ Nothing
+            → IsTaskOf s id t
         go true e k = sends_there t e
         go false e k = absurd (k refl)
 

@@ -23,7 +23,7 @@ use Rattle.grs_base.specs.declared.resource.Res.{Res}
 use Rattle.grs_base.specs.declared.resource.SysId.{SysId}
 use Rattle.grs_base.specs.declared.resource.TaskId.{TaskId}
 use Rattle.grs_node.specs.Star.{managing, not_managing}
-use Rattle.grs_node.proofs.RemovalFits.{all-at, all-items, all-set}
+use Rattle.grs_node.proofs.Orderly.{all-at, all-items, all-set}
 use Rattle.grs_wire.proofs.WantLaws.{by_test}
 use Rattle.grs_wire.specs.Wants.{new_owners}
 use Rattle.grs_wire.specs.declared.gather.PartRec.{PartRec}

@@ -11,7 +11,7 @@ use Rattle.grs_base.specs.Limits.{last_number, most_systems}
 use Rattle.grs_base.specs.declared.resource.SysId.{SysId}
 use Rattle.grs_base.specs.declared.resource.TaskId.{TaskId}
 use Rattle.grs_node.specs.Removal.{awaited, without_those}
-use Rattle.grs_node.proofs.RemovalFits.{all-at, all-items, all-set}
+use Rattle.grs_node.proofs.Orderly.{all-at, all-items, all-set}
 use Rattle.grs_wire.proofs.MaskLaws.{has-without_all, has-without_other, has-without_same}
 use Rattle.grs_wire.proofs.WantLaws.{by_test}
 use Rattle.grs_wire.specs.Masks.{has, without}

@@ -22,7 +22,7 @@ use Rattle.grs_known.proofs.known.ItemLaws.{items_are_history}
 use Rattle.grs_known.proofs.lists.Truths.{no_truth}
 use Rattle.grs_medium.specs.Medium.{awake, inbox, live}
 use Rattle.grs_node.proofs.ChangeFits.{star-changed}
-use Rattle.grs_node.proofs.Fits.{deck-task}
+use Rattle.grs_node.proofs.StepFits.{deck-task}
 use Rattle.grs_node.proofs.InRing.{switched-ring}
 use Rattle.grs_node.specs.Change.{part_by_table}
 use Rattle.grs_node.specs.Node.{NodeState, change_to_star, desk_told, next_order, only, own_words, switched, words_by}

@@ -10,7 +10,7 @@ use Rattle.grs_legal.specs.declared.meaning.Display.{Display}
 use Rattle.grs_legal.specs.declared.meaning.Meaning.{Meaning}
 use Rattle.grs_legal.specs.declared.meaning.Meaning.TheVariants as lines
 use Rattle.grs_medium.specs.Medium.{MediumState}
-use Rattle.grs_node.proofs.Fits.{by-reply}
+use Rattle.grs_node.proofs.ReplyFits.{by-reply}
 use Rattle.grs_node.specs.Node.{NodeState, Step, ask, decide, end_step, is_for_deck, is_of_deck, look_home, may_go}
 use Rattle.grs_node.specs.Node.{phase_step, post, prepare, purged, put_in, read_entries, read_entry, ready_step, show}
 use Rattle.grs_node.specs.Node.{take_line, take_mail, task_step, took_mail, with_tasks}

@@ -15,7 +15,7 @@ use Rattle.grs_legal.specs.Legal.{MayRemove, commands_removal, is_removal_of}
 use Rattle.grs_medium.specs.Apply.{is_live, without_system}
 use Rattle.grs_medium.specs.Medium.{MediumState, live, systems_of}
 use Rattle.grs_node.proofs.Calls.{target-of}
-use Rattle.grs_node.proofs.Fits.{orders-at}
+use Rattle.grs_node.proofs.StartFits.{orders-at}
 use Rattle.grs_node.specs.Node.{NodeState, desk_of, desk_told, next_order, only}
 use Rattle.grs_wire.specs.History.{removes}
 use Rattle.grs_wire.specs.Masks.{has, with_also, lives}

@@ -2,7 +2,7 @@ use Rattle.std.proofs.Common.{◌≡◌, true, ap, sym, ◌∙◌, subst}
 use Rattle.grs_legal.specs.Asks.{scripts_of}
 use Rattle.grs_node.proofs.Fits.{call-fits-after, entries-there, target-fits}
 use Rattle.grs_node.specs.Finish.{may_come}
-use Rattle.grs_node.proofs.RemovalFits.{fits-orderly}
+use Rattle.grs_node.proofs.Orderly.{fits-orderly}
 use Rattle.grs_node.specs.Log.{NodeView}
 use Rattle.grs_node.specs.Names.{names_of}
 use Rattle.grs_node.specs.Node.{prepare}

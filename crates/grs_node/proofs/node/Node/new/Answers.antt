@@ -1,6 +1,6 @@
 use Rattle.std.proofs.Common.{ap, sym, ◌∙◌}
 use Rattle.grs_legal.specs.Asks.{scripts_of}
-use Rattle.grs_node.proofs.Fits.{started-fits}
+use Rattle.grs_node.proofs.StartFits.{started-fits}
 use Rattle.grs_node.specs.Names.{names_from, names_of}
 use Rattle.grs_node.specs.Node.{NodeState}
 use Rattle.grs_node.proofs.node.Node.new.Goals as goal

@@ -1,7 +1,8 @@
 use Rattle.std.proofs.Common.{◌≡◌, true, ap, ◌∙◌, subst, Result, Ok, Err, IfOk}
-use Rattle.grs_node.proofs.Fits.{entries-there, prepare-addressed}
+use Rattle.grs_node.proofs.Fits.{entries-there}
+use Rattle.grs_node.proofs.AskFits.{prepare-addressed}
 use Rattle.grs_node.proofs.Owed.{fits-owed}
-use Rattle.grs_node.proofs.RemovalFits.{fits-orderly}
+use Rattle.grs_node.proofs.Orderly.{fits-orderly}
 use Rattle.grs_node.specs.Addressed.{is_addressed, NodeFits}
 use Rattle.grs_node.specs.Log.{NodeView}
 use Rattle.grs_node.specs.Node.{NodeState, prepare}

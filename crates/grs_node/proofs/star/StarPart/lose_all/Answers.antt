@@ -1,6 +1,6 @@
 use Rattle.std.proofs.Common.{sym, ap, subst}
 use Rattle.grs_node.specs.Removal.{Standing, standing, IsOrderly, members}
-use Rattle.grs_node.proofs.RemovalFits.{lost-each-orderly}
+use Rattle.grs_node.proofs.Orderly.{lost-each-orderly}
 use Rattle.grs_node.proofs.star.StarPart.lose_all.Goals as goal
 
 pub take_up_all-requires : goal.take_up_all-requires

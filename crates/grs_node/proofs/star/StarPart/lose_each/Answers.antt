@@ -1,6 +1,6 @@
 use Rattle.std.proofs.Common.{arith, rules, sym, ap, ◌∙◌, length}
 use Rattle.std.proofs.lemmas.Grind.{common_steps}
-use Rattle.grs_node.proofs.RemovalFits.{lost-more, lost-none}
+use Rattle.grs_node.proofs.Orderly.{lost-more, lost-none}
 use Rattle.grs_node.specs.Removal.{standing}
 use Rattle.task_state.specs.View.{TasksView}
 use Rattle.grs_node.proofs.star.StarPart.lose_each.Goals.{then-has_system+in_ok-lose, else-has_system}

@@ -1,7 +1,7 @@
 use Rattle.std.proofs.Common.{◌≡◌, length, ap, sym, arith, ◌∙◌, subst}
 use Rattle.grs_node.specs.Removal.{Standing, standing, IsOrderly}
 use Rattle.grs_node.specs.Star.{StarPart}
-use Rattle.grs_node.proofs.RemovalFits.{taken-orderly, taken-entries, taken-next}
+use Rattle.grs_node.proofs.Orderly.{taken-orderly, taken-entries, taken-next}
 use Rattle.grs_node.proofs.star.StarPart.take_up_all.Goals as goal
 
 pub loop-entry-preserved : goal.loop-entry-preserved

@@ -1,7 +1,7 @@
 use Rattle.std.proofs.Common.{ap, ◌∙◌}
 use Rattle.system_purge.specs.Gathers.{is_complete}
 use Rattle.grs_node.specs.Star.{StarPart}
-use Rattle.grs_node.proofs.RemovalFits.{free-complete}
+use Rattle.grs_node.proofs.Orderly.{free-complete}
 use Rattle.grs_node.proofs.star.StarPart.take_up_if.Goals as goal
 
 pub take_up-requires-clause-count : goal.take_up-requires-clause-count

@@ -1,6 +1,6 @@
 use Rattle.std.proofs.Common.{sym, ap, subst}
 use Rattle.grs_node.specs.Removal.{Standing, standing, IsOrderly}
-use Rattle.grs_node.proofs.RemovalFits.{moved-orderly}
+use Rattle.grs_node.proofs.Orderly.{moved-orderly}
 use Rattle.grs_node.proofs.star.StarPart.took_notice.Goals as goal
 
 pub take_up_all-requires : goal.take_up_all-requires

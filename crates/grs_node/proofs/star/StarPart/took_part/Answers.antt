@@ -1,4 +1,4 @@
-use Rattle.grs_node.proofs.RemovalFits.{part-came}
+use Rattle.grs_node.proofs.Orderly.{part-came}
 use Rattle.grs_node.proofs.star.StarPart.took_part.Goals as goal
 
 pub take_up_all-requires : goal.take_up_all-requires
