@@ -5,3 +5,4 @@ pub mod ring
 pub mod system
 pub mod told
 pub mod Samples
+pub mod records

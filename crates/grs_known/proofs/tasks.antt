@@ -9,3 +9,5 @@ pub mod Asked
 pub mod Decided
 pub mod Steps
 pub mod Looks
+pub mod UpToDate
+pub mod Answered

@@ -5,3 +5,4 @@ pub mod Laws
 pub mod Parts
 pub mod Told
 pub mod Reading
+pub mod Passed

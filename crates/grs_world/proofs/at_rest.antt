@@ -1,12 +1,4 @@
 -- What holds where a run ends at rest: nothing is lost.
-pub mod Marks
-pub mod Places
-pub mod Control
-pub mod ToldAll
-pub mod UpToDate
-pub mod Answers
-pub mod Lists
-pub mod Deciding
 pub mod Steps
 pub mod Freed
 pub mod Events

@@ -1,3 +1,2 @@
 -- The message.
 pub mod LapsMessage
-pub mod Stands

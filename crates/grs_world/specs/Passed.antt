@@ -1,68 +1,26 @@
 -- What a system tells of what is done: each line that a task has passed, each end, and each line of its desk. It tells
 -- all of it, in whatever run, and whatever the other systems and the medium do.
-use Rattle.std.specs.Prelude.{◌≡◌, ◌<◌, ◌≤◌, ◌-◌, ◌&&◌, ◌==◌, ℕ, Bool, true, false, cond, List, Option, Some, None}
+use Rattle.std.specs.Prelude.{◌≡◌, ◌<◌, ◌≤◌, ◌-◌, ◌&&◌, ◌==◌, ℕ, Bool, true, false, List, Some}
 use Rattle.std.specs.Prelude.{slice_get}
 use Rattle.std.specs.List.{list_any}
 use Rattle.grs_base.specs.declared.resource.SysId.{SysId}
 use Rattle.grs_base.specs.declared.resource.TaskId.{TaskId}
+use Rattle.grs_known.specs.Passed.{has_code, has_ended, lines_passed}
 use Rattle.grs_known.specs.Told.{is_code_of, is_end_of}
 use Rattle.grs_legal.specs.Asks.{lines_of}
 use Rattle.grs_legal.specs.declared.meaning.Meaning.{Meaning}
-use Rattle.grs_legal.specs.declared.meaning.Meaning.TheVariants as lines
 use Rattle.grs_wire.specs.declared.deck.Deck.{Deck}
 use Rattle.grs_wire.specs.declared.deck.Event.{Event}
-use Rattle.grs_wire.specs.declared.request.Want.{Want}
-use Rattle.grs_wire.specs.declared.request.Want.TheVariants.{Enq, Deq, Release, Look}
 use Rattle.grs_wire.specs.declared.told.Told.{Told}
 use Rattle.grs_wire.specs.declared.told.ToldLine.{ToldLine}
 use Rattle.grs_wire.specs.declared.told.ToldLine.TheVariants.{Desk}
 use Rattle.task_state.specs.View.{state_of}
-use Rattle.task_state.specs.declared.state.Asked.{Asked}
-use Rattle.task_state.specs.declared.state.Phase.{Phase}
-use Rattle.task_state.specs.declared.state.Phase.TheVariants as phases
 use Rattle.task_state.specs.declared.state.TaskState.{TaskState}
 use Rattle.grs_world.specs.Agree.{lines_of_told}
 use Rattle.grs_world.specs.Running.{node_at}
 use Rattle.grs_world.specs.World.{run, told}
 
 -- ---- lines of tasks
-
--- whether a task's line is there, and its task is told its code or its rows when it passes it
-abbrev pub has_code : Option Meaning → Bool
-has_code None = false
-has_code (Some (lines.Enq r c ret unit)) = true
-has_code (Some (lines.Deq r have)) = true
-has_code (Some (lines.Wait r)) = true
-has_code (Some (lines.Shows d)) = true
-has_code (Some lines.Nothing) = false
-
--- whether a task in this phase is still at the last line that it took: it is held there, or its request isn't answered
-abbrev pub is_at_line : Phase → Bool
-is_at_line phases.HeldAnswer = true
-is_at_line (phases.HeldLine r) = true
-is_at_line phases.ToSend = true
-is_at_line phases.Sent = true
-is_at_line phases.Ready = false
-is_at_line (phases.Ending c) = false
-is_at_line phases.Ended = false
-
--- how many lines a task has passed that took so many and asks for this: all but the last, which asks for it; a release
--- is of no line
-abbrev pub passed_asking : Want → ℕ → ℕ
-passed_asking (Enq r c ret full) n = n - 1
-passed_asking (Deq r have) n = n - 1
-passed_asking (Release r) n = n
-passed_asking (Look first count filter) n = n - 1
-
--- the same by its request that isn't answered, if it has one, and its phase
-abbrev pub passed_by : Option Asked → Phase → ℕ → ℕ
-passed_by None p n = cond (is_at_line p) (n - 1) n
-passed_by (Some a) p n = passed_asking a.req.want n
-
--- how many lines a task has passed
-abbrev pub lines_passed : TaskState → ℕ
-lines_passed x = passed_by x.outstanding x.phase x.line
-
 -- how a task stands after these events
 abbrev pub state_in : Deck → List Event → TaskId → TaskState
 state_in deck es t = state_of (node_at deck (run deck es).nodes t.system).tasks t
@@ -76,11 +34,6 @@ TellLines deck es T =
 -- so it is among what is told
 abbrev pub LinesAreTold : Deck → List Event → Type 0
 LinesAreTold deck es = TellLines deck es (lines_of_told (told deck es))
-
--- whether a task has ended
-abbrev pub has_ended : Phase → Bool
-has_ended phases.Ended = true
-has_ended _ = false
 
 -- Who has ended was told so.
 abbrev pub EndsAreTold : Deck → List Event → Type 0

@@ -29,7 +29,8 @@ use Rattle.grs_known.specs.Items.{RunItem, history}
 use Rattle.grs_known.specs.Known.{Known, outstanding, Still, learns_control}
 use Rattle.grs_known.specs.Past.{Past, past_of, Speaks}
 use Rattle.grs_known.specs.Told.{tells_control}
-use Rattle.grs_known.proofs.tasks.Invariant.{has_res, IsRec, IsDue, IsTask, with_control, has_ended, is_unsent}
+use Rattle.grs_known.proofs.tasks.Invariant.{has_res, IsRec, IsDue, IsTask, with_control, is_unsent}
+use Rattle.grs_known.specs.Passed.{has_ended}
 use Rattle.grs_wire.specs.ToldTo.{is_told_to}
 use Rattle.grs_known.proofs.tasks.Others.{task-told}
 use Rattle.grs_known.proofs.lists.Owners.{is_among}

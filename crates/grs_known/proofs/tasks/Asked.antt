@@ -36,7 +36,8 @@ use Rattle.grs_known.proofs.lists.Entries.{asked_at-grows, end_among-push}
 use Rattle.grs_known.proofs.lists.Lines.{asks-more, asks_of-at, passed-none, passed-stop}
 use Rattle.grs_known.proofs.tasks.Invariant.{Each, key, has_res, is_distinct, IsEntryOn, IsEcb, IsRec, WaitsFor}
 use Rattle.grs_known.proofs.tasks.Invariant.{may_pass, Passed, IsNext, IsShown, IsInPhase, IsTask, is_post_before}
-use Rattle.grs_known.proofs.tasks.Invariant.{has_ended, code_bound}
+use Rattle.grs_known.proofs.tasks.Invariant.{code_bound}
+use Rattle.grs_known.specs.Passed.{has_ended}
 use Rattle.grs_known.proofs.tasks.Granted.{codes_later, lt_suc}
 use Rattle.grs_known.proofs.tasks.Keys.{each-kept}
 use Rattle.grs_known.proofs.lists.Facts.{all-kept, any-kept, all-more, any-more, none-more, slice_get-end, take-more}

@@ -38,7 +38,8 @@ use Rattle.grs_known.proofs.lists.Entries.{asked_at-grows}
 use Rattle.grs_known.proofs.lists.Lines.{asks-same, passed-more}
 use Rattle.grs_known.proofs.tasks.Invariant.{key, has_res, Each, IsEntryOn, IsEcb, IsRec, IsDue, WaitsFor, also}
 use Rattle.grs_known.proofs.tasks.Invariant.{with_control, may_pass, owns_entry, Passed, IsWaitFor, IsInPhase, IsTask}
-use Rattle.grs_known.proofs.tasks.Invariant.{is_post_before, has_ended, code_bound}
+use Rattle.grs_known.proofs.tasks.Invariant.{is_post_before, code_bound}
+use Rattle.grs_known.specs.Passed.{has_ended}
 use Rattle.grs_known.proofs.tasks.Others.{recs-told, phase-told, passed-control, phase-control}
 use Rattle.grs_known.proofs.tasks.Records.{recs-marked, keys-told, distinct-told, recs-coded, recs-posted}
 use Rattle.grs_known.proofs.tasks.Keys.{has_res-own, each-kept}

@@ -21,6 +21,7 @@ use Rattle.grs_wire.specs.declared.told.ToldLine.TheVariants.{Coded, Shown, Post
 use Rattle.grs_wire.specs.History.{code_of}
 use Rattle.grs_legal.specs.Asks.{Ask, AsksRelease, asks_of}
 use Rattle.grs_legal.specs.Legal.{end_among, passed_behind}
+use Rattle.grs_known.specs.Passed.{has_ended}
 use Rattle.grs_known.specs.Items.{rows_in}
 use Rattle.grs_known.specs.Past.{has_own, Past}
 use Rattle.task_state.specs.declared.state.Rec.{Rec}
@@ -252,16 +253,6 @@ IsInPhase ls p T t line phases.HeldAnswer = IsHeld ls p T t line
 IsInPhase ls p T t line (phases.HeldLine r) = IsHeldLine ls p T t line r
 IsInPhase ls p T t line (phases.Ending c) = IsEnding ls p T t line c
 IsInPhase ls p T t line phases.Ended = Unit {0}
-
--- whether a task has ended
-abbrev pub has_ended : Phase → Bool
-has_ended phases.Ended = true
-has_ended phases.ToSend = false
-has_ended phases.Sent = false
-has_ended phases.HeldAnswer = false
-has_ended (phases.HeldLine r) = false
-has_ended phases.Ready = false
-has_ended (phases.Ending c) = false
 
 -- A task of these lines with this past, when T was told. Of what its outstanding request gives up no line tells.
 pub record IsTask (ls : List Meaning) (p : Past) (T : List ToldLine) (leaving : Res → Bool) (t : TaskId)

@@ -60,14 +60,14 @@ use Rattle.grs_known.proofs.lists.Own.{has_task-own}
 use Rattle.grs_known.proofs.tasks.Keys.{has_res-own}
 use Rattle.grs_known.specs.Known.{learned}
 use Rattle.grs_world.proofs.at_rest.AsAsked.{AreAsked, display-looks, entries-asked, look-first}
-use Rattle.grs_world.proofs.at_rest.Control.{is_unmarked}
+use Rattle.grs_known.proofs.records.Control.{is_unmarked}
 use Rattle.grs_world.proofs.at_rest.Held.{WaitsOn, all-well, first-found, no-tells, none-earlier, not-both, uncoded}
 use Rattle.grs_world.proofs.at_rest.Held.{unmarked-has, waits-among, waits_well}
 use Rattle.grs_world.specs.Running.{end_at, task_end, end_of, end_removed}
-use Rattle.grs_world.proofs.at_rest.Marks.{is_marked}
+use Rattle.grs_known.proofs.records.Marks.{is_marked}
 use Rattle.grs_world.proofs.at_rest.Steps.{AllDate, one-task}
-use Rattle.grs_world.proofs.at_rest.UpToDate.{is_code_at, is_end_at, is_placed, is_kept}
-use Rattle.grs_world.specs.Passed.{has_code, passed_by}
+use Rattle.grs_known.proofs.tasks.UpToDate.{is_code_at, is_end_at, is_placed, is_kept}
+use Rattle.grs_known.specs.Passed.{has_code, passed_by}
 use Rattle.grs_world.proofs.run.Runs.{GoodTold}
 use Rattle.grs_world.specs.Agree.{AgreesBy, AllAgree, Moment, lines_of_told, moment}
 use Rattle.grs_world.specs.AtRest.{DisplaysAreTold, IsThere, OwnersAreTold, RepliesAreTold, is_coded, is_waiting}

@@ -26,7 +26,7 @@ use Rattle.grs_known.proofs.system.Did.{Did}
 use Rattle.grs_known.proofs.system.Ours.{IsOurs}
 use Rattle.grs_known.proofs.tasks.Invariant.{has_res}
 use Rattle.grs_world.proofs.at_rest.Events.{date-any, date-one_by_one, date-ranks, did-first, here-all, here-look}
-use Rattle.grs_world.proofs.at_rest.Marks.{is_marked}
+use Rattle.grs_known.proofs.records.Marks.{is_marked}
 use Rattle.grs_world.proofs.at_rest.Ring.{IsRead}
 use Rattle.grs_world.proofs.at_rest.StarTasks.{IsDated, at-place, dated-by}
 use Rattle.grs_world.proofs.at_rest.Steps.{AllDate}

@@ -47,12 +47,12 @@ use Rattle.task_state.proofs.ViewLaws.{is_task-state, is_task-telling, state_of-
 use Rattle.grs_known.proofs.lists.Facts.{any-more, some_of}
 use Rattle.grs_known.proofs.system.Did.{Did, did-none, did-outstanding, did-phase, did-state}
 use Rattle.grs_known.proofs.tasks.Invariant.{Each}
-use Rattle.grs_world.proofs.at_rest.Answers.{IsAnswerTo, answer-told}
-use Rattle.grs_world.proofs.at_rest.Control.{is_unmarked}
+use Rattle.grs_known.proofs.tasks.Answered.{IsAnswerTo, answer-told}
+use Rattle.grs_known.proofs.records.Control.{is_unmarked}
 use Rattle.grs_world.proofs.at_rest.Steps.{AllDate, date-did, date-new, date-own, placed-here}
-use Rattle.grs_world.proofs.at_rest.UpToDate.{AreCoded, HasUnit, IsLeft, IsUpToDate, IsWanted, IsWantedBy, any-date}
-use Rattle.grs_world.proofs.at_rest.UpToDate.{any-wanted, is_kept, more-told}
-use Rattle.grs_world.specs.Passed.{is_at_line, passed_asking, passed_by}
+use Rattle.grs_known.proofs.tasks.UpToDate.{AreCoded, HasUnit, IsLeft, IsUpToDate, IsWanted, IsWantedBy, any-date}
+use Rattle.grs_known.proofs.tasks.UpToDate.{any-wanted, is_kept, more-told}
+use Rattle.grs_known.specs.Passed.{is_at_line, passed_asking, passed_by}
 use Rattle.grs_base.specs.Rows.{rows_of}
 use Rattle.grs_world.proofs.at_rest.Freed.{date-freed}
 

@@ -34,10 +34,10 @@ use Rattle.grs_known.proofs.lists.Owners.{is_among, is_among-pick, owns-any}
 use Rattle.grs_known.proofs.lists.Rows.{AreLists, rows-lists}
 use Rattle.grs_known.proofs.lists.Truths.{false_by, no_truth}
 use Rattle.grs_known.proofs.tasks.Invariant.{has_res}
-use Rattle.grs_world.proofs.at_rest.Lists.{Matches}
-use Rattle.grs_world.proofs.at_rest.Marks.{is_marked}
+use Rattle.grs_known.proofs.records.Lists.{Matches}
+use Rattle.grs_known.proofs.records.Marks.{is_marked}
 use Rattle.grs_world.proofs.at_rest.Steps.{AllDate, date-new}
-use Rattle.grs_world.proofs.at_rest.ToldAll.{ToldAll, told-all}
+use Rattle.grs_known.proofs.records.ToldAll.{ToldAll, told-all}
 
 -- ---- who is told
 -- whether a task gets control of a resource by one of these lists

@@ -42,8 +42,8 @@ use Rattle.grs_known.specs.Items.{AllMade, RunItem, history, lists}
 use Rattle.grs_known.specs.Past.{has_own, own_after, own_by_effect, own_told}
 use Rattle.grs_known.specs.Told.{asked_at, entries_behind, entry_of_line, is_code_before, is_code_of, is_control}
 use Rattle.grs_known.specs.Told.{is_post_of, queued_last, queues, queues_at, tells_control}
-use Rattle.grs_world.proofs.at_rest.Control.{is_unmarked}
-use Rattle.grs_world.proofs.at_rest.Marks.{is_marked}
+use Rattle.grs_known.proofs.records.Control.{is_unmarked}
+use Rattle.grs_known.proofs.records.Marks.{is_marked}
 use Rattle.grs_world.specs.AtRest.{is_waiting, waits_on}
 
 -- ---- who is answered WAIT is queued

@@ -47,7 +47,7 @@ use Rattle.task_state.specs.declared.state.Asked.{Asked}
 use Rattle.task_state.specs.declared.state.Phase.{Phase}
 use Rattle.task_state.specs.declared.state.Phase.TheVariants as phases
 use Rattle.task_state.specs.declared.state.Rec.{Rec}
-use Rattle.grs_world.proofs.at_rest.Answers.{lists-answer}
+use Rattle.grs_known.proofs.tasks.Answered.{lists-answer}
 use Rattle.grs_world.proofs.at_rest.Events.{date-again, date-any, date-entries, date-all_sent, date-one_by_one}
 use Rattle.grs_world.proofs.at_rest.Events.{date-ranked, date-ranks, date-sent, date-telling, here-all}
 use Rattle.grs_world.proofs.at_rest.Full.{here-of, size, size-acts, size-desk, size-entries, size-lost, size-put}

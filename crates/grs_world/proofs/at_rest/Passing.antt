@@ -18,7 +18,6 @@ use Rattle.task_state.specs.View.{is_task, state_of}
 use Rattle.task_state.specs.declared.state.Phase.{Phase}
 use Rattle.task_state.specs.declared.state.Phase.TheVariants as phases
 use Rattle.task_state.specs.declared.state.TaskState.{TaskState}
-use Rattle.grs_known.proofs.tasks.Invariant.{has_ended as ended_phase}
 use Rattle.grs_known.specs.Told.{is_code_of, is_end_of}
 use Rattle.grs_known.proofs.known.Histories.{OrdersFit}
 use Rattle.grs_known.proofs.system.Ours.{script_at}
@@ -30,14 +29,15 @@ use Rattle.grs_world.proofs.at_rest.Full.{full_run}
 use Rattle.grs_world.proofs.at_rest.Homes.{homes_run}
 use Rattle.grs_world.proofs.at_rest.KeptUp.{kept_run}
 use Rattle.grs_world.proofs.at_rest.RingRun.{first-state}
-use Rattle.grs_world.proofs.at_rest.UpToDate.{is_code_at, is_end_at}
+use Rattle.grs_known.proofs.tasks.UpToDate.{is_code_at, is_end_at}
 use Rattle.grs_world.proofs.run.Desks.{GoodDesks}
 use Rattle.grs_world.proofs.run.Runs.{GoodTold}
 use Rattle.grs_world.specs.Agree.{lines_of_told}
 use Rattle.grs_world.specs.Decks.{FitsStar, may_be_star}
-use Rattle.grs_world.specs.Passed.{DesksAreTold, EndsAreTold, LinesAreTold, PassedIsTold, has_code, has_ended}
+use Rattle.grs_world.specs.Passed.{DesksAreTold, EndsAreTold, LinesAreTold, PassedIsTold}
+use Rattle.grs_known.specs.Passed.{has_code, has_ended}
 use Rattle.grs_world.specs.Passed.{is_desk_of}
-use Rattle.grs_world.specs.Passed.{lines_passed}
+use Rattle.grs_known.specs.Passed.{lines_passed}
 use Rattle.grs_world.specs.Running.{node_at}
 use Rattle.grs_world.specs.World.{World, run}
 
@@ -48,15 +48,6 @@ good_desks deck es w (in_star f g told d) = d
 first-done : (deck : Deck) (s : ℕ) → (first_node deck s).done ≡ 0
 unfolding first_node
 first-done deck s = refl
-
-ended-as : (p : Phase) → has_ended p ≡ true → ended_phase p ≡ true
-ended-as phases.Ended e = refl
-ended-as phases.Ready e = absurd (cc)
-ended-as (phases.Ending c) e = absurd (cc)
-ended-as phases.HeldAnswer e = absurd (cc)
-ended-as (phases.HeldLine r) e = absurd (cc)
-ended-as phases.ToSend e = absurd (cc)
-ended-as phases.Sent e = absurd (cc)
 
 get_or_past_none : {X : Type 0} (xs : List X) (i : ℕ) (d : X) → slice_get xs i ≡ None → get_or xs i d ≡ d
 get_or_past_none [] i d e = refl
@@ -111,7 +102,7 @@ module _ (deck : Deck) (fits : may_be_star deck ≡ true → FitsStar deck) (fit
     end-told ended =
         end-exact deck n.tasks t ls lines here es [] (run deck es).told (g.agree fit)
         (all-told (is_end_at t) (end-home t)
-        (((kept_run deck es t.system.0 n at).date t ls lines here).ended (ended-as (state_of n.tasks t).phase ended)))
+        (((kept_run deck es t.system.0 n at).date t ls lines here).ended ended))
 
   lines-told : LinesAreTold deck es
   lines-told t ls k lines low l has =

@@ -45,11 +45,11 @@ use Rattle.grs_known.proofs.system.Ours.{IsOurs, IsHere, same_place}
 use Rattle.grs_known.proofs.system.Says.{askers, is_home_at, own_asked, own_requests}
 use Rattle.grs_known.proofs.tasks.Invariant.{is_distinct}
 use Rattle.grs_known.specs.Items.{RunItem, goes_round, rounds, removes_system_of, wants_round}
-use Rattle.grs_world.proofs.at_rest.Deciding.{AllKept, IsQuiet, asker-waits, foreign-kept, own-kept}
+use Rattle.grs_known.proofs.records.Deciding.{AllKept, IsQuiet, asker-waits, foreign-kept, own-kept}
 use Rattle.grs_world.proofs.at_rest.Events.{date-all_sent, date-answer_own, date-telling}
 use Rattle.grs_world.proofs.at_rest.Steps.{AllDate, date-new}
-use Rattle.grs_world.proofs.at_rest.UpToDate.{IsLeft, IsWanted, IsWantedBy}
-use Rattle.grs_world.proofs.at_rest.Lists.{Matches, matches-records}
+use Rattle.grs_known.proofs.tasks.UpToDate.{IsLeft, IsWanted, IsWantedBy}
+use Rattle.grs_known.proofs.records.Lists.{Matches, matches-records}
 use Rattle.grs_world.proofs.run.Growing.{asks-rounds}
 use Rattle.grs_world.proofs.run.Reading.{all-rounds, read_all, read_item}
 use Rattle.grs_world.proofs.system.AtNode.{Seen, opens_of}

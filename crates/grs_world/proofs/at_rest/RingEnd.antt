@@ -32,10 +32,10 @@ use Rattle.grs_known.proofs.system.Ours.{IsOurs}
 use Rattle.grs_known.proofs.system.Says.{askers, own_requests}
 use Rattle.grs_known.proofs.tasks.Invariant.{is_unsent}
 use Rattle.grs_known.specs.Items.{RunItem, items, lists, rounds}
-use Rattle.grs_world.proofs.message.Stands.{Bodies}
+use Rattle.rsa_message.proofs.Stands.{Bodies}
 use Rattle.grs_world.proofs.at_rest.Events.{date-any}
 use Rattle.grs_world.proofs.at_rest.AtEnd.{IsStill}
-use Rattle.grs_world.proofs.at_rest.Marks.{is_marked}
+use Rattle.grs_known.proofs.records.Marks.{is_marked}
 use Rattle.grs_world.proofs.at_rest.Unseen.{requests_of}
 use Rattle.grs_world.proofs.at_rest.RingRun.{AllRead, still_of}
 use Rattle.grs_world.proofs.run.Growing.{fixeds}

@@ -25,14 +25,14 @@ use Rattle.grs_known.proofs.lists.Facts.{all-behind, take-none, take-taken}
 use Rattle.grs_known.proofs.lists.Owners.{is_among}
 use Rattle.grs_known.proofs.system.Says.{askers, is_home_at, own_requests}
 use Rattle.grs_known.specs.Items.{RunItem, goes_round, items, rounds}
-use Rattle.grs_world.proofs.message.Stands.{Bodies}
+use Rattle.rsa_message.proofs.Stands.{Bodies}
 use Rattle.grs_world.proofs.move.Sound.{GoodRun, every_run, in_ring, in_star}
-use Rattle.grs_world.proofs.at_rest.Lists.{Matches}
+use Rattle.grs_known.proofs.records.Lists.{Matches}
 use Rattle.grs_world.proofs.at_rest.Ring.{IsRead, distinct-at, is_local, kept-all, kept-put, desk-read, known-read}
 use Rattle.grs_base.specs.State.{is_systems}
 use Rattle.grs_world.proofs.at_rest.Tasks.{read-task}
 use Rattle.grs_world.proofs.at_rest.Unseen.{own-among, requests_of, waits-elsewhere, waits-new}
-use Rattle.grs_world.proofs.at_rest.UpToDate.{IsUpToDate}
+use Rattle.grs_known.proofs.tasks.UpToDate.{IsUpToDate}
 use Rattle.grs_world.proofs.run.Spared.{each_spared, none_before}
 use Rattle.grs_world.specs.InStar.{NoneInStar}
 use Rattle.grs_world.proofs.run.Growing.{asks-rounds, fixeds}

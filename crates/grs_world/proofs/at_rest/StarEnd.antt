@@ -36,7 +36,7 @@ use Rattle.grs_known.proofs.tasks.Invariant.{has_res, is_unsent}
 use Rattle.grs_known.specs.Items.{RunItem, items, lists}
 use Rattle.grs_world.proofs.move.Changing.{IsChanging}
 use Rattle.grs_world.proofs.at_rest.AtEnd.{IsStill}
-use Rattle.grs_world.proofs.at_rest.Marks.{is_marked}
+use Rattle.grs_known.proofs.records.Marks.{is_marked}
 use Rattle.grs_world.proofs.at_rest.Restful.{IsRestful, had-star, had_in, had_of, sent-star, sent_in, sent_of}
 use Rattle.grs_world.proofs.at_rest.RingEnd.{calm-at, no_length, none-at, pending-at}
 use Rattle.grs_world.proofs.at_rest.View.{shown-star, view-is, view-of}

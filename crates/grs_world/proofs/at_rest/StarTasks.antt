@@ -53,15 +53,15 @@ use Rattle.grs_known.proofs.system.Did.{Did, did-code, did-line, did-none, did-o
 use Rattle.grs_known.proofs.system.Did.{did-shown, did-telling}
 use Rattle.grs_known.proofs.system.Ours.{IsOurs, same_place}
 use Rattle.grs_known.proofs.tasks.Invariant.{has_res, is_distinct}
-use Rattle.grs_world.proofs.at_rest.Answers.{IsAnswerTo, KeepsRecords, lists-answer, rows-told}
-use Rattle.grs_world.proofs.at_rest.Control.{Controlled, controlled, hears-has, hears-marked}
-use Rattle.grs_world.proofs.at_rest.Deciding.{AllKept, IsQuiet, own-kept}
+use Rattle.grs_known.proofs.tasks.Answered.{IsAnswerTo, KeepsRecords, lists-answer, rows-told}
+use Rattle.grs_known.proofs.records.Control.{Controlled, controlled, hears-has, hears-marked}
+use Rattle.grs_known.proofs.records.Deciding.{AllKept, IsQuiet, own-kept}
 use Rattle.grs_world.proofs.at_rest.Events.{can_get-answers, date-ranked, date-sent, date-telling}
-use Rattle.grs_world.proofs.at_rest.Lists.{Matches}
-use Rattle.grs_world.proofs.at_rest.Marks.{is_marked}
+use Rattle.grs_known.proofs.records.Lists.{Matches}
+use Rattle.grs_known.proofs.records.Marks.{is_marked}
 use Rattle.grs_world.proofs.at_rest.Ring.{is_local}
 use Rattle.grs_world.proofs.at_rest.Steps.{AllDate, date-control, date-task, going-ours, placed-here}
-use Rattle.grs_world.proofs.at_rest.UpToDate.{IsWanted, IsWantedBy}
+use Rattle.grs_known.proofs.tasks.UpToDate.{IsWanted, IsWantedBy}
 use Rattle.grs_world.proofs.star.Heard.{grants}
 use Rattle.grs_world.proofs.star.hearing.Gentle.{Answered, answered, phase-records}
 

@@ -47,14 +47,15 @@ use Rattle.grs_known.proofs.system.Ours.{IsOurs, same_place}
 use Rattle.grs_known.proofs.system.Did.{Did, did-code, did-line, did-none, did-outstanding, did-phase, did-rows}
 use Rattle.grs_known.proofs.system.Did.{did-shown, did-telling}
 use Rattle.grs_known.proofs.tasks.Asked.{any-after, told_after}
-use Rattle.grs_known.proofs.tasks.Invariant.{Each, has_ended, is_unsent}
-use Rattle.grs_world.proofs.at_rest.Answers.{IsCoded, IsDue, answered, coded-line, is_free, shown-line}
-use Rattle.grs_world.proofs.at_rest.Control.{controlled, hears-grows, is_unmarked}
-use Rattle.grs_world.proofs.at_rest.Places.{state_at}
-use Rattle.grs_world.proofs.at_rest.UpToDate.{AreCoded, HasUnit, IsUpToDate, IsWanted, IsWantedBy, hears-date}
-use Rattle.grs_world.proofs.at_rest.UpToDate.{is_code_at}
-use Rattle.grs_world.proofs.at_rest.UpToDate.{is_end_at, is_kept, is_placed, more-told, unit_of}
-use Rattle.grs_world.specs.Passed.{has_code, is_at_line, passed_asking, passed_by}
+use Rattle.grs_known.proofs.tasks.Invariant.{Each, is_unsent}
+use Rattle.grs_known.specs.Passed.{has_ended}
+use Rattle.grs_known.proofs.tasks.Answered.{IsCoded, IsDue, answered, coded-line, is_free, shown-line}
+use Rattle.grs_known.proofs.records.Control.{controlled, hears-grows, is_unmarked}
+use Rattle.grs_known.proofs.records.Places.{state_at}
+use Rattle.grs_known.proofs.tasks.UpToDate.{AreCoded, HasUnit, IsUpToDate, IsWanted, IsWantedBy, hears-date}
+use Rattle.grs_known.proofs.tasks.UpToDate.{is_code_at}
+use Rattle.grs_known.proofs.tasks.UpToDate.{is_end_at, is_kept, is_placed, more-told, unit_of}
+use Rattle.grs_known.specs.Passed.{has_code, is_at_line, passed_asking, passed_by}
 
 -- ---- all tasks of a system
 -- each task of the deck that is here is up to date

@@ -28,7 +28,7 @@ use Rattle.grs_wire.specs.declared.told.Said.TheVariants as saids
 use Rattle.mode_migrate.specs.Laws.{are_within}
 use Rattle.rsa_message.specs.Message.{closed_by, first_number}
 use Rattle.task_state.specs.View.{is_sent, is_task, state_of}
-use Rattle.grs_world.proofs.at_rest.Marks.{is_marked}
+use Rattle.grs_known.proofs.records.Marks.{is_marked}
 use Rattle.grs_known.proofs.known.Histories.{AllAsk}
 use Rattle.grs_known.proofs.lists.Parts.{list_of-part}
 use Rattle.grs_known.proofs.lists.Truths.{no_truth}

@@ -47,8 +47,8 @@ use Rattle.grs_known.proofs.system.Did.{did-shown, did-telling}
 use Rattle.grs_known.proofs.system.Ours.{IsOurs, same_place}
 use Rattle.grs_known.proofs.system.Says.{askers}
 use Rattle.grs_known.proofs.tasks.Invariant.{is_distinct}
-use Rattle.grs_world.proofs.at_rest.Deciding.{AllKept, IsQuiet, own-kept}
-use Rattle.grs_world.proofs.at_rest.Lists.{Matches}
+use Rattle.grs_known.proofs.records.Deciding.{AllKept, IsQuiet, own-kept}
+use Rattle.grs_known.proofs.records.Lists.{Matches}
 use Rattle.grs_world.proofs.at_rest.Ring.{IsRead, is_local, quiet-sent, quiet-to_send}
 use Rattle.grs_world.proofs.at_rest.Steps.{AllDate, date-task, going-ours}
 

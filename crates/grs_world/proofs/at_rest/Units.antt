@@ -47,9 +47,9 @@ use Rattle.grs_world.proofs.at_rest.AtEnd.{IsStill, more-asks}
 use Rattle.grs_world.proofs.at_rest.Few.{below-all, length-parts}
 use Rattle.grs_world.proofs.at_rest.Full.{AreFull}
 use Rattle.grs_world.proofs.at_rest.Held.{none-earlier}
-use Rattle.grs_world.proofs.at_rest.Marks.{is_marked}
+use Rattle.grs_known.proofs.records.Marks.{is_marked}
 use Rattle.grs_world.proofs.at_rest.Steps.{one-task}
-use Rattle.grs_world.proofs.at_rest.UpToDate.{HasUnit, unit_of}
+use Rattle.grs_known.proofs.tasks.UpToDate.{HasUnit, unit_of}
 use Rattle.grs_world.specs.AtRest.{UnitsAreReserved, is_reserve, is_unit, lists_after, queued_with, queued_with_by}
 use Rattle.grs_world.specs.AtRest.{reserves, unit_count}
 use Rattle.grs_world.specs.Running.{units_of}

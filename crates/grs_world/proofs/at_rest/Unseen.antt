@@ -21,7 +21,7 @@ use Rattle.grs_known.proofs.lists.Owners.{is_among}
 use Rattle.grs_known.proofs.lists.Truths.{no_truth}
 use Rattle.grs_known.proofs.system.Says.{askers, own_asked, own_requests}
 use Rattle.grs_known.specs.Items.{RunItem}
-use Rattle.grs_world.proofs.message.Stands.{Bodies, body_of, none, more}
+use Rattle.rsa_message.proofs.Stands.{Bodies, body_of, none, more}
 use Rattle.grs_world.proofs.run.Growing.{fixeds}
 
 abbrev pub request_in : RingBody → List Req

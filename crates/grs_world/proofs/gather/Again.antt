@@ -44,7 +44,7 @@ use Rattle.task_state.specs.declared.state.TaskState.{TaskState}
 use Rattle.grs_wire.specs.declared.told.ToldLine.{ToldLine}
 use Rattle.grs_known.proofs.lists.Facts.{slice_get-set}
 use Rattle.grs_known.proofs.lists.Truths.{no_truth}
-use Rattle.grs_world.proofs.at_rest.Control.{Controlled, Hears, coded, controlled, given, none, passed, posted}
+use Rattle.grs_known.proofs.records.Control.{Controlled, Hears, coded, controlled, given, none, passed, posted}
 use Rattle.grs_world.proofs.run.Came as any
 use Rattle.grs_world.proofs.run.Came.{Acts, Came, Result, acted, already, began, changed, decided, informed, is_silent}
 use Rattle.grs_world.proofs.run.Came.{last_turn, left, no_such, parted, removes_one, removes_star, replied, result_of}

@@ -33,8 +33,8 @@ use Rattle.grs_wire.specs.declared.request.Fixed.{Fixed}
 use Rattle.grs_wire.specs.declared.told.Said.{Said}
 use Rattle.grs_wire.specs.declared.told.Said.TheVariants as saids
 use Rattle.rsa_message.specs.Message.{Message, cleared, closed_by, departed, first_number, left_by}
-use Rattle.grs_world.proofs.message.Stands.{Bodies}
-use Rattle.grs_world.proofs.message.Stands as stands
+use Rattle.rsa_message.proofs.Stands.{Bodies}
+use Rattle.rsa_message.proofs.Stands as stands
 use Rattle.grs_world.proofs.move.Sound.{ring_good}
 use Rattle.grs_world.proofs.run.Came as any
 use Rattle.grs_world.proofs.run.Came.{Acts, Came, Result, acted, acts-keep, already, began, changed, decided, informed}

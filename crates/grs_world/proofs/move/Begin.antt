@@ -40,7 +40,7 @@ use Rattle.grs_world.proofs.run.Knowing.{KnowsRemoved}
 use Rattle.grs_world.proofs.star.Calm.{losing-nothing}
 use Rattle.grs_world.proofs.star.Usual.{usual}
 use Rattle.grs_world.proofs.star.steps.Outcome.{part}
-use Rattle.grs_world.proofs.message.Stands.{Bodies}
+use Rattle.rsa_message.proofs.Stands.{Bodies}
 use Rattle.grs_world.proofs.move.Changing.{IsMoved, Shown, Waits, has_changed, view-read, viewed, waits_yet}
 use Rattle.grs_world.proofs.move.Parts.{free-by, near-by, nobody-by, part-by, past-by, removed-by}
 use Rattle.grs_world.proofs.move.Ranks.{changed-at, changed-told}

@@ -27,7 +27,7 @@ use Rattle.grs_world.proofs.run.Removals.{GoneAreRemoved}
 use Rattle.grs_medium.specs.Apply.{is_live}
 use Rattle.grs_wire.specs.History.{removes}
 use Rattle.grs_world.proofs.star.Elements.{AreNear}
-use Rattle.grs_world.proofs.message.Stands.{Bodies}
+use Rattle.rsa_message.proofs.Stands.{Bodies}
 use Rattle.grs_world.proofs.star.Worlds.{Fixes, Hands, IsWhole, are_live, fixes-own, in_hands, items-none, items-one}
 use Rattle.grs_world.proofs.star.Worlds.{near-local, none_fixed, others-item, under-local, whole-still}
 use Rattle.grs_world.proofs.move.Late.{CameLate, desk_late, informed_late, nothing_late, task_late, turn_late}

@@ -22,7 +22,7 @@ use Rattle.grs_known.proofs.ring.Reading.{table-is}
 use Rattle.grs_world.specs.InStar.{NoneInStar}
 use Rattle.grs_world.specs.Tables.{before_number, processed, TablesAreFronts}
 use Rattle.grs_world.specs.World.{World, run}
-use Rattle.grs_world.proofs.message.Stands.{Bodies, waits_live, first_number-seen}
+use Rattle.rsa_message.proofs.Stands.{Bodies, waits_live, first_number-seen}
 use Rattle.grs_world.proofs.run.Growing.{fixeds}
 use Rattle.grs_world.proofs.run.InRing.{live-is}
 use Rattle.grs_world.proofs.run.Messages.{length-fixeds, given-due}

@@ -36,8 +36,8 @@ use Rattle.grs_known.proofs.lists.Truths.{no_truth, or_other}
 use Rattle.grs_world.specs.Laps.{LeftHome, answers, AnsweredLast}
 use Rattle.grs_world.specs.World.{World, Turnout, told_by, placed, happens, run, told, first_world, counted, fixed_by}
 use Rattle.grs_world.proofs.message.LapsMessage.{EndsAtHome, AllEndAtHome, left_at_home}
-use Rattle.grs_world.proofs.message.Stands.{Bodies, body_of}
-use Rattle.grs_world.proofs.message.Stands as stands
+use Rattle.rsa_message.proofs.Stands.{Bodies, body_of}
+use Rattle.rsa_message.proofs.Stands as stands
 use Rattle.grs_world.proofs.run.Answered.{Answered, answered-by, left_turned, left_behind}
 use Rattle.grs_world.proofs.run.Growing.{fixeds}
 use Rattle.grs_world.proofs.run.Laps.{goes}

@@ -15,8 +15,8 @@ use Rattle.grs_wire.specs.declared.request.Req.{Req}
 use Rattle.rsa_message.specs.Message.{Message, turned_open, cleared, dropped, stamped}
 use Rattle.grs_wire.specs.Unseen.{unseen}
 use Rattle.grs_world.proofs.run.Runs.{GoodMessage, seen_at, message_log}
-use Rattle.grs_world.proofs.message.Stands.{Stands, none, gone, kept, Bodies, Stands-cleared, Stands-append}
-use Rattle.grs_world.proofs.message.Stands.{Stands-stamped, unseen-drop, waits_for, waits_new, waits_seen, waits_live}
+use Rattle.rsa_message.proofs.Stands.{Stands, none, gone, kept, Bodies, Stands-cleared, Stands-append}
+use Rattle.rsa_message.proofs.Stands.{Stands-stamped, unseen-drop, waits_for, waits_new, waits_seen, waits_live}
 use Rattle.grs_world.proofs.run.Growing.{fixeds}
 use Rattle.grs_known.specs.Items.{RunItem, rounds}
 use Rattle.grs_known.specs.Parts.{put_at}

@@ -11,7 +11,7 @@ use Rattle.grs_wire.specs.declared.request.Fixed.TheVariants.{Asked}
 use Rattle.grs_known.specs.Items.{RunItem, goes_round, rounds, lists, history}
 use Rattle.grs_known.proofs.known.Histories.{AllAsk, IsHistory, made_item, asks-behind}
 use Rattle.grs_known.proofs.lists.Facts.{all-behind, filter-cons_left}
-use Rattle.grs_world.proofs.message.Stands.{Bodies}
+use Rattle.rsa_message.proofs.Stands.{Bodies}
 use Rattle.grs_world.proofs.run.Growing.{fixeds, Grows, same, more, grows-history, grows-rounds, asks-rounds}
 use Rattle.grs_known.proofs.told.News.{ToldNews, told-news, still-told}
 use Rattle.grs_world.proofs.run.Putting.{PutIn, put-all}

@@ -21,7 +21,7 @@ use Rattle.grs_known.proofs.known.Histories.{IsAsk, AsksOrRemoves, an_ask, a_loo
 use Rattle.grs_known.proofs.known.Histories.{asks-behind}
 use Rattle.grs_known.proofs.lists.Facts.{all-middle}
 use Rattle.grs_known.proofs.lists.Truths.{no_truth}
-use Rattle.grs_world.proofs.message.Stands.{Bodies, none, more, body_of}
+use Rattle.rsa_message.proofs.Stands.{Bodies, none, more, body_of}
 use Rattle.grs_world.proofs.run.Growing.{fixeds, asks-rounds}
 use Rattle.grs_known.proofs.told.News.{told-then, told-fewer}
 use Rattle.grs_known.proofs.system.Askers.{among-back}

@@ -30,7 +30,7 @@ use Rattle.grs_known.proofs.lists.Truths.{false_by}
 use Rattle.grs_known.proofs.lists.Placed.{put_each}
 use Rattle.grs_world.specs.Agree.{Agrees, AgreesBy, AllAgree, Moment, moment, lines_of_told, DeskAgrees}
 use Rattle.grs_world.specs.World.{World, Turnout, placed, counted, fixed_by, told_by, happens, run, hist, first_world}
-use Rattle.grs_world.proofs.message.Stands.{Stands, waits_for}
+use Rattle.rsa_message.proofs.Stands.{Stands, waits_for}
 use Rattle.grs_world.proofs.run.Growing.{fixeds, grows-items, grows-history, grows-rounds, grows-seen, grows-requests}
 use Rattle.grs_world.proofs.run.Growing.{own_requests-append}
 use Rattle.grs_known.proofs.told.News.{LinesAgree, ToldNews}

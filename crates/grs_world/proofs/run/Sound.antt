@@ -31,7 +31,7 @@ use Rattle.grs_known.proofs.known.ItemLaws.{items_are_history}
 use Rattle.grs_known.proofs.lists.Facts.{take-taken}
 use Rattle.grs_world.specs.Agree.{Sound}
 use Rattle.grs_world.specs.World.{World, Turnout, placed, counted, happens, run, first_nodes, first_world, fixed_by}
-use Rattle.grs_world.proofs.message.Stands.{none, Bodies}
+use Rattle.rsa_message.proofs.Stands.{none, Bodies}
 use Rattle.grs_world.proofs.run.Messages.{message-same, message-turned, given-later}
 use Rattle.grs_world.proofs.run.OfEvents.{told_of_events}
 use Rattle.grs_world.proofs.run.Outcomes.{Outcome, quiet_outcome, still_outcome, turn_outcome, puts}

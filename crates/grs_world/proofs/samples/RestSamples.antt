@@ -50,7 +50,8 @@ use Rattle.task_state.specs.View.{without_record, with_told, with_exclusive, wit
 use Rattle.grs_world.specs.Agree.{lines_of_told}
 use Rattle.grs_world.specs.AtRest.{DisplaysAreTold, first_uncoded, goes_on_with, is_coded, is_reserve, lists_after}
 use Rattle.grs_world.specs.AtRest.{unit_count}
-use Rattle.grs_world.specs.Passed.{TellLines, has_ended, lines_passed, state_in}
+use Rattle.grs_world.specs.Passed.{TellLines, state_in}
+use Rattle.grs_known.specs.Passed.{has_ended, lines_passed}
 use Rattle.grs_world.specs.Running.{at_rest, task_end, units_of}
 use Rattle.grs_world.specs.World.{first_world, carry_out, chosen, placed, happens_at, happens, run, hist, told}
 use Rattle.grs_world.proofs.samples.Samples.{system, task_of, own, enq, deq, wait_for, deck_of, goes, turn, at}

@@ -31,7 +31,7 @@ use Rattle.grs_wire.specs.declared.request.Want.{Want}
 use Rattle.grs_wire.specs.declared.request.Want.TheVariants.{Enq, Deq, Release, Look}
 use Rattle.task_state.specs.Replies.{is_granted}
 use Rattle.task_state.specs.View.{state_of, is_sent}
-use Rattle.grs_world.proofs.at_rest.Marks.{is_marked}
+use Rattle.grs_known.proofs.records.Marks.{is_marked}
 use Rattle.grs_world.proofs.star.Members.{all_lists}
 use Rattle.grs_world.proofs.star.Worlds.{in_hands}
 use Rattle.grs_world.specs.World.{World, Turnout, fixed_by, placed}

@@ -60,8 +60,8 @@ use Rattle.grs_known.proofs.tasks.Decided.{enq_records}
 use Rattle.grs_known.proofs.tasks.Invariant.{has_res, is_distinct}
 use Rattle.grs_known.proofs.tasks.Keys.{gone-without}
 use Rattle.grs_known.proofs.tasks.Records.{found_has}
-use Rattle.grs_world.proofs.at_rest.Control.{Controlled, controlled, hears-has, hears-marked, hears-marks, hears-phase}
-use Rattle.grs_world.proofs.at_rest.Marks.{is_marked}
+use Rattle.grs_known.proofs.records.Control.{Controlled, controlled, hears-has, hears-marked, hears-marks, hears-phase}
+use Rattle.grs_known.proofs.records.Marks.{is_marked}
 use Rattle.grs_world.proofs.star.Heard.{grants}
 
 -- ---- tasks that lose nothing

@@ -29,7 +29,7 @@ use Rattle.grs_known.proofs.lists.Truths.{no_truth}
 use Rattle.grs_known.proofs.system.Ours.{same_place}
 use Rattle.grs_known.proofs.system.Says.{askers, is_home_at}
 use Rattle.grs_known.proofs.tasks.Invariant.{has_res}
-use Rattle.grs_world.proofs.at_rest.Marks.{is_marked}
+use Rattle.grs_known.proofs.records.Marks.{is_marked}
 use Rattle.grs_world.proofs.star.Heard.{IsInHands, StaysHeard, enq_count}
 use Rattle.grs_world.proofs.star.Members.{all_lists}
 use Rattle.grs_world.proofs.star.Systems.{ours, requests_in}

@@ -48,7 +48,7 @@ use Rattle.grs_known.proofs.lists.Owners.{is_among}
 use Rattle.grs_known.proofs.lists.Truths.{false_by, no_truth}
 use Rattle.grs_known.proofs.system.Says.{askers, is_home_at}
 use Rattle.grs_known.proofs.tasks.Invariant.{has_res}
-use Rattle.grs_world.proofs.at_rest.Marks.{is_marked}
+use Rattle.grs_known.proofs.records.Marks.{is_marked}
 use Rattle.grs_world.proofs.star.Heard.{AreAddressed, IsAddressed, StaysHeard, enq_count, grants, had_by, hears}
 use Rattle.grs_world.proofs.star.Heard.{is_timely}
 use Rattle.grs_world.proofs.star.Members.{IsPart, all_lists, has_manager}

@@ -27,10 +27,11 @@ use Rattle.task_state.specs.declared.state.Showing.{Showing}
 use Rattle.task_state.specs.declared.state.TaskState.{TaskState}
 use Rattle.grs_known.proofs.lists.Facts.{any-more, any-last}
 use Rattle.grs_known.proofs.lists.Truths.{no_truth}
-use Rattle.grs_known.proofs.tasks.Invariant.{Each, has_ended, is_unsent}
-use Rattle.grs_world.proofs.at_rest.Control.{Hears, none, given, coded, posted, passed, told_rec, is_unmarked}
-use Rattle.grs_world.proofs.at_rest.Control.{unmarked-still, each-marks}
-use Rattle.grs_world.specs.Passed.{has_code, is_at_line, lines_passed, passed_by}
+use Rattle.grs_known.proofs.tasks.Invariant.{Each, is_unsent}
+use Rattle.grs_known.specs.Passed.{has_ended}
+use Rattle.grs_known.proofs.records.Control.{Hears, none, given, coded, posted, passed, told_rec, is_unmarked}
+use Rattle.grs_known.proofs.records.Control.{unmarked-still, each-marks}
+use Rattle.grs_known.specs.Passed.{has_code, is_at_line, lines_passed, passed_by}
 
 -- ---- what is told and asked
 -- whether two tasks are at the same place of the same system, as a system tells its tasks apart

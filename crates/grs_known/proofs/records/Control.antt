@@ -27,7 +27,7 @@ use Rattle.grs_known.proofs.lists.Truths.{no_truth}
 use Rattle.grs_known.proofs.system.Did.{Did, did-none, did-state, did-phase, did-telling}
 use Rattle.grs_known.proofs.tasks.Invariant.{Each, has_res}
 use Rattle.grs_known.proofs.tasks.Records.{not_found}
-use Rattle.grs_world.proofs.at_rest.Marks.{is_marked}
+use Rattle.grs_known.proofs.records.Marks.{is_marked}
 
 -- ---- marks
 abbrev pub told_rec : Rec → Rec

@@ -27,11 +27,11 @@ use Rattle.grs_known.proofs.system.Ours.{IsOurs, same_place}
 use Rattle.grs_known.proofs.tasks.Asked.{told_after}
 use Rattle.grs_known.proofs.tasks.Decided.{enq_records}
 use Rattle.grs_known.proofs.tasks.Invariant.{has_res, is_distinct}
-use Rattle.grs_world.proofs.at_rest.Lists.{Matches, enq-elsewhere, has-without, marked-without, matches-deq}
-use Rattle.grs_world.proofs.at_rest.Lists.{matches-enq}
-use Rattle.grs_world.proofs.at_rest.Lists.{matches-other, matches-records, matches-release}
-use Rattle.grs_world.proofs.at_rest.Marks.{is_marked}
-use Rattle.grs_world.proofs.at_rest.ToldAll.{ToldAll, told-all}
+use Rattle.grs_known.proofs.records.Lists.{Matches, enq-elsewhere, has-without, marked-without, matches-deq}
+use Rattle.grs_known.proofs.records.Lists.{matches-enq}
+use Rattle.grs_known.proofs.records.Lists.{matches-other, matches-records, matches-release}
+use Rattle.grs_known.proofs.records.Marks.{is_marked}
+use Rattle.grs_known.proofs.records.ToldAll.{ToldAll, told-all}
 
 -- A test of phases that no answer gives, but the wait for one.
 pub record IsQuiet (f : Phase → Bool) : Type 0 where

@@ -39,11 +39,12 @@ use Rattle.grs_known.proofs.system.Did.{Did, did-after_code_deq, did-after_code_
 use Rattle.grs_known.proofs.system.Did.{did-outstanding, did-phase, did-rows, did-shown}
 use Rattle.grs_known.proofs.tasks.Asked.{any-after, told_after}
 use Rattle.grs_known.proofs.tasks.Decided.{enq_records}
-use Rattle.grs_known.proofs.tasks.Invariant.{Each, has_ended}
+use Rattle.grs_known.proofs.tasks.Invariant.{Each}
+use Rattle.grs_known.specs.Passed.{has_ended}
 use Rattle.grs_known.proofs.tasks.Keys.{each-exclusive, each-push, each-without}
-use Rattle.grs_world.proofs.at_rest.UpToDate.{AreCoded, HasUnit, IsLeft, IsUpToDate, IsWanted, IsWantedBy, coded-next}
-use Rattle.grs_world.proofs.at_rest.UpToDate.{is_kept, is_placed, unit_of}
-use Rattle.grs_world.specs.Passed.{is_at_line, passed_asking, passed_by}
+use Rattle.grs_known.proofs.tasks.UpToDate.{AreCoded, HasUnit, IsLeft, IsUpToDate, IsWanted, IsWantedBy, coded-next}
+use Rattle.grs_known.proofs.tasks.UpToDate.{is_kept, is_placed, unit_of}
+use Rattle.grs_known.specs.Passed.{is_at_line, passed_asking, passed_by}
 
 -- ---- what is told after a code
 pub coded-line : (ls : List Meaning) (T : List ToldLine) (t u : TaskId) (n : ℕ) (verb : Verb) (c : Code)

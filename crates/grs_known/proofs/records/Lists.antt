@@ -39,7 +39,7 @@ use Rattle.grs_known.proofs.lists.Truths.{false_by, no_truth}
 use Rattle.grs_known.proofs.tasks.Decided.{enq_records}
 use Rattle.grs_known.proofs.tasks.Invariant.{has_res, is_distinct}
 use Rattle.grs_known.proofs.tasks.Keys.{gone-without}
-use Rattle.grs_world.proofs.at_rest.Marks.{is_marked}
+use Rattle.grs_known.proofs.records.Marks.{is_marked}
 
 -- Of the resources that pass, where these are the lists and these the records of task t.
 pub record Matches (p : Res → Bool) (s : State) (t : TaskId) (xs : List Rec) : Type 0 where

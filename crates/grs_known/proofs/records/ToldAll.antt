@@ -14,9 +14,9 @@ use Rattle.task_state.specs.declared.state.TaskState.{TaskState}
 use Rattle.grs_known.proofs.lists.Owners.{is_among}
 use Rattle.grs_known.proofs.lists.Truths.{no_truth}
 use Rattle.grs_known.proofs.tasks.Invariant.{has_res}
-use Rattle.grs_world.proofs.at_rest.Control.{Controlled, controlled, hears-has, hears-marked, hears-marks, hears-phase}
-use Rattle.grs_world.proofs.at_rest.Marks.{is_marked}
-use Rattle.grs_world.proofs.at_rest.Places.{state_at}
+use Rattle.grs_known.proofs.records.Control.{Controlled, controlled, hears-has, hears-marked, hears-marks, hears-phase}
+use Rattle.grs_known.proofs.records.Marks.{is_marked}
+use Rattle.grs_known.proofs.records.Places.{state_at}
 
 -- Tasks that were told control of a resource, where these were told it.
 pub record ToldAll (v w : TasksView) (r : Res) (us : List TaskId) : Type 0 where
