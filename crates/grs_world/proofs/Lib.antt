@@ -1,3 +1,4 @@
+pub mod Common
 pub mod system
 pub mod message
 pub mod run

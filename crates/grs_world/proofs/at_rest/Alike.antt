@@ -1,24 +1,11 @@
 -- What is still to be heard is the same where two worlds show the same of their live systems.
-use Rattle.std.proofs.Common.{◌≡◌, ◌≤◌, ◌⊎◌, inl, inr, ℕ, Bool, true, Some, refl, ap, sym, ◌∙◌, subst, arith, false}
-use Rattle.std.specs.Prelude.{slice_get}
-use Rattle.std.specs.List.{list_any}
-use Rattle.grs_base.specs.Lists.{has_task, owns}
-use Rattle.grs_base.specs.State.{is_systems, list_of}
-use Rattle.grs_base.specs.declared.resource.Res.{Res}
-use Rattle.grs_base.specs.declared.resource.TaskId.{TaskId}
-use Rattle.grs_medium.specs.Medium.{inbox}
-use Rattle.grs_node.specs.Node.{NodeState}
-use Rattle.grs_wire.specs.declared.deck.Deck.{Deck}
-use Rattle.task_state.specs.View.{state_of}
-use Rattle.grs_known.proofs.lists.Owners.{is_among}
-use Rattle.grs_known.proofs.system.Says.{askers, is_home_at}
-use Rattle.grs_known.proofs.tasks.Invariant.{has_res}
-use Rattle.grs_known.specs.Items.{items, lists}
+use Rattle.grs_world.proofs.Common.{◌∙◌, ◌≡◌, ◌≤◌, ◌⊎◌, ap, arith, askers, Bool, Deck, false, has, has_res, has_task}
+use Rattle.grs_world.proofs.Common.{inbox, inl, inr, is_among, is_home_at, is_systems, items, list_any, list_of, lists}
+use Rattle.grs_world.proofs.Common.{NodeState, owns, refl, Res, slice_get, Some, state_of, subst, sym, TaskId, true}
+use Rattle.grs_world.proofs.Common.{World, ℕ}
 use Rattle.grs_world.proofs.star.Heard.{AreAddressed, IsHeard, IsInHands, IsUntold, enq_count, hears, is_timely}
 use Rattle.grs_world.proofs.star.Members.{all_lists}
 use Rattle.grs_world.proofs.star.Worlds.{in_hands}
-use Rattle.grs_world.specs.World.{World}
-use Rattle.grs_wire.specs.Masks.{has}
 use Rattle.grs_world.proofs.run.Site.{at_site}
 
 -- a system stood like this, with the same part and the same on record

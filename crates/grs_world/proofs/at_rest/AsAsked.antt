@@ -1,36 +1,24 @@
 -- The entries of a task's lines are what these lines asked, in the order of the lines.
-use Rattle.std.proofs.Common.{◌≡◌, ℕ, zero, suc, Bool, true, false, cond, ◌&&◌, List, [], ◌∷◌, ◌++◌, length, Option}
-use Rattle.std.proofs.Common.{Some}
-use Rattle.std.proofs.Common.{None, refl, ap, sym, ◌∙◌, subst, append-nil, append_assoc, arith, ◌<◌, ◌≤◌, ◌⊎◌, inl, inr}
-use Rattle.std.proofs.Common.{map, ◌*◌, length-append}
-use Rattle.std.specs.Prelude.{slice_get, is_some, IsSomeAnd, nat_lt}
-use Rattle.std.specs.Option.{option_map, option_or}
-use Rattle.std.proofs.lemmas.Bool.{and_parts, ltb-true}
-use Rattle.std.proofs.lemmas.Option.{slice_get_within}
+use Rattle.grs_world.proofs.Common.{[], ◌&&◌, ◌*◌, ◌++◌, ◌<◌, ◌∙◌, ◌∷◌, ◌≡◌, ◌≤◌, ◌⊎◌, and_parts, ap, append-nil}
+use Rattle.grs_world.proofs.Common.{append_assoc, arith, asks_of, Bool, cond, Deck, Display, false, Filter, HistEntry}
+use Rattle.grs_world.proofs.Common.{inl, inr, is_by, is_some, LegalFrom, length, length-append, Line, line_entries}
+use Rattle.grs_world.proofs.Common.{lines_of, List, Local, ltb-true, map, Meaning, meanings, nat_lt, None, Option}
+use Rattle.grs_world.proofs.Common.{option_map, Place, refl, replay, Res, same_task-exact, scripts_of, Slice, slice_get}
+use Rattle.grs_world.proofs.Common.{slice_get-past, slice_get_within, Some, subst, suc, sym, SysId, TaskId, true, Wait}
+use Rattle.grs_world.proofs.Common.{zero, ℕ}
+use Rattle.std.specs.Prelude.{IsSomeAnd}
+use Rattle.std.specs.Option.{option_or}
 use Rattle.grs_base.specs.State.{queued_by}
-use Rattle.grs_base.specs.declared.decision.Code.TheVariants.{Wait}
-use Rattle.grs_base.specs.declared.look.Filter.{Filter}
-use Rattle.grs_base.specs.declared.look.Place.{Place}
-use Rattle.grs_base.specs.declared.look.Place.TheVariants.{Local, Slice}
-use Rattle.grs_base.specs.declared.resource.SysId.{SysId}
-use Rattle.grs_base.specs.declared.line.Line.{Line}
-use Rattle.grs_base.specs.declared.line.Line.TheVariants as written
-use Rattle.grs_base.specs.declared.resource.Res.{Res}
-use Rattle.grs_base.specs.declared.resource.TaskId.{TaskId}
 use Rattle.grs_base.specs.declared.rnl.Lists.{Lists}
-use Rattle.grs_base.proofs.SameLaws.{same_task-exact}
-use Rattle.grs_legal.specs.Asks.{Ask, AsksRelease, AsksLook, asks_in, asks_of, lines_in, lines_of}
-use Rattle.grs_legal.specs.Asks.{home_asks, looks_in, meaning_of, meanings, scripts_of, slice_asks}
-use Rattle.grs_legal.specs.declared.meaning.Display.{Display}
-use Rattle.grs_legal.specs.Legal.{IsLegal, LegalFrom, MayAsk, MayStand, ask_in, end_code, is_of_line, line_entries}
-use Rattle.grs_legal.specs.declared.meaning.Meaning.{Meaning}
-use Rattle.grs_legal.specs.declared.meaning.Meaning.TheVariants as lines
+use Rattle.grs_legal.specs.Asks.{Ask, AsksRelease, AsksLook, asks_in, lines_in, home_asks, looks_in, meaning_of}
+use Rattle.grs_legal.specs.Asks.{slice_asks}
+use Rattle.grs_legal.specs.Legal.{IsLegal, MayAsk, MayStand, ask_in, end_code, is_of_line}
 use Rattle.grs_node.proofs.Places.{slice_get-map}
-use Rattle.grs_wire.specs.History.{code_of, is_by, replay}
-use Rattle.grs_wire.specs.declared.deck.Deck.{Deck}
-use Rattle.grs_wire.specs.declared.history.HistEntry.{HistEntry}
+use Rattle.grs_wire.specs.History.{code_of}
 use Rattle.grs_wire.specs.declared.history.HistEntry.TheVariants.{Enq, Deq, Release, Look, Remove}
-use Rattle.grs_known.proofs.lists.Facts.{filter-push_kept, filter-push_left, slice_get-past}
+use Rattle.grs_known.proofs.lists.Facts.{filter-push_kept, filter-push_left}
+use Rattle.grs_base.specs.declared.line.Line.TheVariants as written
+use Rattle.grs_legal.specs.declared.meaning.Meaning.TheVariants as lines
 
 -- these entries are the first of what is asked, in order, and none is of a task's end
 abbrev pub AreAsked : List Ask → List HistEntry → Type 0

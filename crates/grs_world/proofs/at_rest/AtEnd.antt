@@ -1,81 +1,55 @@
 -- Where nothing goes on and nothing is outstanding, owners and replies were told.
-use Rattle.std.proofs.Common.{◌≡◌, ◌≢◌, ◌<◌, ◌≤◌, ◌-◌, ◌+◌, ℕ, zero, suc, Bool, true, false, cond, not, ◌&&◌, ◌||◌}
-use Rattle.std.proofs.Common.{List, [], ◌∷◌, ◌++◌, length, take, Option, Some, None, refl, ap, sym, ◌∙◌, subst, arith}
-use Rattle.std.proofs.Common.{leb, leb-true, leb-false, length-append, length-drop, length-take}
-use Rattle.std.specs.Prelude.{◌==◌, drop, is_some, nat_lt, slice_get}
-use Rattle.std.specs.List.{list_any, list_all}
-use Rattle.std.proofs.lemmas.Bool.{and_from, and_parts, eq-eqb, eqb-true, ltb-true, or_left, or_right}
-use Rattle.std.proofs.lemmas.Bool.{ne_eqb, not-true}
+use Rattle.grs_world.proofs.Common.{[], ◌&&◌, ◌++◌, ◌+◌, ◌-◌, ◌<◌, ◌==◌, ◌||◌, ◌∙◌, ◌∷◌, ◌≡◌, ◌≢◌, ◌≤◌, all-filter}
+use Rattle.grs_world.proofs.Common.{and_from, and_parts, ap, arith, asks_of, Bool, cond, Deck, Display, Each}
+use Rattle.grs_world.proofs.Common.{entry_of_line, eq-eqb, eqb-true, Event, false, false_by, goes_on, has, has_res}
+use Rattle.grs_world.proofs.Common.{has_task, hist, HistEntry, history, is_by, is_code_of, is_leaving, is_line_of}
+use Rattle.grs_world.proofs.Common.{is_marked, is_some, is_task, is_unmarked, is_unsent, IsGood, IsHere, IsHistory}
+use Rattle.grs_world.proofs.Common.{IsOurs, IsRec, IsTask, items, items_are_history, known-all, LegalFrom, length}
+use Rattle.grs_world.proofs.Common.{length-append, line_entries, lines_of, lines_of_told, List, list_all, list_any}
+use Rattle.grs_world.proofs.Common.{list_of, lists, lists_after, ltb-true, Meaning, mine, Moment, nat_lt, ne_eqb}
+use Rattle.grs_world.proofs.Common.{no_truth, NodeState, None, not, not-true, Opens, Option, or_left, or_right}
+use Rattle.grs_world.proofs.Common.{OrdersFit, owns, Past, past_of, Phase, Rec, refl, replay, replayed, Res, run}
+use Rattle.grs_world.proofs.Common.{RunItem, same_res, same_res-exact, same_res-itself, same_Some, same_task}
+use Rattle.grs_world.proofs.Common.{same_task-exact, same_task-itself, slice_get, slice_get-past, slice_get_within}
+use Rattle.grs_world.proofs.Common.{Some, some_of, Speaks, speaks-known, state_of, subst, suc, sym, SysId, take}
+use Rattle.grs_world.proofs.Common.{take-none, TaskId, TaskState, TasksView, tells_control, Told, ToldLine, true, Wait}
+use Rattle.grs_world.proofs.Common.{zero, ℕ}
+use Rattle.std.proofs.Common.{leb, leb-true, leb-false, length-drop, length-take}
+use Rattle.std.specs.Prelude.{drop}
 use Rattle.std.proofs.lemmas.Map.Views.{any-filter_same}
-use Rattle.std.proofs.lemmas.Option.{same_Some, slice_get_within}
-use Rattle.grs_base.specs.Lists.{owns, has_task}
-use Rattle.grs_base.specs.Same.{same_res, same_task}
-use Rattle.grs_base.specs.State.{list_of}
-use Rattle.grs_base.specs.declared.decision.Code.TheVariants.{Wait}
-use Rattle.grs_base.specs.declared.resource.Res.{Res}
-use Rattle.grs_base.specs.declared.resource.SysId.{SysId}
-use Rattle.grs_base.specs.declared.resource.TaskId.{TaskId}
-use Rattle.grs_base.proofs.SameLaws.{same_res-exact, same_task-exact, same_task-itself, same_res-itself}
-use Rattle.grs_legal.specs.Asks.{asks_in, asks_of, is_silent, lines_of, looks_in}
-use Rattle.grs_legal.specs.Legal.{LegalFrom, ask_in, line_entries, end_among, entries_of, last_entry}
-use Rattle.grs_legal.specs.declared.meaning.Display.{Display}
-use Rattle.grs_legal.specs.declared.meaning.Meaning.{Meaning}
-use Rattle.grs_node.specs.Node.{NodeState, goes_on}
-use Rattle.grs_wire.specs.History.{code_of, replay, is_by}
-use Rattle.grs_wire.specs.declared.deck.Deck.{Deck}
-use Rattle.grs_wire.specs.declared.deck.Event.{Event}
-use Rattle.grs_wire.specs.declared.history.HistEntry.{HistEntry}
-use Rattle.grs_wire.specs.declared.history.HistEntry.TheVariants as entries
-use Rattle.grs_wire.specs.declared.told.Told.{Told}
-use Rattle.grs_wire.specs.declared.told.ToldLine.{ToldLine}
-use Rattle.grs_wire.specs.declared.told.ToldLine.TheVariants as told
-use Rattle.task_state.specs.Replies.{is_leaving}
-use Rattle.task_state.specs.View.{TasksView, is_task, state_of}
-use Rattle.task_state.specs.declared.state.Phase.{Phase}
-use Rattle.task_state.specs.declared.state.Phase.TheVariants as phases
-use Rattle.task_state.specs.declared.state.Rec.{Rec}
-use Rattle.task_state.specs.declared.state.TaskState.{TaskState}
-use Rattle.grs_known.proofs.known.Histories.{IsHistory, replayed, OrdersFit}
-use Rattle.grs_known.proofs.known.ItemLaws.{items_are_history, entries_are_of_items}
-use Rattle.grs_known.proofs.known.Knows.{knows-closed, speaks-known, known-all}
-use Rattle.grs_known.proofs.lists.Facts.{slice_get-past, some_of, take-none, all-filter}
-use Rattle.grs_known.proofs.lists.Truths.{no_truth, false_by}
-use Rattle.grs_known.proofs.system.Asking.{Opens, unasked-none}
-use Rattle.grs_known.proofs.system.Good.{IsGood}
-use Rattle.grs_known.proofs.system.Ours.{IsHere, IsOurs}
-use Rattle.grs_known.proofs.system.Says.{is_line_of}
-use Rattle.grs_known.proofs.tasks.Invariant.{Each, IsHeld, IsInPhase, IsRec, IsTask, is_unsent, IsHeldLine, IsWaitFor}
-use Rattle.grs_known.proofs.tasks.Invariant.{code_bound, has_res}
-use Rattle.grs_known.specs.Items.{RunItem, history, items, lists, mine}
-use Rattle.grs_known.specs.Past.{Past, Speaks, past_of, has_own}
-use Rattle.grs_known.specs.Told.{AgreesOf, asked_at, asks_at, entries_of_line, entry_of_line, is_code_of, is_end_of}
-use Rattle.grs_known.specs.Told.{tells_control, is_code_before}
+use Rattle.grs_legal.specs.Asks.{asks_in, is_silent, looks_in}
+use Rattle.grs_legal.specs.Legal.{ask_in, end_among, entries_of, last_entry}
+use Rattle.grs_wire.specs.History.{code_of}
+use Rattle.grs_known.proofs.known.ItemLaws.{entries_are_of_items}
+use Rattle.grs_known.proofs.known.Knows.{knows-closed}
+use Rattle.grs_known.proofs.system.Asking.{unasked-none}
+use Rattle.grs_known.proofs.tasks.Invariant.{IsHeld, IsInPhase, IsHeldLine, IsWaitFor, code_bound}
+use Rattle.grs_known.specs.Past.{has_own}
+use Rattle.grs_known.specs.Told.{AgreesOf, asked_at, asks_at, entries_of_line, is_end_of, is_code_before}
 use Rattle.grs_node.specs.Log.{end_in}
 use Rattle.grs_wire.specs.declared.seen.TaskEnd.TheVariants.{Ended}
-use Rattle.grs_wire.specs.declared.seen.TaskEnd.TheVariants as ends
-use Rattle.grs_legal.specs.declared.meaning.Meaning.TheVariants as lines
 use Rattle.grs_known.proofs.known.Knowing.{all_is_known}
 use Rattle.grs_known.proofs.lists.Lines.{asks-same, asks_of-place}
 use Rattle.grs_known.proofs.lists.Own.{has_task-own}
 use Rattle.grs_known.proofs.tasks.Keys.{has_res-own}
 use Rattle.grs_known.specs.Known.{learned}
 use Rattle.grs_world.proofs.at_rest.AsAsked.{AreAsked, display-looks, entries-asked, look-first}
-use Rattle.grs_known.proofs.records.Control.{is_unmarked}
 use Rattle.grs_world.proofs.at_rest.Held.{WaitsOn, all-well, first-found, no-tells, none-earlier, not-both, uncoded}
 use Rattle.grs_world.proofs.at_rest.Held.{unmarked-has, waits-among, waits_well}
 use Rattle.grs_world.specs.Running.{end_at, task_end, end_of, end_removed}
-use Rattle.grs_known.proofs.records.Marks.{is_marked}
 use Rattle.grs_world.proofs.at_rest.Steps.{AllDate, one-task}
 use Rattle.grs_known.proofs.tasks.UpToDate.{is_code_at, is_end_at, is_placed, is_kept}
 use Rattle.grs_known.specs.Passed.{has_code, passed_by}
 use Rattle.grs_world.proofs.run.Runs.{GoodTold}
-use Rattle.grs_world.specs.Agree.{AgreesBy, AllAgree, Moment, lines_of_told, moment}
+use Rattle.grs_world.specs.Agree.{AgreesBy, AllAgree, moment}
 use Rattle.grs_world.specs.AtRest.{DisplaysAreTold, IsThere, OwnersAreTold, RepliesAreTold, is_coded, is_waiting}
-use Rattle.grs_world.specs.AtRest.{lists_after, IsWaiting}
-use Rattle.grs_world.specs.AtRest.{TasksWait, first_uncoded, is_next, is_uncoded, is_wait, stands_at, waits_at}
-use Rattle.grs_world.specs.AtRest.{waits_on}
-use Rattle.grs_world.specs.World.{hist, run}
-use Rattle.grs_wire.specs.Masks.{has}
+use Rattle.grs_world.specs.AtRest.{IsWaiting, TasksWait, first_uncoded, is_next, is_uncoded, is_wait, stands_at}
+use Rattle.grs_world.specs.AtRest.{waits_at, waits_on}
+use Rattle.grs_wire.specs.declared.history.HistEntry.TheVariants as entries
+use Rattle.grs_wire.specs.declared.told.ToldLine.TheVariants as told
+use Rattle.task_state.specs.declared.state.Phase.TheVariants as phases
+use Rattle.grs_wire.specs.declared.seen.TaskEnd.TheVariants as ends
+use Rattle.grs_legal.specs.declared.meaning.Meaning.TheVariants as lines
 
 -- System s, where these items were fixed: nothing goes on by itself and nothing is outstanding, and who owns by all
 -- items is marked.

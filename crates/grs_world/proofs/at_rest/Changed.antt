@@ -1,32 +1,11 @@
 -- A system that changes to star mode: its records get ranks, and else its tasks stand as they did.
-use Rattle.std.proofs.Common.{◌≡◌, ℕ, Bool, true, false, List, [], ◌∷◌, refl, ap, sym, ◌∙◌, subst}
-use Rattle.std.specs.Prelude.{◌==◌}
-use Rattle.std.specs.List.{list_all}
-use Rattle.std.proofs.lemmas.Bool.{and_parts, eqb-true, eqb-false}
-use Rattle.grs_base.specs.Lists.{has_task, owns}
-use Rattle.grs_base.specs.State.{is_systems, list_of}
-use Rattle.grs_base.specs.declared.resource.Elem.{Elem}
-use Rattle.grs_base.specs.declared.resource.Res.{Res}
-use Rattle.grs_base.specs.declared.resource.TaskId.{TaskId}
-use Rattle.grs_legal.specs.declared.meaning.Meaning.{Meaning}
-use Rattle.grs_node.specs.Change.{one_by_one, with_first_look, with_list_ranks, with_rank_by, with_ranks}
-use Rattle.grs_node.specs.Node.{NodeState, change_to_star}
-use Rattle.grs_wire.specs.declared.deck.Deck.{Deck}
-use Rattle.grs_wire.specs.declared.request.Req.{Req}
-use Rattle.grs_wire.specs.declared.request.Want.{Want}
-use Rattle.grs_wire.specs.declared.request.Want.TheVariants.{Enq, Deq, Release, Look}
-use Rattle.grs_wire.specs.declared.told.ToldLine.{ToldLine}
-use Rattle.grs_wire.proofs.WantLaws.{by_test}
-use Rattle.lock_structure.specs.RankedRows.{RankedRow}
-use Rattle.mode_migrate.specs.Migrate.{ranked_by}
-use Rattle.task_state.specs.View.{TasksView, is_sent, is_task, on_record, state_of, with_rank}
-use Rattle.task_state.specs.declared.state.TaskState.{TaskState}
-use Rattle.grs_known.proofs.lists.Truths.{false_by}
-use Rattle.grs_known.proofs.system.Did.{Did}
-use Rattle.grs_known.proofs.system.Ours.{IsOurs}
-use Rattle.grs_known.proofs.tasks.Invariant.{has_res}
+use Rattle.grs_world.proofs.Common.{[], ◌==◌, ◌∙◌, ◌∷◌, ◌≡◌, and_parts, ap, Bool, by_test, change_to_star, Deck, Deq}
+use Rattle.grs_world.proofs.Common.{Did, Elem, Enq, eqb-false, eqb-true, false, false_by, has_res, has_task, is_marked}
+use Rattle.grs_world.proofs.Common.{is_sent, is_systems, is_task, IsOurs, List, list_all, list_of, Look, Meaning}
+use Rattle.grs_world.proofs.Common.{NodeState, on_record, one_by_one, owns, ranked_by, RankedRow, refl, Release, Req}
+use Rattle.grs_world.proofs.Common.{Res, state_of, subst, sym, TaskId, TaskState, TasksView, ToldLine, true, Want}
+use Rattle.grs_world.proofs.Common.{with_first_look, with_list_ranks, with_rank, with_rank_by, with_ranks, ℕ}
 use Rattle.grs_world.proofs.at_rest.Events.{date-any, date-one_by_one, date-ranks, did-first, here-all, here-look}
-use Rattle.grs_known.proofs.records.Marks.{is_marked}
 use Rattle.grs_world.proofs.at_rest.Ring.{IsRead}
 use Rattle.grs_world.proofs.at_rest.StarTasks.{IsDated, at-place, dated-by}
 use Rattle.grs_world.proofs.at_rest.Steps.{AllDate}

@@ -1,13 +1,7 @@
 -- Where a run is at rest, in either mode, nothing is lost.
-use Rattle.std.proofs.Common.{◌≡◌, true, List, Some, ℕ, false}
-use Rattle.std.specs.Prelude.{slice_get}
-use Rattle.grs_node.specs.Node.{NodeState}
+use Rattle.grs_world.proofs.Common.{◌≡◌, at_rest, Deck, Event, false, FitsStar, has, IsHistory, items, List}
+use Rattle.grs_world.proofs.Common.{may_be_star, NodeState, NoneInStar, run, slice_get, Some, true, ℕ}
 use Rattle.grs_wire.specs.Decks.{IsBounded}
-use Rattle.grs_wire.specs.declared.deck.Deck.{Deck}
-use Rattle.grs_wire.specs.declared.deck.Event.{Event}
-use Rattle.grs_known.proofs.known.Histories.{IsHistory}
-use Rattle.grs_known.specs.Items.{items}
-use Rattle.grs_world.specs.InStar.{NoneInStar}
 use Rattle.grs_world.proofs.move.Sound.{GoodRun, every_run, good_history, good_told, in_ring, in_star}
 use Rattle.grs_world.proofs.at_rest.AtEnd.{IsStill, displays-told, owners-told, replies-told, tasks-wait}
 use Rattle.grs_world.proofs.at_rest.Full.{full_run}
@@ -19,10 +13,6 @@ use Rattle.grs_world.proofs.at_rest.Units.{units-reserved}
 use Rattle.grs_world.proofs.run.Runs.{GoodTold}
 use Rattle.grs_world.specs.AtRest.{DisplaysAreTold, OwnersAreTold, RepliesAreTold, RestsInTheEnd, TasksWait}
 use Rattle.grs_world.specs.AtRest.{UnitsAreReserved}
-use Rattle.grs_world.specs.Decks.{FitsStar, may_be_star}
-use Rattle.grs_world.specs.Running.{at_rest}
-use Rattle.grs_world.specs.World.{run}
-use Rattle.grs_wire.specs.Masks.{has}
 use Rattle.grs_world.proofs.at_rest.Homes.{homes_run}
 use Rattle.grs_world.proofs.at_rest.Passing.{passed-told}
 

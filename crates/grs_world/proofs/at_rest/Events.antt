@@ -1,60 +1,33 @@
 -- Each task of a system stays up to date in every event of the system.
-use Rattle.std.proofs.Common.{◌≡◌, ◌-◌, ◌+◌, ℕ, Bool, true, false, cond, not, ◌&&◌, ◌||◌, List, [], ◌∷◌, ◌++◌, Option}
-use Rattle.std.proofs.Common.{Some, None, refl, ap, sym, ◌∙◌, subst, arith, zero, suc}
-use Rattle.std.specs.List.{list_all}
-use Rattle.std.specs.Prelude.{◌==◌, get_or, map, nat_lt}
-use Rattle.std.proofs.lemmas.List.{length-map}
-use Rattle.std.specs.Option.{option_map}
-use Rattle.std.proofs.lemmas.Bool.{and_parts, and_from}
-use Rattle.grs_base.specs.Same.{same_res}
-use Rattle.grs_base.specs.State.{State}
-use Rattle.grs_base.specs.declared.resource.Elem.{Elem}
-use Rattle.grs_base.specs.declared.resource.Res.{Res}
-use Rattle.grs_base.specs.declared.resource.TaskId.{TaskId}
-use Rattle.grs_legal.specs.Asks.{lines_of}
-use Rattle.grs_legal.specs.declared.meaning.Meaning.{Meaning}
-use Rattle.grs_node.specs.Change.{first_look, more_left, one_by_one, with_first_look, with_list_ranks, with_rank_by}
-use Rattle.grs_node.specs.Change.{with_ranks}
-use Rattle.grs_node.specs.Node.{NodeState, all_sent, is_of_deck, read_entries, read_entry}
-use Rattle.grs_node.specs.Removal.{again, has_sent_in, sent_again}
-use Rattle.grs_node.specs.Star.{StarPart}
-use Rattle.grs_wire.specs.Wants.{answer_to, new_owners, res_wanted, is_for_all}
+use Rattle.grs_world.proofs.Common.{[], ◌&&◌, ◌++◌, ◌+◌, ◌-◌, ◌==◌, ◌||◌, ◌∙◌, ◌∷◌, ◌≡◌, all_sent, and_from, and_parts}
+use Rattle.grs_world.proofs.Common.{Answer, answer_own, answer_to, any-more, ap, arith, Asked, Bool, by_test, cond}
+use Rattle.grs_world.proofs.Common.{Deck, Deq, Did, did-none, did-outstanding, did-phase, Each, Elem, Enq, false}
+use Rattle.grs_world.proofs.Common.{get_or, is_for_all, is_of_deck, is_sent, is_task, is_task-telling, is_unmarked}
+use Rattle.grs_world.proofs.Common.{IsWanted, IsWantedBy, length-map, lines_of, List, list_all, Look, Meaning, nat_lt}
+use Rattle.grs_world.proofs.Common.{new_owners, new_task, NodeState, None, not, on_record, one_by_one, Option}
+use Rattle.grs_world.proofs.Common.{option_map, Phase, process, process_entry, RankedRow, read_entries, read_entry, Rec}
+use Rattle.grs_world.proofs.Common.{refl, Release, Remove, Req, Request, Res, res_wanted, RingBody, RingEntry, Rows}
+use Rattle.grs_world.proofs.Common.{rows_of, same_res, sent_again, Showing, side_of, Some, some_of, StarPart, State}
+use Rattle.grs_world.proofs.Common.{state_of, state_of-telling, subst, suc, sym, TaskId, TaskState, TasksView}
+use Rattle.grs_world.proofs.Common.{tell_answer, tell_answer_any, tell_answer_ranked, telling, told-telling, ToldLine}
+use Rattle.grs_world.proofs.Common.{true, unrecorded, Want, with_first_look, with_list_ranks, with_outstanding}
+use Rattle.grs_world.proofs.Common.{with_phase, with_rank, with_rank_by, with_rank_of, with_ranks, zero, ℕ}
+use Rattle.std.specs.Prelude.{map}
+use Rattle.grs_node.specs.Change.{first_look, more_left}
+use Rattle.grs_node.specs.Removal.{again, has_sent_in}
 use Rattle.grs_wire.specs.contracts.request.WantPartialEq.TheImpl.{eq-value as same_want}
-use Rattle.grs_wire.specs.declared.deck.Deck.{Deck}
-use Rattle.grs_wire.specs.declared.medium.RingBody.{RingBody}
-use Rattle.grs_wire.specs.declared.medium.RingBody.TheVariants.{Request, Remove}
-use Rattle.grs_wire.specs.declared.medium.RingEntry.{RingEntry}
-use Rattle.grs_wire.specs.declared.request.Answer.{Answer}
-use Rattle.grs_wire.specs.declared.request.Answer.TheVariants.{Coded as CodedBy, Rows}
-use Rattle.grs_wire.specs.declared.request.Req.{Req}
-use Rattle.grs_wire.specs.declared.request.Want.{Want}
-use Rattle.grs_wire.specs.declared.request.Want.TheVariants.{Enq, Deq, Release, Look}
-use Rattle.grs_wire.specs.declared.told.ToldLine.{ToldLine}
-use Rattle.grs_wire.proofs.WantLaws.{by_test}
-use Rattle.lock_structure.specs.RankedRows.{RankedRow}
-use Rattle.ring_mode.specs.Ring.{Side, answer_own, is_asked, process, process_entry, side_of}
-use Rattle.star_client.specs.Client.{can_get, tell_answer_ranked, unrecorded, with_rank_of}
-use Rattle.task_state.specs.Replies.{tell_answer, tell_answer_any}
-use Rattle.task_state.specs.View.{TasksView, is_sent, is_task, new_task, on_record, state_of, telling, with_outstanding}
-use Rattle.task_state.specs.View.{with_phase, with_rank}
-use Rattle.task_state.specs.declared.state.Asked.{Asked}
-use Rattle.task_state.specs.declared.state.Phase.{Phase}
-use Rattle.task_state.specs.declared.state.Phase.TheVariants as phases
-use Rattle.task_state.specs.declared.state.Rec.{Rec}
-use Rattle.task_state.specs.declared.state.Showing.{Showing}
-use Rattle.task_state.specs.declared.state.TaskState.{TaskState}
-use Rattle.task_state.proofs.ViewLaws.{is_task-state, is_task-telling, state_of-telling, told-telling}
-use Rattle.grs_known.proofs.lists.Facts.{any-more, some_of}
-use Rattle.grs_known.proofs.system.Did.{Did, did-none, did-outstanding, did-phase, did-state}
-use Rattle.grs_known.proofs.tasks.Invariant.{Each}
+use Rattle.grs_wire.specs.declared.request.Answer.TheVariants.{Coded as CodedBy}
+use Rattle.ring_mode.specs.Ring.{Side, is_asked}
+use Rattle.star_client.specs.Client.{can_get}
+use Rattle.task_state.proofs.ViewLaws.{is_task-state}
+use Rattle.grs_known.proofs.system.Did.{did-state}
 use Rattle.grs_known.proofs.tasks.Answered.{IsAnswerTo, answer-told}
-use Rattle.grs_known.proofs.records.Control.{is_unmarked}
 use Rattle.grs_world.proofs.at_rest.Steps.{AllDate, date-did, date-new, date-own, placed-here}
-use Rattle.grs_known.proofs.tasks.UpToDate.{AreCoded, HasUnit, IsLeft, IsUpToDate, IsWanted, IsWantedBy, any-date}
-use Rattle.grs_known.proofs.tasks.UpToDate.{any-wanted, is_kept, more-told}
+use Rattle.grs_known.proofs.tasks.UpToDate.{AreCoded, HasUnit, IsLeft, IsUpToDate, any-date, any-wanted, is_kept}
+use Rattle.grs_known.proofs.tasks.UpToDate.{more-told}
 use Rattle.grs_known.specs.Passed.{is_at_line, passed_asking, passed_by}
-use Rattle.grs_base.specs.Rows.{rows_of}
 use Rattle.grs_world.proofs.at_rest.Freed.{date-freed}
+use Rattle.task_state.specs.declared.state.Phase.TheVariants as phases
 
 -- ---- the answer to an outstanding request
 -- a task of the deck that has this outstanding gets its answer

@@ -1,44 +1,31 @@
 -- A deck that is read has so few lines that no run of it asks more ENQs than there are ranks.
-use Rattle.std.proofs.Common.{◌≡◌, ◌≢◌, ◌<◌, ◌≤◌, ◌+◌, ◌*◌, ℕ, zero, suc, Bool, true, false, cond, not, ◌&&◌, List, []}
-use Rattle.std.proofs.Common.{◌∷◌, ◌++◌, length, map, Option, Some, None, refl, ap, sym, ◌∙◌, subst, arith}
-use Rattle.std.proofs.Common.{length-append, leb-true, le-leb}
-use Rattle.std.specs.Prelude.{◌==◌, All, IsSomeAnd, filter, get_or, is_some, nat_le, nat_lt, slice_get}
-use Rattle.std.specs.List.{list_all}
-use Rattle.std.proofs.lemmas.Bool.{and_from, and_parts, eq-eqb, eqb-true, eqb-false, ltb-true, lt-ltb}
-use Rattle.std.proofs.lemmas.Option.{get_or_from_slice_get, slice_get_within}
-use Rattle.std.proofs.lemmas.List.Folds.{list_all-append}
-use Rattle.std.proofs.lemmas.List.{length-map}
-use Rattle.grs_base.specs.Same.{same_task}
-use Rattle.grs_base.specs.declared.resource.TaskId.{TaskId}
-use Rattle.grs_legal.specs.Asks.{Script, asks_of, lines_at}
-use Rattle.grs_legal.specs.Asks.{lines_of, meaning_of, meanings, scripts_at, scripts_from, scripts_in}
-use Rattle.grs_legal.specs.Legal.{LegalFrom, IsLegal, is_of_line, line_entries}
-use Rattle.grs_legal.specs.declared.meaning.Meaning.{Meaning}
-use Rattle.grs_wire.specs.History.{is_by, entries_for, fixed_entries, look_entries}
+use Rattle.grs_world.proofs.Common.{[], ◌&&◌, ◌*◌, ◌++◌, ◌+◌, ◌<◌, ◌==◌, ◌∙◌, ◌∷◌, ◌≡◌, ◌≢◌, ◌≤◌, and_from, and_parts}
+use Rattle.grs_world.proofs.Common.{ap, arith, asks_of, Bool, cond, Deck, entries_for, eq-eqb, eqb-false, eqb-true}
+use Rattle.grs_world.proofs.Common.{false, Filter, filter, Fixed, fixed_entries, get_or, HistEntry, history, is_by}
+use Rattle.grs_world.proofs.Common.{is_some, is_task, IsHistory, last_number, LegalFrom, length, length-append}
+use Rattle.grs_world.proofs.Common.{length-map, line_entries, lines_of, List, list_all, list_all-append, lists, lt-ltb}
+use Rattle.grs_world.proofs.Common.{ltb-true, map, Meaning, meanings, nat_le, nat_lt, new_tasks, no_truth, None, not}
+use Rattle.grs_world.proofs.Common.{Option, refl, RunItem, same_place, same_task, slice_get, slice_get_within, Some}
+use Rattle.grs_world.proofs.Common.{some_of, State, subst, suc, sym, SysId, SystemDef, TaskId, TasksView, true, Want}
+use Rattle.grs_world.proofs.Common.{zero, ℕ}
+use Rattle.std.proofs.Common.{leb-true, le-leb}
+use Rattle.std.specs.Prelude.{All, IsSomeAnd}
+use Rattle.std.proofs.lemmas.Option.{get_or_from_slice_get}
+use Rattle.grs_legal.specs.Asks.{Script, lines_at, meaning_of, scripts_at, scripts_from, scripts_in}
+use Rattle.grs_legal.specs.Legal.{IsLegal, is_of_line}
+use Rattle.grs_wire.specs.History.{look_entries}
 use Rattle.grs_wire.specs.Decks.{IsBounded, IsWithin, task_count}
-use Rattle.grs_wire.specs.declared.deck.Deck.{Deck}
 use Rattle.grs_wire.specs.declared.deck.JobDef.{JobDef}
-use Rattle.grs_wire.specs.declared.deck.SystemDef.{SystemDef}
 use Rattle.grs_wire.specs.declared.deck.TaskDef.{TaskDef}
 use Rattle.grs_wire.proofs.DeckLaws.{lines_few}
-use Rattle.task_state.specs.View.{TasksView, is_task, new_tasks}
-use Rattle.grs_known.proofs.system.Ours.{same_place, script_at}
-use Rattle.grs_base.specs.Limits.{most_lines, last_number}
-use Rattle.grs_wire.specs.declared.history.HistEntry.{HistEntry}
-use Rattle.grs_wire.specs.declared.history.HistEntry.TheVariants as entries
-use Rattle.grs_known.proofs.lists.Facts.{some_of}
-use Rattle.grs_known.proofs.lists.Truths.{no_truth}
-use Rattle.grs_base.specs.State.{State}
-use Rattle.grs_base.specs.declared.resource.SysId.{SysId}
-use Rattle.grs_base.specs.declared.look.Filter.{Filter}
-use Rattle.grs_wire.specs.declared.request.Fixed.{Fixed}
-use Rattle.grs_wire.specs.declared.request.Fixed.TheVariants as fixing
-use Rattle.grs_wire.specs.declared.request.Want.{Want}
-use Rattle.grs_wire.specs.declared.request.Want.TheVariants as wants
-use Rattle.grs_known.specs.Items.{AllMade, RunItem, history, lists}
-use Rattle.grs_known.proofs.known.Histories.{IsHistory}
+use Rattle.grs_known.proofs.system.Ours.{script_at}
+use Rattle.grs_base.specs.Limits.{most_lines}
+use Rattle.grs_known.specs.Items.{AllMade}
 use Rattle.grs_world.proofs.at_rest.AsAsked.{asked-few, asks-few, entries-asked}
 use Rattle.grs_world.proofs.star.Heard.{enq_count, is_enq, is_enq_want}
+use Rattle.grs_wire.specs.declared.history.HistEntry.TheVariants as entries
+use Rattle.grs_wire.specs.declared.request.Fixed.TheVariants as fixing
+use Rattle.grs_wire.specs.declared.request.Want.TheVariants as wants
 
 -- ---- counting by classes
 -- fewer pass a stronger test

@@ -1,43 +1,28 @@
 -- Where another system is removed, a system tells its tasks control by what is left of each list of the whole complex:
 -- who becomes owner and is on record is marked then, and what was marked stays so.
-use Rattle.std.proofs.Common.{◌≡◌, ℕ, Bool, true, false, cond, not, ◌&&◌, ◌||◌, List, [], ◌∷◌, map, Some, refl, ap, sym}
-use Rattle.std.proofs.Common.{◌∙◌, subst}
-use Rattle.std.specs.Prelude.{◌==◌, filter, take}
-use Rattle.std.specs.List.{list_any}
+use Rattle.grs_world.proofs.Common.{[], ◌&&◌, ◌==◌, ◌||◌, ◌∙◌, ◌∷◌, ◌≡◌, and_from, and_parts, ap, AreLists, Bool, cond}
+use Rattle.grs_world.proofs.Common.{Deck, Elem, false, false_by, filter, freed, has_res, has_task, is_among, is_marked}
+use Rattle.grs_world.proofs.Common.{is_systems, is_task, List, list_any, list_of, map, Matches, no_truth, not, or_left}
+use Rattle.grs_world.proofs.Common.{or_right, owns, owns-has, Phase, refl, remove_state, Res, Row, rows-lists, rows_of}
+use Rattle.grs_world.proofs.Common.{same_res, same_res-exact, same_res-itself, same_task, same_task-exact, Some, State}
+use Rattle.grs_world.proofs.Common.{state_of, subst, sym, TaskId, TasksView, tell_freed, tell_new, true, ℕ}
+use Rattle.std.specs.Prelude.{take}
 use Rattle.std.specs.FinMap.{put}
 use Rattle.std.specs.FinMap.Entries.{by_order}
 use Rattle.std.specs.Ordering.{is_eq}
 use Rattle.std.specs.declared.cmp.Ordering.{Ordering}
 use Rattle.std.specs.declared.cmp.Ordering.TheVariants.{Less, Equal, Greater}
-use Rattle.std.proofs.lemmas.Bool.{and_from, and_parts, or_left, or_right}
-use Rattle.grs_base.specs.Lists.{has_task, owners, owns}
+use Rattle.grs_base.specs.Lists.{owners}
 use Rattle.grs_base.specs.ResOrder.{res_order}
-use Rattle.grs_base.specs.Rows.{lists_from, row_of, rows_of}
-use Rattle.grs_base.specs.Same.{same_res, same_task}
-use Rattle.grs_base.specs.State.{State, is_of_other, is_systems, list_of, remove_state}
-use Rattle.grs_base.specs.declared.resource.Elem.{Elem}
-use Rattle.grs_base.specs.declared.resource.Res.{Res}
-use Rattle.grs_base.specs.declared.resource.Row.{Row}
-use Rattle.grs_base.specs.declared.resource.TaskId.{TaskId}
+use Rattle.grs_base.specs.Rows.{lists_from, row_of}
+use Rattle.grs_base.specs.State.{is_of_other}
 use Rattle.grs_base.proofs.OrderLaws.{same_res-tie}
-use Rattle.grs_base.proofs.SameLaws.{same_res-exact, same_res-itself, same_task-exact}
-use Rattle.grs_wire.specs.declared.deck.Deck.{Deck}
 use Rattle.grs_wire.proofs.RemoveLaws.{list_of-remove}
-use Rattle.freed_owners.specs.Freed.{freed, newcomers}
-use Rattle.system_purge.specs.Purge.{tell_freed}
-use Rattle.task_state.specs.Replies.{tell_new}
-use Rattle.task_state.specs.View.{TasksView, is_task, state_of}
-use Rattle.task_state.specs.declared.state.Phase.{Phase}
-use Rattle.task_state.specs.declared.state.Phase.TheVariants as phases
-use Rattle.grs_known.proofs.lists.All.{owns-has}
-use Rattle.grs_known.proofs.lists.Owners.{is_among, is_among-pick, owns-any}
-use Rattle.grs_known.proofs.lists.Rows.{AreLists, rows-lists}
-use Rattle.grs_known.proofs.lists.Truths.{false_by, no_truth}
-use Rattle.grs_known.proofs.tasks.Invariant.{has_res}
-use Rattle.grs_known.proofs.records.Lists.{Matches}
-use Rattle.grs_known.proofs.records.Marks.{is_marked}
+use Rattle.freed_owners.specs.Freed.{newcomers}
+use Rattle.grs_known.proofs.lists.Owners.{is_among-pick, owns-any}
 use Rattle.grs_world.proofs.at_rest.Steps.{AllDate, date-new}
 use Rattle.grs_known.proofs.records.ToldAll.{ToldAll, told-all}
+use Rattle.task_state.specs.declared.state.Phase.TheVariants as phases
 
 -- ---- who is told
 -- whether a task gets control of a resource by one of these lists

@@ -1,89 +1,52 @@
 -- As many tasks as there are of a system there are of it in the deck, in every run: no event makes or ends one.
-use Rattle.std.proofs.Common.{◌≡◌, ℕ, zero, suc, Bool, true, false, cond, List, [], ◌∷◌, length, take, Option, Some}
-use Rattle.std.proofs.Common.{None, refl, ap, ◌∙◌}
-use Rattle.std.specs.Prelude.{◌==◌, ◌&&◌, filter, is_none, nat_lt, slice_get}
-use Rattle.std.proofs.lemmas.List.{length-map}
-use Rattle.grs_wire.specs.declared.told.ToldLine.{ToldLine}
-use Rattle.grs_base.specs.declared.resource.Ret.{Ret}
-use Rattle.grs_base.specs.declared.resource.Ctl.{Ctl}
-use Rattle.grs_base.specs.declared.decision.Code.{Code}
-use Rattle.grs_base.specs.declared.decision.Code.TheVariants.{C00, C04, C08, C14, C18, Wait, End}
-use Rattle.grs_base.specs.declared.resource.Elem.{Elem}
-use Rattle.grs_base.specs.declared.resource.Res.{Res}
-use Rattle.grs_base.specs.declared.resource.SysId.{SysId}
-use Rattle.grs_base.specs.declared.resource.TaskId.{TaskId}
-use Rattle.grs_legal.specs.Asks.{lines_of, scripts_of}
-use Rattle.grs_medium.specs.Medium.{MediumState}
-use Rattle.grs_node.specs.Star.{StarPart, answer_for, begun, decide_own, fixing_none, own_step, owners_by, rank_of}
-use Rattle.grs_node.specs.Star.{request_of}
-use Rattle.grs_node.specs.Names.{names_of}
-use Rattle.grs_node.specs.Removal.{members, sent_again, standing, without_those}
-use Rattle.grs_wire.specs.declared.deck.Choice.{Choice}
-use Rattle.grs_wire.specs.declared.deck.Event.{Event}
-use Rattle.grs_wire.specs.declared.medium.Mail.{Mail}
-use Rattle.grs_wire.specs.declared.medium.Mail.TheVariants.{Request as RequestMail, Answered as AnsweredMail, Granted}
-use Rattle.grs_wire.specs.declared.medium.Mail.TheVariants.{Notice, Part}
-use Rattle.grs_wire.specs.declared.told.Said.{Said}
-use Rattle.grs_wire.specs.declared.told.Said.TheVariants as saids
+use Rattle.grs_world.proofs.Common.{[], ◌==◌, ◌∙◌, ◌∷◌, ◌≡◌, after_code, after_mail, all_sent, Answer, answer_for}
+use Rattle.grs_world.proofs.Common.{answer_own, answer_to, answered, ap, ask, Asked, begun, Bool, C00, C04, C08, C14}
+use Rattle.grs_world.proofs.Common.{change_to_star, Choice, Code, cond, Ctl, decide, decide_own, Deck, Deq, desk_told}
+use Rattle.grs_world.proofs.Common.{Display, Elem, End, end_step, Enq, Event, false, filter, first_node, fixing_none}
+use Rattle.grs_world.proofs.Common.{freed, goes_on_looking, Granted, has_effect, is_for_all, is_for_deck, is_granted}
+use Rattle.grs_world.proofs.Common.{is_held_for, is_item_of, is_leaving, is_none, is_of_deck, is_task, known_from}
+use Rattle.grs_world.proofs.Common.{length, length-map, lines_of, List, Look, look_around, look_home, looked, losing}
+use Rattle.grs_world.proofs.Common.{Mail, Meaning, MediumState, members, most_additions, names_of, nat_lt, new_owners}
+use Rattle.grs_world.proofs.Common.{new_tasks, NodeState, None, Notice, one_by_one, Option, owners_by, Part}
+use Rattle.grs_world.proofs.Common.{passes_wait, Phase, phase_step, placed, post, process, process_entry, purged}
+use Rattle.grs_world.proofs.Common.{put_in, rank_of, ranked_by, RankedRow, read_entries, read_entry, ready_step, Rec}
+use Rattle.grs_world.proofs.Common.{recalled, record_enq, record_of, refl, Release, Remove, replied, Req, Request}
+use Rattle.grs_world.proofs.Common.{request_of, Res, res_wanted, Ret, RingBody, RingEntry, Row, Rows, rows_of, run}
+use Rattle.grs_world.proofs.Common.{Said, scripts_of, sent_again, show, Showing, side_of, slice_get, Some, stale}
+use Rattle.grs_world.proofs.Common.{standing, StarPart, state_of, Step, suc, switched, SysId, take, take_line}
+use Rattle.grs_world.proofs.Common.{take_mail, task_step, TaskId, TasksView, tell_all, tell_answer, tell_answer_any}
+use Rattle.grs_world.proofs.Common.{tell_answer_any_ranked, tell_answer_ranked, tell_code, tell_control, tell_freed}
+use Rattle.grs_world.proofs.Common.{tell_line, tell_new, tell_rows, tell_untold, telling, ToldLine, took_mail, true}
+use Rattle.grs_world.proofs.Common.{Turnout, unrecorded, unseen, Wait, wait, Want, with_also, with_first_look}
+use Rattle.grs_world.proofs.Common.{with_line, with_list_ranks, with_outstanding, with_phase, with_rank, with_rank_by}
+use Rattle.grs_world.proofs.Common.{with_rank_of, with_ranks, with_rows, with_side, with_tasks, with_told}
+use Rattle.grs_world.proofs.Common.{without_record, without_rows, without_those, World, zero, ℕ}
+use Rattle.std.specs.Prelude.{◌&&◌}
+use Rattle.grs_base.specs.declared.decision.Code.TheVariants.{C18}
+use Rattle.grs_node.specs.Star.{own_step}
+use Rattle.grs_wire.specs.declared.medium.Mail.TheVariants.{Request as RequestMail, Answered as AnsweredMail}
 use Rattle.grs_world.proofs.run.Sound.{first_of}
 use Rattle.grs_world.proofs.run.Each.{each_run}
 use Rattle.grs_world.proofs.run.Runs.{by_node}
-use Rattle.grs_world.specs.World.{Turnout, World, placed, run}
-use Rattle.grs_legal.specs.declared.meaning.Display.{Display}
-use Rattle.grs_legal.specs.declared.meaning.Meaning.{Meaning}
-use Rattle.grs_legal.specs.declared.meaning.Meaning.TheVariants as lines
-use Rattle.grs_node.specs.Change.{one_by_one, with_first_look, with_list_ranks, with_rank_by, with_ranks}
-use Rattle.grs_node.specs.Node.{NodeState, Step, all_sent, ask, change_to_star, decide, desk_told, end_step, first_node}
-use Rattle.grs_node.specs.Node.{is_for_deck, is_of_deck, phase_step, look_around, look_home, show, post, put_in}
-use Rattle.grs_node.specs.Node.{read_entries, read_entry, ready_step, switched, take_line, task_step, wait, with_side}
-use Rattle.grs_node.specs.Node.{changed as changed_now, is_item_of, known_from, losing, purged, stale, take_mail}
-use Rattle.grs_node.specs.Node.{took_mail, with_tasks}
-use Rattle.grs_wire.specs.Wants.{answer_to, new_owners, res_wanted, is_for_all}
-use Rattle.grs_wire.specs.declared.deck.Deck.{Deck}
-use Rattle.grs_wire.specs.declared.medium.RingBody.{RingBody}
-use Rattle.grs_wire.specs.declared.medium.RingBody.TheVariants.{Request, Remove}
-use Rattle.grs_wire.specs.declared.medium.RingEntry.{RingEntry}
-use Rattle.grs_wire.specs.declared.request.Answer.{Answer}
-use Rattle.grs_wire.specs.declared.request.Answer.TheVariants.{Coded, Rows}
-use Rattle.grs_wire.specs.declared.request.Req.{Req}
-use Rattle.grs_wire.specs.declared.request.Want.{Want}
-use Rattle.grs_wire.specs.declared.request.Want.TheVariants.{Enq, Deq, Release, Look}
+use Rattle.grs_node.specs.Node.{changed as changed_now}
+use Rattle.grs_wire.specs.declared.request.Answer.TheVariants.{Coded}
 use Rattle.grs_wire.specs.declared.told.Verb.{Verb}
-use Rattle.grs_wire.specs.declared.told.ToldLine.TheVariants as told
-use Rattle.grs_wire.specs.declared.told.Verb.TheVariants as verbs
-use Rattle.lock_structure.specs.RankedRows.{RankedRow}
-use Rattle.mode_migrate.specs.Migrate.{ranked_by}
-use Rattle.ring_mode.specs.Ring.{answer_own, process, process_entry, side_of}
-use Rattle.star_client.specs.Client.{after_mail, has_effect, tell_answer_any_ranked, tell_answer_ranked, unrecorded}
-use Rattle.star_client.specs.Client.{with_rank_of}
-use Rattle.task_state.specs.Replies.{after_code, answered, goes_on_looking, looked, is_granted, is_held_for, is_leaving}
-use Rattle.task_state.specs.Replies.{passes_wait, phase_after, recalled, record_enq, replied, tell_all, tell_answer}
-use Rattle.task_state.specs.Replies.{tell_answer_any, tell_code, tell_control, tell_line, tell_new, tell_rows}
-use Rattle.task_state.specs.Replies.{tell_untold}
-use Rattle.task_state.specs.View.{with_outstanding, TasksView, is_task, new_tasks, record_of, state_of, telling}
-use Rattle.task_state.specs.View.{with_line, with_phase, with_rank, with_rows, with_told, without_record, without_rows}
-use Rattle.task_state.specs.declared.state.Showing.{Showing}
-use Rattle.task_state.specs.declared.state.Asked.{Asked}
-use Rattle.task_state.specs.declared.state.Phase.{Phase}
-use Rattle.task_state.specs.declared.state.Phase.TheVariants as phases
-use Rattle.task_state.specs.declared.state.Rec.{Rec}
+use Rattle.task_state.specs.Replies.{phase_after}
 use Rattle.task_state.proofs.Keeps.{count-enq, system-enq}
 use Rattle.task_state.proofs.Stays.{count-line, count-outstanding, count-phase, count-rank, count-telling, count-told}
 use Rattle.task_state.proofs.Stays.{count-no_rows, count-rows, count-without, system-line, system-no_rows}
 use Rattle.task_state.proofs.Stays.{system-outstanding, system-phase, system-rank, system-rows, system-telling}
 use Rattle.task_state.proofs.Stays.{system-told, system-without}
-use Rattle.grs_base.specs.Rows.{rows_of}
-use Rattle.grs_base.specs.declared.resource.Row.{Row}
-use Rattle.freed_owners.specs.Freed.{freed}
-use Rattle.system_purge.specs.Purge.{tell_freed}
 use Rattle.grs_world.proofs.run.Came.{Acts, Came, acted, already, began, changed, decided, informed, last_turn, left}
 use Rattle.grs_world.proofs.run.Came.{no_such, nothing, parted, removes_one, removes_star, sent, settled, took, turn}
 use Rattle.grs_world.proofs.run.Came.{went_on, told as told_one, Result}
-use Rattle.grs_base.specs.Limits.{most_additions}
-use Rattle.grs_wire.specs.Unseen.{unseen}
 use Rattle.grs_world.proofs.run.Chosen.{each_came}
 use Rattle.grs_world.proofs.run.Lost.{tasks-lost, tasks-notice, tasks-part}
-use Rattle.grs_wire.specs.Masks.{with_also}
+use Rattle.grs_wire.specs.declared.told.Said.TheVariants as saids
+use Rattle.grs_legal.specs.declared.meaning.Meaning.TheVariants as lines
+use Rattle.grs_wire.specs.declared.told.ToldLine.TheVariants as told
+use Rattle.grs_wire.specs.declared.told.Verb.TheVariants as verbs
+use Rattle.task_state.specs.declared.state.Phase.TheVariants as phases
 
 -- whose they are, and how many
 abbrev pub size : TasksView → ℕ × ℕ

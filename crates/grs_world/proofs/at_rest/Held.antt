@@ -1,50 +1,32 @@
 -- A task that is held, by its last answer or at a WAIT line, has an element there that it doesn't own; and it goes on
 -- only where it owns that resource.
-use Rattle.std.proofs.Common.{◌≡◌, ◌≢◌, ◌<◌, ◌≤◌, ◌-◌, ◌+◌, ℕ, zero, suc, Bool, true, false, cond, not, ◌&&◌, ◌||◌}
-use Rattle.std.proofs.Common.{List, [], ◌∷◌, ◌++◌, length, take, drop, Option, Some, None, refl, ap, sym, ◌∙◌, subst}
-use Rattle.std.proofs.Common.{arith}
-use Rattle.std.specs.Prelude.{◌==◌, filter, nat_lt, slice_get}
-use Rattle.std.specs.List.{list_all, list_any, range_with_len}
-use Rattle.std.proofs.lemmas.Bool.{and_from, and_parts, and_right, cases_Bool, eqb-true, eqb-false, ltb-true, or_left}
-use Rattle.std.proofs.lemmas.Bool.{or_parts, or_right}
-use Rattle.std.proofs.lemmas.List.Folds.{list_all-append}
-use Rattle.grs_base.specs.Same.{same_res, same_task}
-use Rattle.grs_base.specs.Lists.{deq_code, enq_decision, standing_of, can_have}
-use Rattle.grs_base.specs.State.{State, list_of}
-use Rattle.grs_base.specs.declared.decision.Code.{Code}
-use Rattle.grs_base.specs.declared.decision.Code.TheVariants.{Wait}
+use Rattle.grs_world.proofs.Common.{[], ◌&&◌, ◌++◌, ◌+◌, ◌-◌, ◌<◌, ◌==◌, ◌||◌, ◌∙◌, ◌∷◌, ◌≡◌, ◌≢◌, ◌≤◌, and_from}
+use Rattle.grs_world.proofs.Common.{and_parts, and_right, any-last, ap, arith, asks_of, Bool, cases_Bool, Code, cond}
+use Rattle.grs_world.proofs.Common.{Ctl, drop, entries_for, entry_of_line, eqb-false, eqb-true, false, filter, Fixed}
+use Rattle.grs_world.proofs.Common.{fixed_entries, has_res, HistEntry, history, is_code_of, is_distinct, is_marked}
+use Rattle.grs_world.proofs.Common.{is_unmarked, length, List, list_all, list_all-append, list_any, list_of, lists}
+use Rattle.grs_world.proofs.Common.{ltb-true, Meaning, nat_lt, no_truth, None, not, Option, or_left, or_parts, or_right}
+use Rattle.grs_world.proofs.Common.{Rec, refl, Res, Ret, RunItem, same_res, same_res-exact, same_res-itself, same_task}
+use Rattle.grs_world.proofs.Common.{slice_get, Some, standing_of, State, subst, suc, sym, SysId, take, TaskId}
+use Rattle.grs_world.proofs.Common.{tells_control, ToldLine, true, Wait, Want, zero, ℕ}
+use Rattle.std.specs.List.{range_with_len}
+use Rattle.grs_base.specs.Lists.{deq_code, enq_decision, can_have}
 use Rattle.grs_base.specs.declared.decision.Effect.TheVariants.{Append, MakeExclusive, Nothing}
 use Rattle.grs_base.specs.declared.decision.Standing.{Standing}
-use Rattle.grs_base.specs.declared.resource.Ctl.{Ctl}
-use Rattle.grs_base.specs.declared.resource.Res.{Res}
-use Rattle.grs_base.specs.declared.resource.Ret.{Ret}
-use Rattle.grs_base.specs.declared.resource.SysId.{SysId}
-use Rattle.grs_base.specs.declared.resource.TaskId.{TaskId}
-use Rattle.grs_base.proofs.SameLaws.{same_res-exact, same_res-itself}
-use Rattle.grs_legal.specs.Asks.{asks_of, is_silent}
+use Rattle.grs_legal.specs.Asks.{is_silent}
 use Rattle.grs_legal.specs.Legal.{last_entry}
-use Rattle.grs_legal.specs.declared.meaning.Meaning.{Meaning}
-use Rattle.grs_wire.specs.History.{code_of, entries_for, fixed_entries, look_entries}
-use Rattle.grs_wire.specs.declared.history.HistEntry.{HistEntry}
-use Rattle.grs_wire.specs.declared.history.HistEntry.TheVariants as entries
-use Rattle.grs_wire.specs.declared.request.Fixed.{Fixed}
-use Rattle.grs_wire.specs.declared.request.Fixed.TheVariants as fixes
-use Rattle.grs_wire.specs.declared.request.Want.{Want}
-use Rattle.grs_wire.specs.declared.request.Want.TheVariants as wants
-use Rattle.grs_wire.specs.declared.told.ToldLine.{ToldLine}
-use Rattle.grs_wire.specs.declared.told.ToldLine.TheVariants as told
+use Rattle.grs_wire.specs.History.{code_of, look_entries}
 use Rattle.task_state.specs.Replies.{is_changed, is_queued}
-use Rattle.task_state.specs.declared.state.Rec.{Rec}
-use Rattle.grs_known.proofs.lists.Facts.{any-last}
-use Rattle.grs_known.proofs.lists.Truths.{no_truth}
-use Rattle.grs_known.proofs.tasks.Invariant.{has_res, is_distinct, is_post_before}
-use Rattle.grs_known.specs.Items.{AllMade, RunItem, history, lists}
+use Rattle.grs_known.proofs.tasks.Invariant.{is_post_before}
+use Rattle.grs_known.specs.Items.{AllMade}
 use Rattle.grs_known.specs.Past.{has_own, own_after, own_by_effect, own_told}
-use Rattle.grs_known.specs.Told.{asked_at, entries_behind, entry_of_line, is_code_before, is_code_of, is_control}
-use Rattle.grs_known.specs.Told.{is_post_of, queued_last, queues, queues_at, tells_control}
-use Rattle.grs_known.proofs.records.Control.{is_unmarked}
-use Rattle.grs_known.proofs.records.Marks.{is_marked}
+use Rattle.grs_known.specs.Told.{asked_at, entries_behind, is_code_before, is_control, is_post_of, queued_last, queues}
+use Rattle.grs_known.specs.Told.{queues_at}
 use Rattle.grs_world.specs.AtRest.{is_waiting, waits_on}
+use Rattle.grs_wire.specs.declared.history.HistEntry.TheVariants as entries
+use Rattle.grs_wire.specs.declared.request.Fixed.TheVariants as fixes
+use Rattle.grs_wire.specs.declared.request.Want.TheVariants as wants
+use Rattle.grs_wire.specs.declared.told.ToldLine.TheVariants as told
 
 -- ---- who is answered WAIT is queued
 abbrev pub waits_well : HistEntry → Bool

@@ -1,16 +1,11 @@
 -- Each system of a run has its number, also once it was removed.
-use Rattle.std.proofs.Common.{◌≡◌, ℕ, List, Some, refl, ap, ◌∙◌}
-use Rattle.std.specs.Prelude.{slice_get}
-use Rattle.grs_base.specs.declared.resource.SysId.{SysId}
-use Rattle.grs_node.specs.Node.{NodeState, first_node}
-use Rattle.grs_wire.specs.declared.deck.Deck.{Deck}
-use Rattle.grs_wire.specs.declared.deck.Event.{Event}
+use Rattle.grs_world.proofs.Common.{◌∙◌, ◌≡◌, ap, Deck, Event, first_node, List, NodeState, placed, refl, run}
+use Rattle.grs_world.proofs.Common.{slice_get, Some, SysId, Turnout, World, ℕ}
 use Rattle.grs_world.proofs.at_rest.Full.{size, size-came}
 use Rattle.grs_world.proofs.run.Chosen.{each_came}
 use Rattle.grs_world.proofs.run.Each.{each_run}
 use Rattle.grs_world.proofs.run.Runs.{by_node}
 use Rattle.grs_world.proofs.run.Sound.{first_of}
-use Rattle.grs_world.specs.World.{Turnout, World, placed, run}
 
 abbrev pub AreHomes : World → Type 0
 AreHomes w = (s : ℕ) (n : NodeState) → slice_get w.nodes s ≡ Some n → n.tasks.system ≡ s

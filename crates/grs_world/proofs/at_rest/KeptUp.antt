@@ -1,52 +1,23 @@
 -- Each system stays up to date in each event, whatever the event is and whatever the medium replies: so it is in every
 -- run, of a system that was removed too.
-use Rattle.std.proofs.Common.{◌≡◌, ℕ, zero, suc, Bool, true, false, cond, List, [], ◌∷◌, ◌++◌, take, Option, Some, None}
-use Rattle.std.proofs.Common.{refl, ap, sym, ◌∙◌, subst, take-append-drop, length}
-use Rattle.std.specs.Prelude.{◌&&◌, drop, filter, is_none, is_some, slice_get}
-use Rattle.std.specs.List.{list_all}
-use Rattle.std.proofs.lemmas.Bool.{and_from, and_parts}
-use Rattle.std.proofs.lemmas.List.Folds.{list_all-append}
-use Rattle.grs_base.specs.declared.resource.Res.{Res}
-use Rattle.grs_base.specs.declared.resource.SysId.{SysId}
-use Rattle.grs_base.specs.declared.resource.TaskId.{TaskId}
-use Rattle.grs_legal.specs.Asks.{lines_of}
-use Rattle.grs_legal.specs.declared.meaning.Display.{Display}
-use Rattle.grs_legal.specs.declared.meaning.Meaning.{Meaning}
-use Rattle.grs_legal.specs.declared.meaning.Meaning.TheVariants as lines
-use Rattle.grs_medium.specs.Medium.{MediumState}
-use Rattle.grs_node.specs.Change.{one_by_one}
-use Rattle.grs_node.specs.Node.{NodeState, Step, ask, change_to_star, decide, desk_told, end_step, first_node}
-use Rattle.grs_node.specs.Node.{is_for_deck, is_of_deck, is_to_send, look_around, look_home, names_of_deck, looks_asked}
-use Rattle.grs_node.specs.Node.{may_go, may_send, phase_step, post, posted, purged, put_in, read_entries, ready_step}
-use Rattle.grs_node.specs.Node.{changed as changed_now, is_item_of, known_from, losing, losing_in, show, stale}
-use Rattle.grs_node.specs.Node.{switched, take_line, take_mail, task_step, took_mail, with_tasks}
-use Rattle.grs_node.specs.Names.{names_of}
-use Rattle.grs_node.specs.Removal.{members, standing, without_those}
-use Rattle.grs_node.specs.Star.{StarPart, StarStep, begun, decide_own, fixing_none, lists_for, owners_by, rank_of}
-use Rattle.grs_node.specs.Star.{request_of}
-use Rattle.grs_wire.specs.Wants.{answer_to, res_wanted, is_for_all}
-use Rattle.grs_wire.specs.Masks.{with_also}
-use Rattle.grs_wire.specs.declared.deck.Choice.{Choice}
-use Rattle.grs_wire.specs.declared.deck.Choice.TheVariants as choices
-use Rattle.grs_wire.specs.declared.deck.Deck.{Deck}
-use Rattle.grs_wire.specs.declared.deck.Event.{Event}
-use Rattle.grs_wire.specs.declared.medium.Mail.{Mail}
-use Rattle.grs_wire.specs.declared.medium.Mail.TheVariants.{Request as RequestMail, Answered as AnsweredMail, Granted}
-use Rattle.grs_wire.specs.declared.medium.Mail.TheVariants.{Notice, Part}
-use Rattle.grs_wire.specs.declared.medium.RingEntry.{RingEntry}
-use Rattle.grs_wire.specs.declared.request.Req.{Req}
-use Rattle.grs_wire.specs.declared.request.Want.{Want}
-use Rattle.grs_wire.specs.declared.request.Want.TheVariants.{Deq, Release}
-use Rattle.grs_wire.specs.declared.told.Said.{Said}
-use Rattle.grs_wire.specs.declared.told.Said.TheVariants as saids
-use Rattle.grs_wire.proofs.WantLaws.{by_test}
-use Rattle.mode_migrate.specs.Migrate.{ranked_by}
-use Rattle.star_client.specs.Client.{after_mail, tell_answer_ranked}
-use Rattle.task_state.specs.View.{TasksView, is_task, state_of, with_line, with_phase}
-use Rattle.task_state.specs.declared.state.Asked.{Asked}
-use Rattle.task_state.specs.declared.state.Phase.{Phase}
-use Rattle.task_state.specs.declared.state.Phase.TheVariants as phases
-use Rattle.task_state.specs.declared.state.Rec.{Rec}
+use Rattle.grs_world.proofs.Common.{[], ◌++◌, ◌∙◌, ◌∷◌, ◌≡◌, after_mail, and_from, and_parts, answer_to, ap, ask, Asked}
+use Rattle.grs_world.proofs.Common.{begun, Bool, by_test, change_to_star, Choice, cond, decide, decide_own, Deck, Deq}
+use Rattle.grs_world.proofs.Common.{desk_told, Display, end_step, Event, false, filter, first_node, fixing_none}
+use Rattle.grs_world.proofs.Common.{Granted, is_for_all, is_for_deck, is_item_of, is_none, is_of_deck, is_some, is_task}
+use Rattle.grs_world.proofs.Common.{is_to_send, known_from, length, lines_of, List, list_all, list_all-append}
+use Rattle.grs_world.proofs.Common.{look_around, look_home, looks_asked, losing, losing_in, Mail, may_go, may_send}
+use Rattle.grs_world.proofs.Common.{Meaning, MediumState, members, most_additions, names_of, names_of_deck, NodeState}
+use Rattle.grs_world.proofs.Common.{None, Notice, one_by_one, Option, owners_by, Part, Phase, phase_step, placed, post}
+use Rattle.grs_world.proofs.Common.{posted, purged, put_in, rank_of, ranked_by, read_entries, ready_step, Rec, refl}
+use Rattle.grs_world.proofs.Common.{Release, Req, request_of, Res, res_wanted, RingEntry, run, Said, show, slice_get}
+use Rattle.grs_world.proofs.Common.{Some, stale, standing, StarPart, StarStep, state_of, Step, subst, suc, switched}
+use Rattle.grs_world.proofs.Common.{sym, SysId, take, take-append-drop, take_line, take_mail, task_step, TaskId}
+use Rattle.grs_world.proofs.Common.{TasksView, tell_answer_ranked, took_mail, true, Turnout, unseen, Want, with_also}
+use Rattle.grs_world.proofs.Common.{with_line, with_phase, with_tasks, without_those, World, zero, ℕ}
+use Rattle.std.specs.Prelude.{◌&&◌, drop}
+use Rattle.grs_node.specs.Node.{changed as changed_now}
+use Rattle.grs_node.specs.Star.{lists_for}
+use Rattle.grs_wire.specs.declared.medium.Mail.TheVariants.{Request as RequestMail, Answered as AnsweredMail}
 use Rattle.grs_known.proofs.tasks.Answered.{lists-answer}
 use Rattle.grs_world.proofs.at_rest.Events.{date-again, date-any, date-entries, date-all_sent, date-one_by_one}
 use Rattle.grs_world.proofs.at_rest.Events.{date-ranked, date-ranks, date-sent, date-telling, here-all}
@@ -59,15 +30,15 @@ use Rattle.grs_world.proofs.at_rest.StarTasks.{keeps-mail}
 use Rattle.grs_world.proofs.run.Each.{each_run}
 use Rattle.grs_world.proofs.run.Lost.{tasks-lost, tasks-notice, tasks-part}
 use Rattle.grs_world.proofs.run.Runs.{by_node}
-use Rattle.grs_world.specs.World.{Turnout, World, placed, run}
 use Rattle.grs_world.proofs.run.Came.{told, Result, Acts, Came, acted, already, began, changed, decided, informed}
 use Rattle.grs_world.proofs.run.Came.{last_turn, left, no_such, nothing, parted, removes_one, removes_star, sent}
-use Rattle.grs_world.proofs.run.Came.{settled}
-use Rattle.grs_world.proofs.run.Came.{took, turn, went_on}
-use Rattle.grs_base.specs.Limits.{most_additions}
-use Rattle.grs_wire.specs.Unseen.{unseen}
+use Rattle.grs_world.proofs.run.Came.{settled, took, turn, went_on}
 use Rattle.grs_world.proofs.run.Fixing.{outbox-entries}
 use Rattle.grs_world.proofs.run.Chosen.{each_came}
+use Rattle.grs_legal.specs.declared.meaning.Meaning.TheVariants as lines
+use Rattle.grs_wire.specs.declared.deck.Choice.TheVariants as choices
+use Rattle.grs_wire.specs.declared.told.Said.TheVariants as saids
+use Rattle.task_state.specs.declared.state.Phase.TheVariants as phases
 
 -- A system whose tasks are up to date, and whose requests that wait to be put in are of its tasks.
 abbrev pub IsBoxed : TasksView → List Req → Type 0

@@ -1,41 +1,27 @@
 -- The ranks that a table's elements get are no more than the elements, and these no more than the ENQs that were fixed.
-use Rattle.std.proofs.Common.{◌≡◌, ◌<◌, ◌≤◌, ◌+◌, ℕ, zero, suc, Bool, true, false, cond, not, ◌&&◌, ◌||◌, List, [], ◌∷◌}
-use Rattle.std.proofs.Common.{length, map, Some, None, refl, ap, sym, ◌∙◌, subst, arith, length-append}
-use Rattle.std.specs.Prelude.{filter, max, ◌==◌}
+use Rattle.grs_world.proofs.Common.{[], ◌&&◌, ◌+◌, ◌<◌, ◌==◌, ◌||◌, ◌∙◌, ◌∷◌, ◌≡◌, ◌≤◌, a_look, a_removal, after_fixed}
+use Rattle.grs_world.proofs.Common.{after_want, AllAsk, an_ask, ap, are_within, arith, AsksOrRemoves, Bool, cond, Ctl}
+use Rattle.grs_world.proofs.Common.{Deck, Elem, false, filter, goes_round, is_systems, length, length-append, List}
+use Rattle.grs_world.proofs.Common.{list_of, lists, Managed, managed_at, map, most_systems, no_truth, None, not}
+use Rattle.grs_world.proofs.Common.{part_by_table, refl, remove_state, Res, rounds, Row, rows_of, RunItem, same_res}
+use Rattle.grs_world.proofs.Common.{same_res-exact, same_res-itself, same_Some, same_task, Some, standing_of, State}
+use Rattle.grs_world.proofs.Common.{subst, suc, sym, SysId, TaskId, true, Want, zero, ℕ}
+use Rattle.std.specs.Prelude.{max}
 use Rattle.std.specs.List.{range_with_len}
-use Rattle.std.proofs.lemmas.Option.{same_Some}
 use Rattle.contention_mgr.proofs.LoadLemmas.{greatest-append}
 use Rattle.contention_mgr.specs.Loads.{greatest, loaded}
-use Rattle.contention_mgr.specs.Manager.{Managed, managed_at}
-use Rattle.grs_base.specs.Limits.{most_systems}
-use Rattle.grs_base.specs.Rows.{lists_of, row_of, rows_of}
-use Rattle.grs_base.specs.Same.{same_res, same_task}
-use Rattle.grs_base.specs.State.{State, after_effect, list_of, with_exclusive, is_systems, remove_state}
-use Rattle.grs_base.specs.Lists.{decide_enq, is_owner, standing_of}
+use Rattle.grs_base.specs.Rows.{lists_of, row_of}
+use Rattle.grs_base.specs.State.{after_effect, with_exclusive}
+use Rattle.grs_base.specs.Lists.{decide_enq, is_owner}
 use Rattle.grs_base.specs.declared.decision.Effect.{Effect}
 use Rattle.grs_base.specs.declared.decision.Effect.TheVariants.{Nothing, Append, MakeExclusive}
-use Rattle.grs_base.specs.declared.resource.Ctl.{Ctl}
-use Rattle.grs_base.specs.declared.resource.Elem.{Elem}
-use Rattle.grs_base.specs.declared.resource.Res.{Res}
-use Rattle.grs_base.specs.declared.resource.Row.{Row}
-use Rattle.grs_base.specs.declared.resource.SysId.{SysId}
-use Rattle.grs_base.specs.declared.resource.TaskId.{TaskId}
-use Rattle.grs_base.proofs.SameLaws.{same_res-exact, same_res-itself}
-use Rattle.grs_known.proofs.known.Histories.{AllAsk, AsksOrRemoves, a_look, a_removal, an_ask}
-use Rattle.grs_known.proofs.lists.Truths.{no_truth}
-use Rattle.grs_known.specs.Items.{RunItem, goes_round, lists, lists_from, rounds}
+use Rattle.grs_known.specs.Items.{lists_from}
 use Rattle.grs_node.proofs.TableParts.{table-kept}
-use Rattle.grs_node.specs.Change.{part_by_table}
-use Rattle.grs_wire.specs.History.{after_fixed}
-use Rattle.grs_wire.specs.Wants.{after_want}
-use Rattle.grs_wire.specs.declared.deck.Deck.{Deck}
-use Rattle.grs_wire.specs.declared.request.Want.{Want}
-use Rattle.grs_wire.specs.declared.request.Want.TheVariants as wants
 use Rattle.lock_structure.specs.RankedRows.{ranks_of}
 use Rattle.mode_migrate.proofs.Rows.{AreLists, Lists, StandApart, is_listed, lists-apart, lists-are}
-use Rattle.mode_migrate.specs.Laws.{are_within}
 use Rattle.mode_migrate.specs.Migrate.{managed_by_table, numbered_from, part_by, row_is_of, rows_in}
 use Rattle.grs_world.proofs.star.Heard.{enq_count, is_enq, is_enq_want}
+use Rattle.grs_wire.specs.declared.request.Want.TheVariants as wants
 
 -- ---- the elements of rows
 abbrev total : List Row → ℕ

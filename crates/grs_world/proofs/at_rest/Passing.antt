@@ -1,28 +1,14 @@
 -- What is passed is told: of each system's tasks and of its desk, in every run.
-use Rattle.std.proofs.Common.{◌≡◌, ◌<◌, ◌≤◌, ◌-◌, ℕ, Bool, true, false, List, Option, Some, None, refl, ap, sym, ◌∙◌}
-use Rattle.std.proofs.Common.{subst, arith, length, [], ◌∷◌, zero, suc}
-use Rattle.std.specs.Prelude.{◌==◌, get_or, nat_lt, slice_get}
-use Rattle.std.specs.List.{list_any}
-use Rattle.std.proofs.lemmas.Bool.{and_from, eq-eqb, lt-ltb}
+use Rattle.grs_world.proofs.Common.{[], ◌-◌, ◌<◌, ◌==◌, ◌∙◌, ◌∷◌, ◌≡◌, ◌≤◌, and_from, ap, arith, Bool, Deck, eq-eqb}
+use Rattle.grs_world.proofs.Common.{Event, false, first_node, FitsStar, get_or, is_code_of, is_line_of, is_task, length}
+use Rattle.grs_world.proofs.Common.{lines_of, lines_of_told, List, list_any, lt-ltb, may_be_star, Meaning, nat_lt}
+use Rattle.grs_world.proofs.Common.{node_at, NodeState, None, NoneInStar, Option, OrdersFit, refl, run, scripts_of}
+use Rattle.grs_world.proofs.Common.{slice_get, slice_get_within, Some, state_of, subst, suc, sym, SysId, TaskId}
+use Rattle.grs_world.proofs.Common.{TaskState, ToldLine, true, World, zero, ℕ}
 use Rattle.std.proofs.lemmas.Map.Views.{any-filter_same}
-use Rattle.std.proofs.lemmas.Option.{get_or_from_slice_get, slice_get_within}
-use Rattle.grs_base.specs.declared.resource.SysId.{SysId}
-use Rattle.grs_base.specs.declared.resource.TaskId.{TaskId}
-use Rattle.grs_legal.specs.Asks.{lines_of, scripts_of}
-use Rattle.grs_legal.specs.declared.meaning.Meaning.{Meaning}
-use Rattle.grs_node.specs.Node.{NodeState, first_node}
-use Rattle.grs_wire.specs.declared.deck.Deck.{Deck}
-use Rattle.grs_wire.specs.declared.deck.Event.{Event}
-use Rattle.grs_wire.specs.declared.told.ToldLine.{ToldLine}
-use Rattle.task_state.specs.View.{is_task, state_of}
-use Rattle.task_state.specs.declared.state.Phase.{Phase}
-use Rattle.task_state.specs.declared.state.Phase.TheVariants as phases
-use Rattle.task_state.specs.declared.state.TaskState.{TaskState}
-use Rattle.grs_known.specs.Told.{is_code_of, is_end_of}
-use Rattle.grs_known.proofs.known.Histories.{OrdersFit}
+use Rattle.std.proofs.lemmas.Option.{get_or_from_slice_get}
+use Rattle.grs_known.specs.Told.{is_end_of}
 use Rattle.grs_known.proofs.system.Ours.{script_at}
-use Rattle.grs_known.proofs.system.Says.{is_line_of}
-use Rattle.grs_world.specs.InStar.{NoneInStar}
 use Rattle.grs_world.proofs.move.Sound.{GoodRun, every_run, good_told, in_ring, in_star}
 use Rattle.grs_world.proofs.at_rest.AtEnd.{code-exact, code-home, end-exact, end-home}
 use Rattle.grs_world.proofs.at_rest.Full.{full_run}
@@ -32,14 +18,8 @@ use Rattle.grs_world.proofs.at_rest.RingRun.{first-state}
 use Rattle.grs_known.proofs.tasks.UpToDate.{is_code_at, is_end_at}
 use Rattle.grs_world.proofs.run.Desks.{GoodDesks}
 use Rattle.grs_world.proofs.run.Runs.{GoodTold}
-use Rattle.grs_world.specs.Agree.{lines_of_told}
-use Rattle.grs_world.specs.Decks.{FitsStar, may_be_star}
-use Rattle.grs_world.specs.Passed.{DesksAreTold, EndsAreTold, LinesAreTold, PassedIsTold}
-use Rattle.grs_known.specs.Passed.{has_code, has_ended}
-use Rattle.grs_world.specs.Passed.{is_desk_of}
-use Rattle.grs_known.specs.Passed.{lines_passed}
-use Rattle.grs_world.specs.Running.{node_at}
-use Rattle.grs_world.specs.World.{World, run}
+use Rattle.grs_world.specs.Passed.{DesksAreTold, EndsAreTold, LinesAreTold, PassedIsTold, is_desk_of}
+use Rattle.grs_known.specs.Passed.{has_code, has_ended, lines_passed}
 
 good_desks : (deck : Deck) (es : List Event) (w : World) → GoodRun deck es w → GoodDesks deck w
 good_desks deck es w (in_ring begins ring g d) = d

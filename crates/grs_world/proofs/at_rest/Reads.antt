@@ -1,29 +1,13 @@
 -- What a system comes to by what it has still to process: its table goes by the table that it had, and what others
 -- process of the message leaves it.
-use Rattle.std.proofs.Common.{◌≡◌, ◌≢◌, ℕ, Bool, true, false, cond, not, List, [], ◌∷◌, ◌++◌, map, Some, None, refl, ap}
-use Rattle.std.proofs.Common.{sym, ◌∙◌, subst}
-use Rattle.std.specs.Prelude.{◌==◌, filter, slice_get}
-use Rattle.std.specs.List.{list_all}
-use Rattle.std.proofs.lemmas.Bool.{eqb-true}
-use Rattle.grs_base.specs.declared.resource.SysId.{SysId}
-use Rattle.grs_base.specs.declared.resource.TaskId.{TaskId}
-use Rattle.grs_legal.specs.declared.meaning.Meaning.{Meaning}
-use Rattle.grs_node.specs.Node.{NodeState, is_of_deck, read_entries, read_entry, with_side}
-use Rattle.grs_wire.proofs.MaskLaws.{has-with_other, has-without_other, has-zero}
-use Rattle.grs_wire.specs.Masks.{has, only}
-use Rattle.grs_wire.specs.Unseen.{is_unseen, unseen}
-use Rattle.grs_wire.specs.Wants.{after_want, res_wanted, is_for_all}
-use Rattle.grs_wire.specs.declared.deck.Deck.{Deck}
-use Rattle.grs_wire.specs.declared.medium.RingBody.{RingBody}
-use Rattle.grs_wire.specs.declared.medium.RingBody.TheVariants.{Request, Remove}
-use Rattle.grs_wire.specs.declared.medium.RingEntry.{RingEntry}
-use Rattle.ring_mode.specs.Ring.{process, process_entry, side_of}
-use Rattle.task_state.specs.View.{is_task}
-use Rattle.rsa_message.specs.Message.{cleared, left_by}
-use Rattle.grs_known.proofs.lists.Truths.{no_truth}
-use Rattle.grs_known.proofs.system.Ours.{IsOurs}
-use Rattle.grs_known.proofs.system.Says.{is_home_at, own_requests}
-use Rattle.grs_known.specs.Items.{items, rounds}
+use Rattle.grs_world.proofs.Common.{[], ◌++◌, ◌==◌, ◌∙◌, ◌∷◌, ◌≡◌, ◌≢◌, after_want, ap, Bool, cleared, cond, Deck}
+use Rattle.grs_world.proofs.Common.{eqb-true, false, filter, has, has-with_other, has-without_other, has-zero}
+use Rattle.grs_world.proofs.Common.{is_for_all, is_home_at, is_of_deck, is_task, is_unseen, IsOurs, items, left_by}
+use Rattle.grs_world.proofs.Common.{List, list_all, map, Meaning, no_truth, NodeState, None, not, own_requests, process}
+use Rattle.grs_world.proofs.Common.{process_entry, read_entries, read_entry, refl, Remove, remove_state, Request}
+use Rattle.grs_world.proofs.Common.{res_wanted, RingBody, RingEntry, rounds, side_of, slice_get, Some, subst, sym}
+use Rattle.grs_world.proofs.Common.{SysId, TaskId, true, unseen, with_side, World, ℕ}
+use Rattle.grs_wire.specs.Masks.{only}
 use Rattle.grs_world.proofs.move.Changing.{IsChanging, view-read}
 use Rattle.grs_world.proofs.move.Moved.{alive as lives-on}
 use Rattle.grs_world.proofs.move.Waiting.{given, reads, whole_now}
@@ -34,8 +18,6 @@ use Rattle.grs_world.proofs.at_rest.View.{IsWaitingHere, read_by, system_of, wai
 use Rattle.grs_world.proofs.run.Reading.{read_all}
 use Rattle.grs_world.proofs.system.AtNode.{Seen, opens_of}
 use Rattle.grs_world.proofs.system.Puts.{home-task}
-use Rattle.grs_world.specs.World.{World}
-use Rattle.grs_base.specs.State.{remove_state}
 
 -- ---- the table
 shared-entry : (deck : Deck) (n m : NodeState) (b : RingBody) → m.shared ≡ n.shared

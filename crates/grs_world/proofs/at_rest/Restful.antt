@@ -1,36 +1,13 @@
 -- What holds of a run from the change of the medium on, so that nothing is lost where it ends at rest.
-use Rattle.std.proofs.Common.{◌≡◌, ◌≢◌, ◌<◌, ◌≤◌, ℕ, Bool, true, false, cond, List, [], ◌++◌, Option, Some, None, refl}
-use Rattle.std.proofs.Common.{ap, sym, ◌∙◌, subst, append-nil}
-use Rattle.std.specs.Prelude.{◌==◌, is_none, set, slice_get}
-use Rattle.std.proofs.lemmas.Bool.{eqb-true, eqb-false}
-use Rattle.std.proofs.lemmas.List.{length-set}
-use Rattle.std.proofs.lemmas.Option.{same_Some}
-use Rattle.std.specs.List.{list_all}
-use Rattle.grs_base.specs.Limits.{last_number, most_systems}
-use Rattle.grs_base.specs.Lists.{has_task, owns}
-use Rattle.grs_base.specs.State.{is_systems, list_of}
-use Rattle.grs_base.specs.declared.resource.Res.{Res}
-use Rattle.grs_base.specs.declared.resource.SysId.{SysId}
-use Rattle.grs_base.specs.declared.resource.TaskId.{TaskId}
-use Rattle.grs_node.proofs.ChangeFits.{star-changed}
-use Rattle.grs_node.specs.Change.{part_by_table}
-use Rattle.grs_node.specs.Node.{NodeState, change_to_star, only}
-use Rattle.grs_node.specs.Star.{StarPart}
-use Rattle.grs_wire.proofs.MaskLaws.{has-without_other}
-use Rattle.grs_wire.specs.Masks.{has}
-use Rattle.grs_wire.specs.declared.deck.Choice.{Choice}
-use Rattle.grs_wire.specs.declared.deck.Deck.{Deck}
-use Rattle.grs_wire.specs.declared.medium.RingEntry.{RingEntry}
-use Rattle.grs_wire.specs.declared.request.Fixed.{Fixed}
-use Rattle.rsa_message.specs.Message.{Message, cleared, turned_closed}
-use Rattle.task_state.specs.View.{is_task, state_of}
-use Rattle.grs_known.proofs.lists.Facts.{slice_get-set, slice_get-set_other}
-use Rattle.grs_known.proofs.lists.Owners.{is_among}
+use Rattle.grs_world.proofs.Common.{[], ◌++◌, ◌<◌, ◌==◌, ◌∙◌, ◌≡◌, ◌≢◌, ◌≤◌, ap, append-nil, askers, Bool}
+use Rattle.grs_world.proofs.Common.{change_to_star, Choice, chosen, cleared, cond, counted, Deck, eqb-false, eqb-true}
+use Rattle.grs_world.proofs.Common.{false, Fixed, fixed_by, has, has-without_other, has_res, has_task, is_among}
+use Rattle.grs_world.proofs.Common.{is_home_at, is_none, is_systems, is_task, items, last_number, length-set, List}
+use Rattle.grs_world.proofs.Common.{list_all, list_of, lists, Message, most_systems, no_truth, NodeState, None, only}
+use Rattle.grs_world.proofs.Common.{Option, owns, part_by_table, placed, refl, Res, RingEntry, same_Some, set}
+use Rattle.grs_world.proofs.Common.{slice_get, slice_get-set, slice_get-set_other, Some, star-changed, StarPart}
+use Rattle.grs_world.proofs.Common.{state_of, subst, sym, SysId, TaskId, true, turned_closed, Turnout, World, ℕ}
 use Rattle.grs_known.proofs.lists.Placed.{put_one}
-use Rattle.grs_known.proofs.lists.Truths.{no_truth}
-use Rattle.grs_known.proofs.system.Says.{askers, is_home_at}
-use Rattle.grs_known.proofs.tasks.Invariant.{has_res}
-use Rattle.grs_known.specs.Items.{items, lists}
 use Rattle.grs_world.proofs.run.Came.{ChoiceRemovesNone}
 use Rattle.grs_world.proofs.run.Knowing.{KnowsRemoved}
 use Rattle.grs_world.proofs.run.Removals.{GoneAreRemoved}
@@ -50,7 +27,6 @@ use Rattle.grs_world.proofs.star.Heard.{IsHeard, enq_count, had_by, had_with, se
 use Rattle.grs_world.proofs.star.Members.{IsStep}
 use Rattle.grs_world.proofs.star.Sound.{outcome}
 use Rattle.grs_world.proofs.star.steps.Outcome.{IsOutcome}
-use Rattle.grs_world.specs.World.{Turnout, World, chosen, counted, fixed_by, placed}
 use Rattle.grs_world.proofs.run.Site.{at_site}
 
 -- ---- what was sent and told, by the systems: who hasn't changed has sent nothing, and is to be told what its table

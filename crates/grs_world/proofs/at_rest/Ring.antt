@@ -1,68 +1,46 @@
 -- A system of the ring, by its own lists and its table: who owns by them is marked, and who has sent a request has it
 -- among what the system has still to process.
-use Rattle.std.proofs.Common.{◌≡◌, ◌≢◌, ℕ, suc, Bool, true, false, cond, not, ◌||◌, List, [], ◌∷◌, ◌++◌, Option, Some}
-use Rattle.std.proofs.Common.{None, length, refl, ap, sym, ◌∙◌, subst, append_assoc, take-append-drop, ◌+◌}
-use Rattle.std.specs.Prelude.{◌==◌, take, drop, get_or, set, is_some, zero, filter}
-use Rattle.std.specs.List.{list_all, list_any}
-use Rattle.std.proofs.lemmas.Bool.{and_parts, eqb-true, eqb-false, or_left, or_right, or_parts}
-use Rattle.grs_base.specs.Same.{same_task}
-use Rattle.grs_base.specs.State.{State, deq_reply, enq_code, is_systems}
-use Rattle.grs_base.specs.declared.decision.Code.TheVariants.{C00}
-use Rattle.grs_base.specs.declared.resource.Row.{Row}
+use Rattle.grs_world.proofs.Common.{[], ◌++◌, ◌+◌, ◌==◌, ◌||◌, ◌∙◌, ◌∷◌, ◌≡◌, ◌≢◌, a_look, a_removal, after_want}
+use Rattle.grs_world.proofs.Common.{all-behind, all-kept, all-middle, all_sent, AllAsk, an_ask, and_parts, answer_own}
+use Rattle.grs_world.proofs.Common.{answer_to, answered, ap, append_assoc, are_sent, Asked, askers, asks-behind}
+use Rattle.grs_world.proofs.Common.{AsksOrRemoves, Bool, C00, code_in, cond, Deck, Deq, desk_told, Did, did-none}
+use Rattle.grs_world.proofs.Common.{did-outstanding, did-phase, did-rows, did-shown, Enq, eqb-false, eqb-true, false}
+use Rattle.grs_world.proofs.Common.{false_by, filter, get_or, goes_on_looking, goes_round, is_among, is_distinct}
+use Rattle.grs_world.proofs.Common.{is_home_at, is_of_deck, is_sent, is_some, is_systems, is_task, is_task-system}
+use Rattle.grs_world.proofs.Common.{is_task-telling, is_to_send, IsAsk, IsHere, IsHistory, IsOurs, IsReq, IsWanted}
+use Rattle.grs_world.proofs.Common.{IsWantedBy, length, lines_of, List, list_all, list_any, Look, looked, looks}
+use Rattle.grs_world.proofs.Common.{Matches, Meaning, new_owners, new_task, no_truth, NodeState, None, not, Option}
+use Rattle.grs_world.proofs.Common.{or_left, or_parts, or_right, own_asked, own_requests, Phase, put_in, recalled, refl}
+use Rattle.grs_world.proofs.Common.{Release, removes_system_of, replied, Req, Res, res_wanted, rounds, Row, Rows}
+use Rattle.grs_world.proofs.Common.{rows_of, RunItem, Said, same_place, same_task, same_task-exact, same_task-itself}
+use Rattle.grs_world.proofs.Common.{set, Showing, Some, some_of, State, state_of, state_of-telling, subst, suc, sym}
+use Rattle.grs_world.proofs.Common.{SysId, take-append-drop, TaskId, TaskState, TasksView, tell_freed, tell_new}
+use Rattle.grs_world.proofs.Common.{telling, ToldLine, true, Want, wants_round, with_phase, with_rows, with_state, ℕ}
+use Rattle.std.specs.Prelude.{take, drop, zero}
+use Rattle.grs_base.specs.State.{deq_reply, enq_code}
 use Rattle.gqscan.specs.Shown.{code_for}
-use Rattle.grs_base.specs.declared.resource.Res.{Res}
-use Rattle.grs_base.specs.declared.resource.TaskId.{TaskId}
-use Rattle.grs_base.proofs.SameLaws.{same_task-exact, same_task-itself}
-use Rattle.grs_legal.specs.Asks.{lines_of}
-use Rattle.grs_legal.specs.declared.meaning.Meaning.{Meaning}
-use Rattle.grs_node.specs.Node.{NodeState, all_sent, is_of_deck, is_to_send, put_in, process_removal, desk_told}
-use Rattle.grs_wire.specs.Wants.{after_want, answer_to, looks, new_owners, res_wanted}
-use Rattle.grs_wire.specs.declared.deck.Deck.{Deck}
-use Rattle.grs_wire.specs.declared.request.Answer.TheVariants.{Coded as CodedBy, Rows}
-use Rattle.grs_wire.specs.declared.request.Fixed.TheVariants as fixing
+use Rattle.grs_node.specs.Node.{process_removal}
+use Rattle.grs_wire.specs.declared.request.Answer.TheVariants.{Coded as CodedBy}
 use Rattle.grs_wire.specs.declared.told.Verb.{Verb}
-use Rattle.grs_wire.specs.declared.request.Req.{Req}
-use Rattle.grs_wire.specs.declared.request.Want.{Want}
-use Rattle.grs_wire.specs.declared.request.Want.TheVariants.{Enq, Deq, Release, Look}
-use Rattle.ring_mode.specs.Ring.{answer_own}
-use Rattle.task_state.specs.Replies.{answered, goes_on_looking, looked, phase_asking, recalled, replied, tell_new}
-use Rattle.task_state.specs.View.{TasksView, code_in, is_sent, is_task, new_task, state_of, with_phase, with_state}
-use Rattle.task_state.specs.View.{telling, with_rows}
-use Rattle.task_state.specs.declared.state.Asked.{Asked}
-use Rattle.task_state.specs.declared.state.Phase.{Phase}
-use Rattle.task_state.specs.declared.state.Phase.TheVariants as phases
-use Rattle.task_state.specs.declared.state.Showing.{Showing}
-use Rattle.task_state.specs.declared.state.TaskState.{TaskState}
-use Rattle.task_state.proofs.ViewLaws.{is_task-state, is_task-system, is_task-telling, state_of-telling}
-use Rattle.grs_known.proofs.known.Histories.{IsAsk, IsHistory, AllAsk, asks-behind, AsksOrRemoves, an_ask, a_look}
-use Rattle.grs_known.proofs.known.Histories.{a_removal, live-behind, wants-round}
-use Rattle.grs_known.proofs.lists.Facts.{all-behind, all-kept, all-middle, some_of}
-use Rattle.grs_known.proofs.lists.Owners.{is_among}
-use Rattle.grs_known.proofs.lists.Truths.{false_by, no_truth}
-use Rattle.grs_known.proofs.system.Asking.{IsReq, are_sent, records-unasked}
-use Rattle.grs_known.proofs.system.Did.{Did, did-none, did-outstanding, did-phase, did-rows, did-shown}
-use Rattle.grs_known.proofs.system.Ours.{IsOurs, IsHere, same_place}
-use Rattle.grs_known.proofs.system.Says.{askers, is_home_at, own_asked, own_requests}
-use Rattle.grs_known.proofs.tasks.Invariant.{is_distinct}
-use Rattle.grs_known.specs.Items.{RunItem, goes_round, rounds, removes_system_of, wants_round}
+use Rattle.task_state.specs.Replies.{phase_asking}
+use Rattle.task_state.proofs.ViewLaws.{is_task-state}
+use Rattle.grs_known.proofs.known.Histories.{live-behind, wants-round}
+use Rattle.grs_known.proofs.system.Asking.{records-unasked}
 use Rattle.grs_known.proofs.records.Deciding.{AllKept, IsQuiet, asker-waits, foreign-kept, own-kept}
 use Rattle.grs_world.proofs.at_rest.Events.{date-all_sent, date-answer_own, date-telling}
 use Rattle.grs_world.proofs.at_rest.Steps.{AllDate, date-new}
-use Rattle.grs_known.proofs.tasks.UpToDate.{IsLeft, IsWanted, IsWantedBy}
-use Rattle.grs_known.proofs.records.Lists.{Matches, matches-records}
+use Rattle.grs_known.proofs.tasks.UpToDate.{IsLeft}
+use Rattle.grs_known.proofs.records.Lists.{matches-records}
 use Rattle.grs_world.proofs.run.Growing.{asks-rounds}
 use Rattle.grs_world.proofs.run.Reading.{all-rounds, read_all, read_item}
 use Rattle.grs_world.proofs.system.AtNode.{Seen, opens_of}
 use Rattle.grs_world.proofs.system.Processed.{Reads, after_read, answers-none, answers-own, read, read-shared}
 use Rattle.grs_world.proofs.system.Processed.{read-tasks}
 use Rattle.grs_world.proofs.system.Puts.{home-task}
-use Rattle.grs_base.specs.Rows.{rows_of}
-use Rattle.grs_base.specs.declared.resource.SysId.{SysId}
-use Rattle.system_purge.specs.Purge.{tell_freed}
 use Rattle.grs_world.proofs.at_rest.Freed.{ToldFreed, date-freed, matches-freed, told-freed}
 use Rattle.grs_world.proofs.system.Removed.{Frees, read-removal}
-use Rattle.grs_wire.specs.declared.told.Said.{Said}
-use Rattle.grs_wire.specs.declared.told.ToldLine.{ToldLine}
+use Rattle.grs_wire.specs.declared.request.Fixed.TheVariants as fixing
+use Rattle.task_state.specs.declared.state.Phase.TheVariants as phases
 use Rattle.grs_wire.specs.declared.told.ToldLine.TheVariants as told
 
 -- the resources of one system

@@ -1,41 +1,16 @@
 -- A run that is in ring mode and at rest: nothing is outstanding any more, and the tables are the history's.
-use Rattle.std.proofs.Common.{◌≡◌, ◌<◌, ◌+◌, ℕ, zero, suc, Bool, true, false, not, ◌&&◌, ◌||◌, List, [], ◌∷◌, ◌++◌}
-use Rattle.std.proofs.Common.{length, map, Some, refl, ap, sym, ◌∙◌, subst, arith, append-nil}
-use Rattle.std.specs.Prelude.{◌==◌, get_or, slice_get}
-use Rattle.std.specs.List.{list_any}
-use Rattle.std.proofs.lemmas.Bool.{and_parts, eqb-true, or_parts}
-use Rattle.grs_base.specs.Lists.{owns}
-use Rattle.grs_base.specs.State.{is_systems, list_of}
-use Rattle.grs_base.specs.declared.resource.Res.{Res}
-use Rattle.grs_base.specs.declared.resource.TaskId.{TaskId}
-use Rattle.grs_legal.specs.declared.meaning.Meaning.{Meaning}
-use Rattle.grs_medium.specs.Medium.{medium_at_end, live}
-use Rattle.grs_node.specs.Node.{NodeState, goes_on, is_pending, is_to_send}
-use Rattle.grs_wire.specs.Masks.{has}
-use Rattle.grs_wire.specs.Unseen.{unseen}
-use Rattle.grs_wire.specs.declared.deck.Deck.{Deck}
-use Rattle.grs_wire.specs.declared.deck.Event.{Event}
-use Rattle.grs_wire.specs.declared.medium.RingEntry.{RingEntry}
-use Rattle.grs_wire.specs.declared.request.Req.{Req}
-use Rattle.task_state.specs.View.{TasksView, is_sent, is_task, new_task, state_of}
-use Rattle.task_state.specs.declared.state.Phase.{Phase}
-use Rattle.task_state.specs.declared.state.Phase.TheVariants as phases
-use Rattle.task_state.specs.declared.state.TaskState.{TaskState}
+use Rattle.grs_world.proofs.Common.{[], ◌&&◌, ◌++◌, ◌+◌, ◌<◌, ◌==◌, ◌||◌, ◌∙◌, ◌∷◌, ◌≡◌, and_parts, ap, append-nil}
+use Rattle.grs_world.proofs.Common.{arith, askers, at_rest, Bodies, Bool, Deck, eqb-true, Event, false, get_or, goes_on}
+use Rattle.grs_world.proofs.Common.{has, is_among, is_marked, is_pending, is_res_of, is_sent, is_systems, is_task}
+use Rattle.grs_world.proofs.Common.{is_to_send, is_unsent, IsOurs, items, length, List, list_any, list_of, list_of-part}
+use Rattle.grs_world.proofs.Common.{lists, live, map, Meaning, medium_at_end, new_task, NodeState, not, or_other}
+use Rattle.grs_world.proofs.Common.{or_parts, own_requests, owns, owns-may, Phase, refl, Req, Res, RingEntry, rounds}
+use Rattle.grs_world.proofs.Common.{RunItem, slice_get, Some, state_of, subst, suc, sym, table-is, TaskId, TaskState}
+use Rattle.grs_world.proofs.Common.{TasksView, true, unseen, World, zero, ℕ}
 use Rattle.task_state.proofs.ViewLaws.{is_task-place}
-use Rattle.grs_known.proofs.known.Histories.{owns-may}
-use Rattle.grs_known.proofs.lists.Owners.{is_among}
-use Rattle.grs_known.proofs.lists.Parts.{is_res_of, list_of-part}
-use Rattle.grs_known.proofs.lists.Truths.{or_other}
-use Rattle.grs_known.proofs.ring.Reading.{table-is}
 use Rattle.grs_known.proofs.system.Asking.{held-none}
-use Rattle.grs_known.proofs.system.Ours.{IsOurs}
-use Rattle.grs_known.proofs.system.Says.{askers, own_requests}
-use Rattle.grs_known.proofs.tasks.Invariant.{is_unsent}
-use Rattle.grs_known.specs.Items.{RunItem, items, lists, rounds}
-use Rattle.rsa_message.proofs.Stands.{Bodies}
 use Rattle.grs_world.proofs.at_rest.Events.{date-any}
 use Rattle.grs_world.proofs.at_rest.AtEnd.{IsStill}
-use Rattle.grs_known.proofs.records.Marks.{is_marked}
 use Rattle.grs_world.proofs.at_rest.Unseen.{requests_of}
 use Rattle.grs_world.proofs.at_rest.RingRun.{AllRead, still_of}
 use Rattle.grs_world.proofs.run.Growing.{fixeds}
@@ -43,8 +18,8 @@ use Rattle.grs_world.proofs.run.InRing.{IsRing, live-there}
 use Rattle.grs_world.proofs.run.Messages.{given-later}
 use Rattle.grs_world.proofs.run.Runs.{GoodWorld}
 use Rattle.grs_world.proofs.system.AtNode.{Seen, opens_of}
-use Rattle.grs_world.specs.Running.{at_rest, is_busy, none_busy}
-use Rattle.grs_world.specs.World.{World}
+use Rattle.grs_world.specs.Running.{is_busy, none_busy}
+use Rattle.task_state.specs.declared.state.Phase.TheVariants as phases
 
 -- ---- no system is busy
 busy-at : (deck : Deck) (removed k : ℕ) (ns : List NodeState) (s : ℕ) (n : NodeState)

@@ -1,57 +1,31 @@
 -- As long as a run is in ring mode, each live system's records go on with its lists, and each request that was sent
 -- stands in the message.
-use Rattle.std.proofs.Common.{◌≡◌, ◌≢◌, ℕ, zero, suc, Bool, true, false, List, [], ◌∷◌, ◌++◌, length, take, Some, None}
-use Rattle.std.proofs.Common.{refl, ap, sym, ◌∙◌, subst, arith, append-nil}
-use Rattle.std.specs.Prelude.{get_or, set, slice_get}
-use Rattle.std.specs.List.{list_all}
-use Rattle.std.proofs.lemmas.Bool.{and_from, and_parts}
-use Rattle.grs_base.specs.Limits.{most_additions}
-use Rattle.grs_base.specs.declared.resource.SysId.{SysId}
-use Rattle.grs_base.specs.declared.resource.TaskId.{TaskId}
-use Rattle.grs_medium.specs.Medium.{live, MediumState}
-use Rattle.grs_node.specs.Node.{NodeState, first_node, is_to_send, may_go, put_in, read_entries, desk_told}
-use Rattle.grs_node.specs.Node.{task_step}
-use Rattle.grs_wire.specs.Masks.{has, with_also}
-use Rattle.grs_wire.specs.Unseen.{unseen}
-use Rattle.grs_wire.specs.declared.deck.Deck.{Deck}
-use Rattle.grs_wire.specs.declared.deck.Event.{Event}
-use Rattle.grs_wire.specs.declared.medium.RingEntry.{RingEntry}
-use Rattle.grs_wire.specs.declared.request.Req.{Req}
-use Rattle.rsa_message.specs.Message.{cleared, stamped, turned_open, dropped}
-use Rattle.task_state.specs.View.{is_sent, new_task, new_tasks, state_of}
-use Rattle.task_state.specs.declared.state.TaskState.{TaskState}
-use Rattle.grs_known.proofs.known.Histories.{AllAsk, asks-behind}
-use Rattle.grs_known.proofs.lists.Facts.{all-behind, take-none, take-taken}
-use Rattle.grs_known.proofs.lists.Owners.{is_among}
-use Rattle.grs_known.proofs.system.Says.{askers, is_home_at, own_requests}
-use Rattle.grs_known.specs.Items.{RunItem, goes_round, items, rounds}
-use Rattle.rsa_message.proofs.Stands.{Bodies}
+use Rattle.grs_world.proofs.Common.{[], ◌++◌, ◌∙◌, ◌∷◌, ◌≡◌, ◌≢◌, all-behind, AllAsk, and_from, and_parts, ap}
+use Rattle.grs_world.proofs.Common.{append-nil, arith, askers, asks-behind, Bodies, Bool, cleared, counted, Deck}
+use Rattle.grs_world.proofs.Common.{desk_told, dropped, Event, false, first_node, first_world, FitsStar, get_or}
+use Rattle.grs_world.proofs.Common.{goes_round, happens, has, has-with_other, has-with_same, is_among, is_home_at}
+use Rattle.grs_world.proofs.Common.{is_sent, is_systems, is_to_send, items, length, lines_of, List, list_all, live}
+use Rattle.grs_world.proofs.Common.{Matches, may_be_star, may_go, MediumState, most_additions, new_task, new_tasks}
+use Rattle.grs_world.proofs.Common.{no_truth, NodeState, None, NoneInStar, own_requests, placed, put_in, read_entries}
+use Rattle.grs_world.proofs.Common.{refl, Remove, Req, RingEntry, rounds, run, RunItem, set, slice_get, Some, stamped}
+use Rattle.grs_world.proofs.Common.{state_of, subst, suc, sym, SysId, take, take-none, task_step, TaskId, TaskState}
+use Rattle.grs_world.proofs.Common.{true, turned_open, Turnout, unseen, with_also, without_system, World, zero, ℕ}
+use Rattle.grs_known.proofs.lists.Facts.{take-taken}
 use Rattle.grs_world.proofs.move.Sound.{GoodRun, every_run, in_ring, in_star}
-use Rattle.grs_known.proofs.records.Lists.{Matches}
 use Rattle.grs_world.proofs.at_rest.Ring.{IsRead, distinct-at, is_local, kept-all, kept-put, desk-read, known-read}
-use Rattle.grs_base.specs.State.{is_systems}
 use Rattle.grs_world.proofs.at_rest.Tasks.{read-task}
 use Rattle.grs_world.proofs.at_rest.Unseen.{own-among, requests_of, waits-elsewhere, waits-new}
 use Rattle.grs_known.proofs.tasks.UpToDate.{IsUpToDate}
 use Rattle.grs_world.proofs.run.Spared.{each_spared, none_before}
-use Rattle.grs_world.specs.InStar.{NoneInStar}
 use Rattle.grs_world.proofs.run.Growing.{asks-rounds, fixeds}
-use Rattle.grs_world.proofs.run.InRing.{removed_by}
-use Rattle.grs_world.proofs.run.InRing.{CameInRing, changed, each_in_ring, nothing, star-stays, turn, went_on, IsRing}
-use Rattle.grs_world.proofs.run.InRing.{informed, live-there, no_such, removes_one}
+use Rattle.grs_world.proofs.run.InRing.{removed_by, CameInRing, changed, each_in_ring, nothing, star-stays, turn}
+use Rattle.grs_world.proofs.run.InRing.{went_on, IsRing, informed, live-there, no_such, removes_one}
 use Rattle.grs_world.proofs.run.Messages.{given-later}
 use Rattle.grs_world.proofs.run.Reading.{ReadTo, all-rounds, read-entries, read_all, reading}
 use Rattle.grs_world.proofs.run.Runs.{GoodWorld, by_node}
 use Rattle.grs_world.proofs.run.Sound.{first_of}
 use Rattle.grs_world.proofs.system.AtNode.{Seen}
-use Rattle.grs_world.specs.Decks.{FitsStar, may_be_star}
-use Rattle.grs_world.specs.World.{Turnout, World, counted, first_world, happens, placed, run}
-use Rattle.grs_medium.specs.Apply.{without_system}
-use Rattle.grs_wire.proofs.MaskLaws.{has-with_other, has-with_same}
-use Rattle.grs_wire.specs.declared.medium.RingBody.TheVariants.{Remove}
 use Rattle.grs_wire.specs.declared.told.Said.TheVariants as saids
-use Rattle.grs_known.proofs.lists.Truths.{no_truth}
-use Rattle.grs_legal.specs.Asks.{lines_of}
 
 -- the requests that a system has still to process
 abbrev pub still_of : ℕ → List RingEntry → List Req

@@ -1,59 +1,36 @@
 -- The part that a system has in star mode keeps lists, interest and whom it owes its part to of each lock entry of the
 -- deck, in every run.
-use Rattle.std.proofs.Common.{◌≡◌, ℕ, Bool, true, false, cond, List, [], ◌∷◌, length, take, Option, Some, None, refl}
-use Rattle.std.proofs.Common.{sym, ◌∙◌, subst}
-use Rattle.std.specs.Prelude.{◌&&◌, ◌++◌, ◌==◌, filter, slice_get, is_none, is_some}
-use Rattle.std.specs.Option.{option_map, option_map_or}
-use Rattle.std.proofs.lemmas.List.{length-map, length-replicate, length-set}
+use Rattle.grs_world.proofs.Common.{[], ◌==◌, ◌∙◌, ◌∷◌, ◌≡◌, after_request, after_telling, awaited, awaiting, begun}
+use Rattle.grs_world.proofs.Common.{Bool, by_test, change_to_star, Choice, cond, decide_own, Deck, desk_told}
+use Rattle.grs_world.proofs.Common.{entry_of_res, entry_wanted, Event, false, filter, first_node, first_part}
+use Rattle.grs_world.proofs.Common.{fixing_none, is_for_deck, is_item_of, is_news, is_none, is_of_deck, is_some}
+use Rattle.grs_world.proofs.Common.{known_from, left_at, length, length-map, length-replicate, length-set, lines_of}
+use Rattle.grs_world.proofs.Common.{List, lose, losing, losing_in, Mail, Managed, managed_at, managed_of, ManagerView}
+use Rattle.grs_world.proofs.Common.{MediumState, members, most_additions, move_entry, Moved, names_of, no_elements}
+use Rattle.grs_world.proofs.Common.{NodeState, None, Option, option_map, option_map_or, owing, part_by_table, placed}
+use Rattle.grs_world.proofs.Common.{purged, read_entries, refl, Req, request_of, Res, run, Said, same_Some, sent_again}
+use Rattle.grs_world.proofs.Common.{settled, slice_get, Some, stale, Standing, standing, StarPart, State, stays-task}
+use Rattle.grs_world.proofs.Common.{stays-turned, subst, switched, sym, SysId, take, take_mail, take_up, TaskId}
+use Rattle.grs_world.proofs.Common.{took_mail, true, Turnout, unseen, Want, with_also, with_entry, with_role}
+use Rattle.grs_world.proofs.Common.{without_those, World, ℕ}
+use Rattle.std.specs.Prelude.{◌++◌}
 use Rattle.std.proofs.lemmas.List.FromFn.{length-map-range_with_len}
-use Rattle.std.proofs.lemmas.Option.{same_Some}
 use Rattle.contention_mgr.specs.Loses.{after_losing, lost}
-use Rattle.contention_mgr.specs.Manager.{Managed, ManagerView, after_request, after_telling, entry_wanted, managed_at}
-use Rattle.contention_mgr.specs.Manager.{managed_for, managed_of, no_elements, settled, told as told_in, with_entry}
-use Rattle.grs_base.specs.Limits.{most_additions}
-use Rattle.grs_base.specs.State.{State}
-use Rattle.grs_base.specs.declared.resource.Res.{Res}
-use Rattle.grs_base.specs.declared.resource.SysId.{SysId}
-use Rattle.grs_base.specs.declared.resource.TaskId.{TaskId}
-use Rattle.grs_legal.specs.Asks.{lines_of}
-use Rattle.grs_medium.specs.Medium.{MediumState}
-use Rattle.grs_node.specs.Change.{entry_by_table, part_by_table}
-use Rattle.grs_node.specs.Node.{NodeState, change_to_star, desk_told, first_node, is_for_deck, purged, read_entries}
-use Rattle.grs_node.specs.Node.{changed as changed_now, is_item_of, is_of_deck, known_from, losing, losing_in, stale}
-use Rattle.grs_node.specs.Node.{switched, take_mail, took_mail}
-use Rattle.grs_node.specs.Names.{names_of}
-use Rattle.grs_node.specs.Removal.{Standing, awaited, is_news, lose, members, move_entry, sent_again, standing, take_up}
-use Rattle.grs_node.specs.Removal.{with_role, without_those}
-use Rattle.grs_node.specs.Star.{StarPart, begun, decide_own, first_part, fixing_none, is_held_for, left_at, managing}
-use Rattle.grs_node.specs.Star.{not_managing, request_of}
-use Rattle.grs_node.proofs.Keeping.{stays-task, stays-turned}
-use Rattle.grs_wire.specs.Masks.{with_also}
-use Rattle.grs_wire.specs.Unseen.{unseen}
-use Rattle.grs_wire.specs.declared.deck.Choice.{Choice}
-use Rattle.grs_wire.specs.declared.deck.Deck.{Deck}
-use Rattle.grs_wire.specs.declared.deck.Event.{Event}
-use Rattle.grs_wire.specs.declared.gather.Moved.{Moved}
-use Rattle.grs_wire.specs.declared.medium.Mail.{Mail}
-use Rattle.grs_wire.specs.declared.medium.Mail.TheVariants as mails
-use Rattle.grs_wire.specs.declared.request.Req.{Req}
-use Rattle.grs_wire.specs.declared.request.Want.{Want}
-use Rattle.grs_wire.specs.declared.told.Said.{Said}
-use Rattle.grs_wire.specs.declared.told.Said.TheVariants as saids
-use Rattle.grs_wire.proofs.WantLaws.{by_test}
-use Rattle.lock_structure.specs.Entries.{entry_of_res}
+use Rattle.contention_mgr.specs.Manager.{managed_for, told as told_in}
+use Rattle.grs_node.specs.Change.{entry_by_table}
+use Rattle.grs_node.specs.Node.{changed as changed_now}
+use Rattle.grs_node.specs.Star.{is_held_for, managing, not_managing}
 use Rattle.mode_migrate.specs.Migrate.{interest_by_table}
-use Rattle.star_client.specs.Owes.{owing}
-use Rattle.system_purge.specs.Gathers.{awaiting}
 use Rattle.grs_world.proofs.run.Came.{Acts, Came, Result, acted, already, began, changed, decided, informed, last_turn}
 use Rattle.grs_world.proofs.run.Came.{left, no_such, nothing, parted, removes_one, removes_star, sent}
-use Rattle.grs_world.proofs.run.Came.{settled as settled_one}
-use Rattle.grs_world.proofs.run.Came.{told, took, turn, went_on}
+use Rattle.grs_world.proofs.run.Came.{settled as settled_one, told, took, turn, went_on}
 use Rattle.grs_world.proofs.run.Chosen.{each_came}
 use Rattle.grs_world.proofs.run.Each.{each_run}
 use Rattle.grs_world.proofs.run.Lost.{by-loss, by-notice, by-part}
 use Rattle.grs_world.proofs.run.Runs.{by_node}
 use Rattle.grs_world.proofs.run.Sound.{first_of}
-use Rattle.grs_world.specs.World.{Turnout, World, placed, run}
+use Rattle.grs_wire.specs.declared.medium.Mail.TheVariants as mails
+use Rattle.grs_wire.specs.declared.told.Said.TheVariants as saids
 
 abbrev pub IsSized : ℕ → StarPart → Type 0
 IsSized entries p =

@@ -1,42 +1,23 @@
 -- A run that has changed to star mode and is at rest: nothing is outstanding any more, and each owner was told so.
-use Rattle.std.proofs.Common.{◌≡◌, ◌≢◌, ◌<◌, ◌+◌, ◌⊎◌, inl, inr, ℕ, zero, suc, Bool, true, false, not, ◌&&◌, ◌||◌, List}
-use Rattle.std.proofs.Common.{[], ◌∷◌, ◌++◌, length, map, Option, Some, None, refl, ap, sym, ◌∙◌, subst, arith}
-use Rattle.std.specs.Prelude.{◌==◌, slice_get}
-use Rattle.std.specs.List.{list_any}
-use Rattle.std.proofs.lemmas.Bool.{and_from, and_parts, eqb-true, eqb-false, or_parts}
-use Rattle.std.proofs.lemmas.Option.{same_Some, slice_get_within}
-use Rattle.contention_mgr.specs.Manager.{Managed, Ranked, any_untold_at, any_untold_in, is_of, is_untold, items_of}
-use Rattle.contention_mgr.specs.Manager.{kept_at, kept_for, managed_of}
-use Rattle.grs_base.specs.Lists.{owns}
-use Rattle.grs_base.specs.Same.{same_res, same_task}
-use Rattle.grs_base.specs.State.{is_systems, list_of}
-use Rattle.grs_base.specs.declared.resource.Res.{Res}
-use Rattle.grs_base.specs.declared.resource.TaskId.{TaskId}
-use Rattle.grs_base.proofs.SameLaws.{same_task-exact}
-use Rattle.grs_legal.specs.declared.meaning.Meaning.{Meaning}
+use Rattle.grs_world.proofs.Common.{[], ◌&&◌, ◌++◌, ◌+◌, ◌<◌, ◌==◌, ◌||◌, ◌∙◌, ◌∷◌, ◌≡◌, ◌≢◌, ◌⊎◌, and_from, and_parts}
+use Rattle.grs_world.proofs.Common.{ap, arith, askers, at_rest, Bool, Deck, eqb-false, eqb-true, false, false_by}
+use Rattle.grs_world.proofs.Common.{goes_on, has, has-zero, has_res, inbox, inl, inr, is_among, is_marked, is_pending}
+use Rattle.grs_world.proofs.Common.{is_res_of, is_sent, is_systems, is_task, is_to_send, is_unsent, IsOurs, items}
+use Rattle.grs_world.proofs.Common.{items_of, kept_at, kept_for, length, List, list_any, list_of, list_of-part, lists}
+use Rattle.grs_world.proofs.Common.{Managed, managed_of, map, Meaning, medium_at_end, new_task, no_truth, NodeState}
+use Rattle.grs_world.proofs.Common.{None, not, Option, or_other, or_parts, owns, owns-may, Phase, Ranked, refl, Res}
+use Rattle.grs_world.proofs.Common.{RunItem, same_res, same_Some, same_task, same_task-exact, slice_get}
+use Rattle.grs_world.proofs.Common.{slice_get_within, Some, StarPart, state_of, subst, suc, sym, TaskId, TasksView}
+use Rattle.grs_world.proofs.Common.{true, World, zero, ℕ}
+use Rattle.contention_mgr.specs.Manager.{any_untold_at, any_untold_in, is_of, is_untold}
 use Rattle.grs_medium.specs.Inboxes.{is_empty}
-use Rattle.grs_medium.specs.Medium.{inbox, medium_at_end}
-use Rattle.grs_node.specs.Node.{NodeState, goes_on, is_pending, is_star_pending, is_to_send}
-use Rattle.grs_node.specs.Star.{StarPart, is_part_pending}
-use Rattle.grs_wire.proofs.MaskLaws.{has-zero}
-use Rattle.grs_wire.specs.Masks.{all_others, has}
-use Rattle.grs_wire.specs.declared.deck.Deck.{Deck}
-use Rattle.task_state.specs.View.{TasksView, is_sent, is_task, new_task, state_of}
-use Rattle.task_state.specs.declared.state.Phase.{Phase}
-use Rattle.task_state.specs.declared.state.Phase.TheVariants as phases
+use Rattle.grs_node.specs.Node.{is_star_pending}
+use Rattle.grs_node.specs.Star.{is_part_pending}
+use Rattle.grs_wire.specs.Masks.{all_others}
 use Rattle.task_state.proofs.ViewLaws.{is_task-place}
-use Rattle.grs_known.proofs.known.Histories.{owns-may}
-use Rattle.grs_known.proofs.lists.Owners.{is_among}
-use Rattle.grs_known.proofs.lists.Parts.{is_res_of, list_of-part}
-use Rattle.grs_known.proofs.lists.Truths.{false_by, no_truth, or_other}
 use Rattle.grs_known.proofs.system.Good.{ours-home}
-use Rattle.grs_known.proofs.system.Ours.{IsOurs}
-use Rattle.grs_known.proofs.system.Says.{askers}
-use Rattle.grs_known.proofs.tasks.Invariant.{has_res, is_unsent}
-use Rattle.grs_known.specs.Items.{RunItem, items, lists}
 use Rattle.grs_world.proofs.move.Changing.{IsChanging}
 use Rattle.grs_world.proofs.at_rest.AtEnd.{IsStill}
-use Rattle.grs_known.proofs.records.Marks.{is_marked}
 use Rattle.grs_world.proofs.at_rest.Restful.{IsRestful, had-star, had_in, had_of, sent-star, sent_in, sent_of}
 use Rattle.grs_world.proofs.at_rest.RingEnd.{calm-at, no_length, none-at, pending-at}
 use Rattle.grs_world.proofs.at_rest.View.{shown-star, view-is, view-of}
@@ -45,9 +26,9 @@ use Rattle.grs_world.proofs.star.Heard.{IsHeard, IsInHands, IsUntold, hears, is_
 use Rattle.grs_world.proofs.star.Systems.{IsSystem}
 use Rattle.grs_world.proofs.star.Worlds.{in_hands}
 use Rattle.grs_world.proofs.system.AtNode.{opens_of}
-use Rattle.grs_world.specs.Running.{at_rest, is_busy, none_busy}
-use Rattle.grs_world.specs.World.{World}
+use Rattle.grs_world.specs.Running.{is_busy, none_busy}
 use Rattle.grs_world.proofs.run.Site.{at_site}
+use Rattle.task_state.specs.declared.state.Phase.TheVariants as phases
 
 -- ---- nothing is pending
 others-pass : (k removed : ℕ) (test : ℕ → Bool) (s : ℕ) → all_others k removed test ≡ true → s < k

@@ -1,27 +1,12 @@
 -- What rests holds of every run from the change of the medium on.
-use Rattle.std.proofs.Common.{◌≡◌, ◌<◌, ℕ, zero, suc, Bool, true, false, cond, List, [], ◌∷◌, ◌++◌, Option, Some, None}
-use Rattle.std.proofs.Common.{refl, ap, sym, ◌∙◌, subst, arith}
-use Rattle.std.specs.Prelude.{slice_get}
-use Rattle.std.proofs.lemmas.Option.{same_Some, slice_get_within}
-use Rattle.contention_mgr.specs.Manager.{Managed, managed_at}
-use Rattle.grs_base.specs.Limits.{most_systems}
-use Rattle.grs_base.specs.Lists.{has_task, owns}
-use Rattle.grs_base.specs.State.{list_of}
-use Rattle.grs_base.specs.declared.resource.Res.{Res}
-use Rattle.grs_base.specs.declared.resource.SysId.{SysId}
-use Rattle.grs_base.specs.declared.resource.TaskId.{TaskId}
-use Rattle.grs_medium.specs.Medium.{inbox}
-use Rattle.grs_node.specs.Node.{NodeState, first_node}
-use Rattle.grs_node.specs.Star.{StarPart, first_part}
-use Rattle.grs_wire.proofs.DeckLaws.{entries_some}
+use Rattle.grs_world.proofs.Common.{[], ◌++◌, ◌<◌, ◌∙◌, ◌∷◌, ◌≡◌, ap, arith, Bool, chosen, cond, Deck, entries_some}
+use Rattle.grs_world.proofs.Common.{Event, false, first_node, first_part, first_world, FitsStar, fixed_by, happens, has}
+use Rattle.grs_world.proofs.Common.{has_task, inbox, is_sent, IsHistory, items, List, list_of, lists, Managed}
+use Rattle.grs_world.proofs.Common.{managed_at, may_be_star, most_systems, no_truth, NodeState, None, NoneInStar}
+use Rattle.grs_world.proofs.Common.{Option, owns, placed, refl, Res, run, same_Some, slice_get, slice_get_within, Some}
+use Rattle.grs_world.proofs.Common.{StarPart, state_of, subst, suc, sym, SysId, TaskId, TaskState, true, Turnout, World}
+use Rattle.grs_world.proofs.Common.{zero, ℕ}
 use Rattle.grs_wire.specs.Decks.{IsBounded}
-use Rattle.grs_wire.specs.declared.deck.Deck.{Deck}
-use Rattle.grs_wire.specs.declared.deck.Event.{Event}
-use Rattle.task_state.specs.View.{is_sent, state_of}
-use Rattle.task_state.specs.declared.state.TaskState.{TaskState}
-use Rattle.grs_known.proofs.known.Histories.{IsHistory}
-use Rattle.grs_known.proofs.lists.Truths.{no_truth}
-use Rattle.grs_known.specs.Items.{items, lists}
 use Rattle.grs_world.proofs.move.Changing.{IsChanging}
 use Rattle.grs_world.proofs.move.Late.{came_late}
 use Rattle.grs_world.proofs.move.Sound.{GoodRun, every_run, good_history, in_ring, in_star}
@@ -42,14 +27,10 @@ use Rattle.grs_world.proofs.run.Each.{run-push, each_live}
 use Rattle.grs_world.proofs.move.Begin.{switch-stays}
 use Rattle.grs_world.proofs.run.Removals.{GoneAreRemoved, gone_are_removed, taken_out}
 use Rattle.grs_world.proofs.run.Spared.{each_spared, none_before, none_next}
-use Rattle.grs_world.specs.InStar.{NoneInStar}
 use Rattle.grs_world.proofs.run.InRing.{CameInRing, changed, each_in_ring, nothing, turn, went_on, informed, no_such}
 use Rattle.grs_world.proofs.run.InRing.{removes_one}
 use Rattle.grs_world.proofs.star.Heard.{AreAddressed, sent_by}
 use Rattle.grs_world.proofs.star.Sound.{first_inbox}
-use Rattle.grs_world.specs.Decks.{FitsStar, may_be_star}
-use Rattle.grs_world.specs.World.{Turnout, World, chosen, first_world, fixed_by, happens, placed, run}
-use Rattle.grs_wire.specs.Masks.{has}
 
 -- ---- an event behind the change of the medium
 module _ (deck : Deck) (some : 0 < deck.entries) (w : World) (g : IsChanging deck w) (h : IsRestful deck w) (c : SysId)

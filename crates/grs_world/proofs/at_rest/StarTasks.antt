@@ -1,69 +1,37 @@
 -- The tasks of a system of star mode: they stay up to date in each event, and what the system has on record goes on
 -- with its own lists.
-use Rattle.std.proofs.Common.{◌≡◌, ℕ, zero, suc, Bool, true, false, cond, not, List, [], ◌∷◌, ◌++◌, Option, Some, None}
-use Rattle.std.proofs.Common.{refl, ap, sym, ◌∙◌, subst}
-use Rattle.std.specs.Prelude.{◌==◌, get_or, slice_get}
-use Rattle.std.proofs.lemmas.Bool.{and_parts, eqb-true, eqb-false}
-use Rattle.grs_base.specs.Lists.{has_task, owns}
-use Rattle.grs_base.specs.Same.{same_res, same_task}
-use Rattle.grs_base.specs.Looks.{look}
-use Rattle.grs_base.specs.State.{State, is_systems, list_of}
-use Rattle.grs_base.specs.declared.decision.Code.{Code}
-use Rattle.grs_base.specs.declared.look.Place.TheVariants.{Local}
-use Rattle.grs_base.specs.declared.resource.Row.{Row}
-use Rattle.grs_base.specs.declared.resource.SysId.{SysId}
-use Rattle.grs_legal.specs.declared.meaning.Display.{Display}
-use Rattle.grs_base.specs.declared.decision.Code.TheVariants.{C00, C08}
-use Rattle.grs_base.specs.declared.resource.Res.{Res}
-use Rattle.grs_base.specs.declared.resource.TaskId.{TaskId}
-use Rattle.grs_base.proofs.SameLaws.{same_res-exact, same_task-exact}
-use Rattle.grs_legal.specs.Asks.{lines_of}
-use Rattle.grs_legal.specs.declared.meaning.Meaning.{Meaning}
-use Rattle.grs_legal.specs.declared.meaning.Meaning.TheVariants as lines
-use Rattle.grs_node.specs.Node.{NodeState, Step, ask, decide, end_step, has_most, is_of_deck, may_go, look_around}
-use Rattle.grs_node.specs.Node.{look_home, looks_asked, phase_step, post, posted, ready_step, show, take_line}
-use Rattle.grs_node.specs.Node.{task_step, wait, with_tasks}
-use Rattle.grs_wire.specs.Wants.{after_want, answer_to, new_owners, res_wanted, is_for_all}
-use Rattle.grs_wire.specs.declared.deck.Deck.{Deck}
+use Rattle.grs_world.proofs.Common.{[], ◌++◌, ◌==◌, ◌∙◌, ◌∷◌, ◌≡◌, after_mail, after_want, and_parts, Answer, answer_to}
+use Rattle.grs_world.proofs.Common.{ap, ask, Asked, Bool, by_test, C00, C08, Code, cond, controlled, decide, Deck, Deq}
+use Rattle.grs_world.proofs.Common.{Did, did-line, did-none, did-outstanding, did-phase, did-rows, did-shown}
+use Rattle.grs_world.proofs.Common.{did-telling, Display, end_step, Enq, eqb-false, eqb-true, false, false_by, get_or}
+use Rattle.grs_world.proofs.Common.{has_effect, has_most, has_res, has_task, is_distinct, is_for_all, is_marked}
+use Rattle.grs_world.proofs.Common.{is_of_deck, is_sent, is_systems, is_task, is_task-telling, IsOurs, IsWanted}
+use Rattle.grs_world.proofs.Common.{IsWantedBy, lines_of, List, list_of, Local, Look, look, look_around, look_home}
+use Rattle.grs_world.proofs.Common.{looks_asked, Matches, may_go, Meaning, new_owners, new_task, no_truth, NodeState}
+use Rattle.grs_world.proofs.Common.{None, not, Option, owns, Phase, phase_step, post, posted, ready_step, Rec}
+use Rattle.grs_world.proofs.Common.{record_of, refl, Release, replied, Res, res_wanted, Row, Rows, same_place, same_res}
+use Rattle.grs_world.proofs.Common.{same_res-exact, same_task, same_task-exact, show, Showing, slice_get, Some, some_of}
+use Rattle.grs_world.proofs.Common.{State, state_of, state_of-telling, Step, subst, suc, sym, SysId, take_line}
+use Rattle.grs_world.proofs.Common.{task_step, TaskId, TaskState, TasksView, tell_all, tell_answer}
+use Rattle.grs_world.proofs.Common.{tell_answer_any_ranked, tell_answer_ranked, tell_code, tell_control, tell_new}
+use Rattle.grs_world.proofs.Common.{tell_rows, tell_untold, telling, ToldLine, true, unrecorded, wait, Want, with_line}
+use Rattle.grs_world.proofs.Common.{with_outstanding, with_phase, with_rank_of, with_rows, with_tasks, zero, ℕ}
 use Rattle.grs_wire.specs.declared.medium.Mail.TheVariants.{Answered as AnsweredMail}
-use Rattle.grs_wire.specs.declared.request.Answer.{Answer}
-use Rattle.grs_wire.specs.declared.request.Answer.TheVariants.{Coded as CodedBy, Rows}
-use Rattle.grs_wire.specs.declared.request.Want.{Want}
-use Rattle.grs_wire.specs.declared.request.Want.TheVariants.{Enq, Deq, Release, Look}
-use Rattle.grs_wire.specs.declared.told.ToldLine.{ToldLine}
-use Rattle.grs_wire.specs.declared.told.ToldLine.TheVariants as told
-use Rattle.grs_wire.specs.declared.told.Verb.TheVariants as verbs
-use Rattle.grs_wire.proofs.WantLaws.{by_test}
-use Rattle.star_client.specs.Client.{after_mail, has_effect, has_sent, is_awaited, tell_answer_any_ranked}
-use Rattle.star_client.specs.Client.{tell_answer_ranked, unrecorded, with_rank_of}
-use Rattle.task_state.specs.Replies.{replied, tell_all, tell_answer, tell_code, tell_control, tell_new, tell_rows}
-use Rattle.task_state.specs.Replies.{tell_untold}
-use Rattle.task_state.specs.View.{TasksView, is_sent, is_task, new_task, record_of, state_of, telling, with_line}
-use Rattle.task_state.specs.View.{with_outstanding, with_phase, with_rows}
-use Rattle.task_state.specs.declared.state.Asked.{Asked}
-use Rattle.task_state.specs.declared.state.Phase.{Phase}
-use Rattle.task_state.specs.declared.state.Phase.TheVariants as phases
-use Rattle.task_state.specs.declared.state.Rec.{Rec}
-use Rattle.task_state.specs.declared.state.Showing.{Showing}
-use Rattle.task_state.specs.declared.state.TaskState.{TaskState}
-use Rattle.task_state.proofs.ViewLaws.{is_task-telling, state_of-telling}
-use Rattle.grs_known.proofs.lists.Facts.{some_of}
-use Rattle.grs_known.proofs.lists.Truths.{false_by, no_truth}
-use Rattle.grs_known.proofs.system.Did.{Did, did-code, did-line, did-none, did-outstanding, did-phase, did-rows}
-use Rattle.grs_known.proofs.system.Did.{did-shown, did-telling}
-use Rattle.grs_known.proofs.system.Ours.{IsOurs, same_place}
-use Rattle.grs_known.proofs.tasks.Invariant.{has_res, is_distinct}
+use Rattle.grs_wire.specs.declared.request.Answer.TheVariants.{Coded as CodedBy}
+use Rattle.star_client.specs.Client.{has_sent, is_awaited}
+use Rattle.grs_known.proofs.system.Did.{did-code}
 use Rattle.grs_known.proofs.tasks.Answered.{IsAnswerTo, KeepsRecords, lists-answer, rows-told}
-use Rattle.grs_known.proofs.records.Control.{Controlled, controlled, hears-has, hears-marked}
+use Rattle.grs_known.proofs.records.Control.{Controlled, hears-has, hears-marked}
 use Rattle.grs_known.proofs.records.Deciding.{AllKept, IsQuiet, own-kept}
 use Rattle.grs_world.proofs.at_rest.Events.{can_get-answers, date-ranked, date-sent, date-telling}
-use Rattle.grs_known.proofs.records.Lists.{Matches}
-use Rattle.grs_known.proofs.records.Marks.{is_marked}
 use Rattle.grs_world.proofs.at_rest.Ring.{is_local}
 use Rattle.grs_world.proofs.at_rest.Steps.{AllDate, date-control, date-task, going-ours, placed-here}
-use Rattle.grs_known.proofs.tasks.UpToDate.{IsWanted, IsWantedBy}
 use Rattle.grs_world.proofs.star.Heard.{grants}
 use Rattle.grs_world.proofs.star.hearing.Gentle.{Answered, answered, phase-records}
+use Rattle.grs_legal.specs.declared.meaning.Meaning.TheVariants as lines
+use Rattle.grs_wire.specs.declared.told.ToldLine.TheVariants as told
+use Rattle.grs_wire.specs.declared.told.Verb.TheVariants as verbs
+use Rattle.task_state.specs.declared.state.Phase.TheVariants as phases
 
 -- ---- what other events leave
 -- Each task stays up to date, and of the resources of its system the same are on record, where what was told stays

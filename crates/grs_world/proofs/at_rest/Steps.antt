@@ -1,61 +1,32 @@
 -- Each task of a system stays up to date, whatever the system does.
-use Rattle.std.proofs.Common.{◌≡◌, ◌≢◌, ◌<◌, ◌-◌, ◌+◌, ℕ, zero, suc, Bool, true, false, cond, not, ◌&&◌, ◌||◌, List, []}
-use Rattle.std.proofs.Common.{◌∷◌, ◌++◌}
-use Rattle.std.proofs.Common.{Option, Some, None, length, refl, ap, sym, ◌∙◌, subst, arith}
-use Rattle.std.specs.Prelude.{◌==◌, slice_get, is_some}
-use Rattle.std.specs.List.{list_any}
-use Rattle.std.proofs.lemmas.Bool.{and_parts, and_from, eq-eqb, eqb-true, eqb-false, or_left}
-use Rattle.grs_base.specs.Same.{same_res}
-use Rattle.grs_base.specs.declared.decision.Code.TheVariants.{C00, C08}
-use Rattle.grs_base.specs.declared.resource.Res.{Res}
-use Rattle.grs_base.specs.Looks.{look}
-use Rattle.grs_base.specs.declared.look.Place.TheVariants.{Local}
-use Rattle.grs_base.specs.declared.resource.Row.{Row}
-use Rattle.grs_base.specs.declared.resource.SysId.{SysId}
-use Rattle.grs_base.specs.declared.resource.TaskId.{TaskId}
-use Rattle.grs_base.specs.State.{State}
-use Rattle.grs_legal.specs.Asks.{lines_of}
+use Rattle.grs_world.proofs.Common.{[], ◌&&◌, ◌++◌, ◌+◌, ◌-◌, ◌<◌, ◌==◌, ◌||◌, ◌∙◌, ◌∷◌, ◌≡◌, ◌≢◌, and_from, and_parts}
+use Rattle.grs_world.proofs.Common.{answer_to, any-last, any-more, ap, arith, ask, Asked, Bool, by_test, C00, C08, cond}
+use Rattle.grs_world.proofs.Common.{controlled, decide, Deck, Deq, Did, did-line, did-none, did-outstanding, did-phase}
+use Rattle.grs_world.proofs.Common.{did-rows, did-shown, did-telling, Display, Each, end_step, Enq, eq-eqb, eqb-false}
+use Rattle.grs_world.proofs.Common.{eqb-true, false, goes_on, has_most, is_for_all, is_of_deck, is_some, is_task}
+use Rattle.grs_world.proofs.Common.{is_task-system, is_unmarked, is_unsent, IsOurs, IsWanted, IsWantedBy, length}
+use Rattle.grs_world.proofs.Common.{lines_of, List, list_any, Local, Look, look, look_around, look_home, looks_asked}
+use Rattle.grs_world.proofs.Common.{may_go, Meaning, new_owners, no_truth, NodeState, None, not, Option, or_left, Phase}
+use Rattle.grs_world.proofs.Common.{phase_step, post, ready_step, Rec, record_of, refl, Release, replied, Res}
+use Rattle.grs_world.proofs.Common.{res_wanted, Row, same_place, same_res, same_task-exact, show, slice_get, Some}
+use Rattle.grs_world.proofs.Common.{some_of, StarPart, State, state_of, Step, subst, suc, sym, SysId, take_line}
+use Rattle.grs_world.proofs.Common.{task_step, TaskId, TaskState, TasksView, tell_all, tell_code, tell_control}
+use Rattle.grs_world.proofs.Common.{tell_new, tell_rows, tell_untold, telling, ToldLine, true, wait, Want, with_line}
+use Rattle.grs_world.proofs.Common.{with_outstanding, with_phase, with_rows, with_tasks, zero, ℕ}
 use Rattle.gqscan.specs.Shown.{code_for}
-use Rattle.grs_legal.specs.declared.meaning.Display.{Display}
-use Rattle.grs_legal.specs.declared.meaning.Meaning.{Meaning}
+use Rattle.task_state.specs.View.{record_place}
+use Rattle.grs_known.proofs.system.Did.{did-code}
+use Rattle.grs_known.proofs.tasks.Asked.{any-after, told_after}
+use Rattle.grs_known.specs.Passed.{has_ended, has_code, is_at_line, passed_asking, passed_by}
+use Rattle.grs_known.proofs.tasks.Answered.{IsCoded, IsDue, answered, coded-line, is_free, shown-line}
+use Rattle.grs_known.proofs.records.Control.{hears-grows}
+use Rattle.grs_known.proofs.records.Places.{state_at}
+use Rattle.grs_known.proofs.tasks.UpToDate.{AreCoded, HasUnit, IsUpToDate, hears-date, is_code_at, is_end_at, is_kept}
+use Rattle.grs_known.proofs.tasks.UpToDate.{is_placed, more-told, unit_of}
 use Rattle.grs_legal.specs.declared.meaning.Meaning.TheVariants as lines
-use Rattle.grs_node.specs.Node.{NodeState, Step, ask, decide, end_step, look_around, look_home, looks_asked, phase_step}
-use Rattle.grs_node.specs.Node.{post, ready_step, show, take_line}
-use Rattle.grs_node.specs.Star.{StarPart}
-use Rattle.grs_node.specs.Node.{task_step, wait, with_tasks, goes_on, has_most, is_of_deck, may_go}
-use Rattle.grs_wire.specs.Wants.{answer_to, new_owners, res_wanted, is_for_all}
-use Rattle.grs_wire.specs.declared.deck.Deck.{Deck}
-use Rattle.grs_wire.specs.declared.request.Want.{Want}
-use Rattle.grs_wire.specs.declared.request.Want.TheVariants.{Enq, Deq, Release, Look}
-use Rattle.grs_wire.specs.declared.told.ToldLine.{ToldLine}
 use Rattle.grs_wire.specs.declared.told.ToldLine.TheVariants as told
 use Rattle.grs_wire.specs.declared.told.Verb.TheVariants as verbs
-use Rattle.grs_wire.proofs.WantLaws.{by_test}
-use Rattle.task_state.specs.Replies.{replied, tell_all, tell_code, tell_control, tell_new, tell_rows, tell_untold}
-use Rattle.task_state.specs.View.{TasksView, is_task, record_of, record_place, state_of, telling, with_line}
-use Rattle.task_state.specs.View.{with_outstanding, with_phase, with_rows}
-use Rattle.task_state.specs.declared.state.Asked.{Asked}
-use Rattle.task_state.specs.declared.state.Phase.{Phase}
 use Rattle.task_state.specs.declared.state.Phase.TheVariants as phases
-use Rattle.task_state.specs.declared.state.Rec.{Rec}
-use Rattle.task_state.specs.declared.state.TaskState.{TaskState}
-use Rattle.task_state.proofs.ViewLaws.{is_task-system}
-use Rattle.grs_known.proofs.lists.Facts.{any-last, any-more, some_of}
-use Rattle.grs_known.proofs.lists.Truths.{no_truth}
-use Rattle.grs_base.proofs.SameLaws.{same_task-exact}
-use Rattle.grs_known.proofs.system.Ours.{IsOurs, same_place}
-use Rattle.grs_known.proofs.system.Did.{Did, did-code, did-line, did-none, did-outstanding, did-phase, did-rows}
-use Rattle.grs_known.proofs.system.Did.{did-shown, did-telling}
-use Rattle.grs_known.proofs.tasks.Asked.{any-after, told_after}
-use Rattle.grs_known.proofs.tasks.Invariant.{Each, is_unsent}
-use Rattle.grs_known.specs.Passed.{has_ended}
-use Rattle.grs_known.proofs.tasks.Answered.{IsCoded, IsDue, answered, coded-line, is_free, shown-line}
-use Rattle.grs_known.proofs.records.Control.{controlled, hears-grows, is_unmarked}
-use Rattle.grs_known.proofs.records.Places.{state_at}
-use Rattle.grs_known.proofs.tasks.UpToDate.{AreCoded, HasUnit, IsUpToDate, IsWanted, IsWantedBy, hears-date}
-use Rattle.grs_known.proofs.tasks.UpToDate.{is_code_at}
-use Rattle.grs_known.proofs.tasks.UpToDate.{is_end_at, is_kept, is_placed, more-told, unit_of}
-use Rattle.grs_known.specs.Passed.{has_code, is_at_line, passed_asking, passed_by}
 
 -- ---- all tasks of a system
 -- each task of the deck that is here is up to date

@@ -1,49 +1,20 @@
 -- The complex begins to change: who owns by its table was told, nobody has sent anything, and no rank is past the ENQs.
-use Rattle.std.proofs.Common.{◌≡◌, ◌<◌, ◌≤◌, inl, ℕ, suc, true, List, [], ◌∷◌, ◌++◌, length, Option, Some, None, refl}
-use Rattle.std.proofs.Common.{ap, sym, ◌∙◌, subst, arith, false}
-use Rattle.std.specs.Prelude.{set, slice_get, slice_index_or}
-use Rattle.std.proofs.lemmas.Option.{same_Some}
-use Rattle.contention_mgr.specs.Manager.{Managed, managed_at}
-use Rattle.std.specs.List.{list_all}
-use Rattle.grs_base.specs.Limits.{most_systems}
-use Rattle.grs_base.specs.Lists.{has_task, owns}
-use Rattle.grs_base.specs.State.{is_systems, list_of}
-use Rattle.grs_base.specs.declared.resource.Res.{Res}
-use Rattle.grs_base.specs.declared.resource.SysId.{SysId}
-use Rattle.grs_base.specs.declared.resource.TaskId.{TaskId}
-use Rattle.grs_legal.specs.declared.meaning.Meaning.{Meaning}
-use Rattle.grs_medium.specs.Medium.{awake, inbox, live}
-use Rattle.grs_node.proofs.ChangeFits.{star-changed}
-use Rattle.grs_node.specs.Change.{part_by_table}
-use Rattle.grs_node.specs.Node.{NodeState, change_to_star, desk_told, only, own_words, read_entries, switched}
-use Rattle.grs_node.specs.Star.{StarPart}
-use Rattle.grs_wire.proofs.MaskLaws.{has-without_other}
-use Rattle.grs_wire.specs.Masks.{has, without}
-use Rattle.grs_wire.specs.Unseen.{unseen}
-use Rattle.grs_wire.specs.declared.deck.Deck.{Deck}
-use Rattle.grs_wire.specs.declared.deck.Event.{Event}
-use Rattle.grs_wire.specs.declared.medium.Mail.{Mail}
-use Rattle.grs_wire.specs.declared.medium.RingEntry.{RingEntry}
-use Rattle.grs_wire.specs.declared.told.Said.TheVariants as saids
-use Rattle.mode_migrate.specs.Laws.{are_within}
-use Rattle.rsa_message.specs.Message.{closed_by, first_number}
-use Rattle.task_state.specs.View.{is_sent, is_task, state_of}
-use Rattle.grs_known.proofs.records.Marks.{is_marked}
-use Rattle.grs_known.proofs.known.Histories.{AllAsk}
-use Rattle.grs_known.proofs.lists.Parts.{list_of-part}
-use Rattle.grs_known.proofs.lists.Truths.{no_truth}
-use Rattle.grs_known.proofs.ring.Reading.{table-is}
-use Rattle.grs_known.proofs.system.Ours.{IsOurs}
-use Rattle.grs_known.proofs.system.Says.{is_home_at, own_requests}
-use Rattle.grs_known.proofs.tasks.Invariant.{has_res}
-use Rattle.grs_known.specs.Items.{RunItem, items, lists, rounds}
+use Rattle.grs_world.proofs.Common.{[], ◌++◌, ◌<◌, ◌∙◌, ◌∷◌, ◌≡◌, ◌≤◌, AllAsk, ap, are_within, arith, awake}
+use Rattle.grs_world.proofs.Common.{change_to_star, closed_by, Deck, desk_told, Event, false, first_number, fixed_by}
+use Rattle.grs_world.proofs.Common.{has, has-without_other, has_res, has_task, inbox, inl, is_home_at, is_marked}
+use Rattle.grs_world.proofs.Common.{is_sent, is_systems, is_task, IsOurs, items, length, List, list_all, list_of}
+use Rattle.grs_world.proofs.Common.{list_of-part, lists, live, Mail, Managed, managed_at, Meaning, most_systems}
+use Rattle.grs_world.proofs.Common.{no_truth, NodeState, None, only, Option, own_requests, own_words, owns}
+use Rattle.grs_world.proofs.Common.{part_by_table, placed, read_entries, refl, Res, RingEntry, rounds, RunItem}
+use Rattle.grs_world.proofs.Common.{same_Some, set, slice_get, slice_index_or, Some, star-changed, StarPart, state_of}
+use Rattle.grs_world.proofs.Common.{subst, suc, switched, sym, SysId, table-is, TaskId, true, Turnout, unseen, without}
+use Rattle.grs_world.proofs.Common.{World, ℕ}
 use Rattle.grs_world.proofs.move.Begin.{front-within, more-within}
 use Rattle.grs_world.proofs.move.Changing.{IsChanging}
 use Rattle.grs_world.proofs.at_rest.Changed.{change-dated, change-had, change-has, change-unsent}
 use Rattle.grs_world.proofs.at_rest.Loaded.{table-few, table-ranks}
 use Rattle.grs_world.proofs.at_rest.Restful.{IsRestful, by_set, had-ring, had-star, had_in, had_of, sent-ring}
-use Rattle.grs_world.proofs.at_rest.Restful.{sent-star}
-use Rattle.grs_world.proofs.at_rest.Restful.{sent_in, sent_of}
+use Rattle.grs_world.proofs.at_rest.Restful.{sent-star, sent_in, sent_of}
 use Rattle.grs_world.proofs.at_rest.Events.{date-any}
 use Rattle.grs_world.proofs.at_rest.Ring.{IsRead, box-here, desk-read}
 use Rattle.grs_world.proofs.at_rest.RingRun.{AllRead, node_is, read-due, reads, still_of}
@@ -60,7 +31,7 @@ use Rattle.grs_world.proofs.star.Worlds.{items-none}
 use Rattle.grs_world.proofs.system.AtNode.{Seen, opens_of}
 use Rattle.grs_world.proofs.system.Desks.{desk-seen}
 use Rattle.grs_world.proofs.system.Puts.{home-task}
-use Rattle.grs_world.specs.World.{Turnout, World, fixed_by, placed}
+use Rattle.grs_wire.specs.declared.told.Said.TheVariants as saids
 
 -- System s comes to star mode from m, which has processed all that went with the message.
 record IsArriving (deck : Deck) (s : ℕ) (T : List RunItem) (k m : NodeState) : Type 0 where

@@ -1,56 +1,26 @@
 -- A task of a system of the ring goes on by itself: its records go on with the system's own lists, and nothing else is
 -- sent.
-use Rattle.std.proofs.Common.{◌≡◌, ℕ, zero, suc, Bool, true, false, cond, not, ◌||◌, List, [], ◌∷◌, ◌++◌, Option, Some}
-use Rattle.std.proofs.Common.{None}
-use Rattle.std.proofs.Common.{refl, ap, sym, ◌∙◌, subst}
-use Rattle.std.specs.Prelude.{is_some, slice_get}
-use Rattle.std.proofs.lemmas.Bool.{or_left, or_right}
-use Rattle.grs_base.specs.Same.{same_task}
-use Rattle.grs_base.specs.Looks.{look}
-use Rattle.grs_base.specs.State.{is_systems}
-use Rattle.grs_base.specs.declared.look.Place.TheVariants.{Local}
-use Rattle.grs_base.specs.declared.resource.Row.{Row}
-use Rattle.grs_base.specs.declared.resource.SysId.{SysId}
-use Rattle.grs_legal.specs.declared.meaning.Display.{Display}
-use Rattle.grs_base.specs.declared.resource.Res.{Res}
-use Rattle.grs_base.specs.declared.resource.TaskId.{TaskId}
-use Rattle.grs_base.specs.declared.decision.Code.TheVariants.{C00, C08}
-use Rattle.grs_base.proofs.SameLaws.{same_task-exact, same_task-itself}
-use Rattle.grs_legal.specs.Asks.{lines_of}
-use Rattle.grs_legal.specs.declared.meaning.Meaning.{Meaning}
-use Rattle.grs_legal.specs.declared.meaning.Meaning.TheVariants as lines
-use Rattle.grs_node.specs.Node.{NodeState, Step, ask, decide, end_step, has_most, is_to_send, may_go, outbox_with}
-use Rattle.grs_node.specs.Node.{look_around, look_home, looks_asked, phase_step, post, posted, ready_step, show}
-use Rattle.grs_node.specs.Node.{take_line, task_step, wait, with_tasks}
-use Rattle.grs_node.specs.Star.{StarPart}
-use Rattle.grs_wire.specs.Wants.{after_want, answer_to, new_owners, res_wanted, is_for_all}
-use Rattle.grs_wire.specs.declared.deck.Deck.{Deck}
-use Rattle.grs_wire.specs.declared.request.Req.{Req}
-use Rattle.grs_wire.specs.declared.request.Want.{Want}
-use Rattle.grs_wire.specs.declared.request.Want.TheVariants.{Enq, Deq, Release}
-use Rattle.grs_wire.specs.declared.told.ToldLine.{ToldLine}
-use Rattle.grs_wire.specs.declared.told.ToldLine.TheVariants as told
-use Rattle.grs_wire.specs.declared.told.Verb.TheVariants as verbs
-use Rattle.grs_wire.proofs.WantLaws.{by_test}
-use Rattle.task_state.specs.Replies.{replied, tell_code, tell_new, tell_rows}
-use Rattle.task_state.specs.View.{TasksView, is_sent, record_of, state_of, telling, with_line, with_outstanding}
-use Rattle.task_state.specs.View.{with_phase, with_rows}
-use Rattle.task_state.specs.declared.state.Asked.{Asked}
-use Rattle.task_state.specs.declared.state.Phase.{Phase}
-use Rattle.task_state.specs.declared.state.Phase.TheVariants as phases
-use Rattle.task_state.specs.declared.state.Rec.{Rec}
-use Rattle.task_state.specs.declared.state.TaskState.{TaskState}
-use Rattle.grs_known.proofs.lists.Owners.{is_among}
-use Rattle.grs_known.proofs.lists.Truths.{no_truth}
-use Rattle.grs_known.proofs.system.Did.{Did, did-code, did-line, did-none, did-outstanding, did-phase, did-rows}
-use Rattle.grs_known.proofs.system.Did.{did-shown, did-telling}
-use Rattle.grs_known.proofs.system.Ours.{IsOurs, same_place}
-use Rattle.grs_known.proofs.system.Says.{askers}
-use Rattle.grs_known.proofs.tasks.Invariant.{is_distinct}
+use Rattle.grs_world.proofs.Common.{[], ◌++◌, ◌||◌, ◌∙◌, ◌∷◌, ◌≡◌, after_want, answer_to, ap, ask, Asked, askers, Bool}
+use Rattle.grs_world.proofs.Common.{by_test, C00, C08, cond, decide, Deck, Deq, Did, did-line, did-none}
+use Rattle.grs_world.proofs.Common.{did-outstanding, did-phase, did-rows, did-shown, did-telling, Display, end_step}
+use Rattle.grs_world.proofs.Common.{Enq, false, has_most, is_among, is_distinct, is_for_all, is_sent, is_some}
+use Rattle.grs_world.proofs.Common.{is_systems, is_to_send, IsOurs, lines_of, List, Local, look, look_around, look_home}
+use Rattle.grs_world.proofs.Common.{looks_asked, Matches, may_go, Meaning, new_owners, no_truth, NodeState, None, not}
+use Rattle.grs_world.proofs.Common.{Option, or_left, or_right, Phase, phase_step, post, posted, ready_step, Rec}
+use Rattle.grs_world.proofs.Common.{record_of, refl, Release, replied, Req, Res, res_wanted, Row, same_place, same_task}
+use Rattle.grs_world.proofs.Common.{same_task-exact, same_task-itself, show, slice_get, Some, StarPart, state_of, Step}
+use Rattle.grs_world.proofs.Common.{subst, suc, sym, SysId, take_line, task_step, TaskId, TaskState, TasksView}
+use Rattle.grs_world.proofs.Common.{tell_code, tell_new, tell_rows, telling, ToldLine, true, wait, Want, with_line}
+use Rattle.grs_world.proofs.Common.{with_outstanding, with_phase, with_rows, with_tasks, zero, ℕ}
+use Rattle.grs_node.specs.Node.{outbox_with}
+use Rattle.grs_known.proofs.system.Did.{did-code}
 use Rattle.grs_known.proofs.records.Deciding.{AllKept, IsQuiet, own-kept}
-use Rattle.grs_known.proofs.records.Lists.{Matches}
 use Rattle.grs_world.proofs.at_rest.Ring.{IsRead, is_local, quiet-sent, quiet-to_send}
 use Rattle.grs_world.proofs.at_rest.Steps.{AllDate, date-task, going-ours}
+use Rattle.grs_legal.specs.declared.meaning.Meaning.TheVariants as lines
+use Rattle.grs_wire.specs.declared.told.ToldLine.TheVariants as told
+use Rattle.grs_wire.specs.declared.told.Verb.TheVariants as verbs
+use Rattle.task_state.specs.declared.state.Phase.TheVariants as phases
 
 -- what is said of it but that its lines are told
 pub record IsLocal (deck : Deck) (s : ℕ) (n : NodeState) (qs : List Req) : Type 0 where

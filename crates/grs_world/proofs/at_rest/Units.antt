@@ -1,60 +1,39 @@
 -- Where a run is at rest a unit's count is that of the owners which a RESERVE of the unit queued.
-use Rattle.std.proofs.Common.{◌≡◌, ◌≢◌, ◌<◌, ◌≤◌, ◌+◌, ◌-◌, ℕ, zero, suc, Bool, true, false, cond, not, ◌&&◌, ◌||◌}
-use Rattle.std.proofs.Common.{List, [], ◌∷◌, ◌++◌, length, map, Option, Some, None, refl, ap, sym, ◌∙◌, subst, arith}
-use Rattle.std.proofs.Common.{length-append}
-use Rattle.std.specs.Prelude.{◌==◌, filter, get_or, is_some, nat_lt, option_to_list, slice_get}
-use Rattle.std.specs.List.{count_by, list_any, list_all, range_with_len}
-use Rattle.std.proofs.lemmas.Bool.{and_parts, and_from, eqb-true, eqb-false, eq-eqb, ltb-false, ltb-true, ne_eqb}
-use Rattle.std.proofs.lemmas.Bool.{not-true}
+use Rattle.grs_world.proofs.Common.{[], ◌&&◌, ◌++◌, ◌+◌, ◌-◌, ◌<◌, ◌==◌, ◌||◌, ◌∙◌, ◌∷◌, ◌≡◌, ◌≢◌, ◌≤◌, and_from}
+use Rattle.grs_world.proofs.Common.{and_parts, ap, arith, Bool, cond, Deck, Each, Elem, entry_of_line, eq-eqb}
+use Rattle.grs_world.proofs.Common.{eqb-false, eqb-true, Event, false, false_by, filter, filter-append, get_or, has}
+use Rattle.grs_world.proofs.Common.{hist, HistEntry, history, is_leaving, is_marked, is_res_of, is_some, is_systems}
+use Rattle.grs_world.proofs.Common.{is_task, IsHere, IsHistory, IsOurs, IsRec, IsTask, items, items_are_history, length}
+use Rattle.grs_world.proofs.Common.{length-append, line_entries, lines_of, List, list_all, list_any, list_of, lists}
+use Rattle.grs_world.proofs.Common.{lists_after, ltb-true, map, Meaning, meanings, nat_lt, ne_eqb, new_task, no_truth}
+use Rattle.grs_world.proofs.Common.{NodeState, None, not, not-true, Option, owns, Past, past_of, Rec, refl, replay}
+use Rattle.grs_world.proofs.Common.{replayed, Res, run, RunItem, same_res, same_res-exact, same_task, same_task-exact}
+use Rattle.grs_world.proofs.Common.{same_task-itself, scripts_of, slice_get, slice_get-past, Some, Speaks, speaks-known}
+use Rattle.grs_world.proofs.Common.{State, state_of, subst, suc, sym, SysId, TaskId, TaskState, TasksView, true, zero}
+use Rattle.grs_world.proofs.Common.{ℕ}
+use Rattle.std.specs.Prelude.{option_to_list}
+use Rattle.std.specs.List.{count_by, range_with_len}
+use Rattle.std.proofs.lemmas.Bool.{ltb-false}
 use Rattle.std.proofs.lemmas.List.Sums.{length-filter}
-use Rattle.std.proofs.lemmas.List.Elements.{filter-append}
-use Rattle.grs_base.specs.Lists.{owns}
-use Rattle.grs_base.specs.Same.{same_res, same_task}
-use Rattle.grs_base.specs.State.{State, is_systems, list_of}
-use Rattle.grs_base.specs.declared.resource.Elem.{Elem}
-use Rattle.grs_base.specs.declared.resource.Res.{Res}
-use Rattle.grs_base.specs.declared.resource.SysId.{SysId}
-use Rattle.grs_base.specs.declared.resource.TaskId.{TaskId}
-use Rattle.grs_base.proofs.SameLaws.{same_res-exact, same_task-exact, same_task-itself}
-use Rattle.grs_legal.specs.Asks.{Script, lines_at, lines_of, meanings, scripts_of}
-use Rattle.grs_legal.specs.Legal.{line_entries}
-use Rattle.grs_legal.specs.declared.meaning.Meaning.{Meaning}
-use Rattle.grs_legal.specs.declared.meaning.Meaning.TheVariants as lines
-use Rattle.grs_node.specs.Node.{NodeState}
-use Rattle.grs_wire.specs.History.{replay}
-use Rattle.grs_wire.specs.declared.deck.Deck.{Deck}
-use Rattle.grs_wire.specs.declared.deck.Event.{Event}
-use Rattle.grs_wire.specs.declared.history.HistEntry.{HistEntry}
-use Rattle.task_state.specs.Replies.{is_leaving}
+use Rattle.grs_legal.specs.Asks.{Script, lines_at}
 use Rattle.task_state.specs.Units.{counted, counting, counting_all, reserved_by, reserved_in, reserved_of, units_at}
-use Rattle.task_state.specs.View.{TasksView, is_task, new_task, state_of}
-use Rattle.task_state.specs.declared.state.Rec.{Rec}
-use Rattle.task_state.specs.declared.state.TaskState.{TaskState}
-use Rattle.grs_known.proofs.known.Histories.{IsHistory, elements-ask, may_have, replayed}
-use Rattle.grs_known.proofs.known.ItemLaws.{items_are_history}
-use Rattle.grs_known.proofs.known.Knows.{knows-closed, speaks-known}
-use Rattle.grs_known.proofs.lists.Facts.{slice_get-past}
-use Rattle.grs_known.proofs.lists.Parts.{is_res_of}
-use Rattle.grs_known.proofs.lists.Truths.{false_by, no_truth}
+use Rattle.grs_known.proofs.known.Histories.{elements-ask, may_have}
+use Rattle.grs_known.proofs.known.Knows.{knows-closed}
 use Rattle.grs_known.proofs.system.Asking.{unasked-none}
 use Rattle.grs_known.proofs.system.Good.{home-ours}
-use Rattle.grs_known.proofs.system.Ours.{IsHere, IsOurs}
-use Rattle.grs_known.proofs.tasks.Invariant.{Each, IsRec, IsTask, key}
-use Rattle.grs_known.specs.Items.{RunItem, history, items, lists}
-use Rattle.grs_known.specs.Past.{Past, Speaks, own_elements, past_of}
-use Rattle.grs_known.specs.Told.{entry_of_line, queued_last, queues, queues_at}
+use Rattle.grs_known.proofs.tasks.Invariant.{key}
+use Rattle.grs_known.specs.Past.{own_elements}
+use Rattle.grs_known.specs.Told.{queued_last, queues, queues_at}
 use Rattle.grs_world.proofs.at_rest.AtEnd.{IsStill, more-asks}
 use Rattle.grs_world.proofs.at_rest.Few.{below-all, length-parts}
 use Rattle.grs_world.proofs.at_rest.Full.{AreFull}
 use Rattle.grs_world.proofs.at_rest.Held.{none-earlier}
-use Rattle.grs_known.proofs.records.Marks.{is_marked}
 use Rattle.grs_world.proofs.at_rest.Steps.{one-task}
 use Rattle.grs_known.proofs.tasks.UpToDate.{HasUnit, unit_of}
-use Rattle.grs_world.specs.AtRest.{UnitsAreReserved, is_reserve, is_unit, lists_after, queued_with, queued_with_by}
-use Rattle.grs_world.specs.AtRest.{reserves, unit_count}
+use Rattle.grs_world.specs.AtRest.{UnitsAreReserved, is_reserve, is_unit, queued_with, queued_with_by, reserves}
+use Rattle.grs_world.specs.AtRest.{unit_count}
 use Rattle.grs_world.specs.Running.{units_of}
-use Rattle.grs_world.specs.World.{hist, run}
-use Rattle.grs_wire.specs.Masks.{has}
+use Rattle.grs_legal.specs.declared.meaning.Meaning.TheVariants as lines
 
 -- ---- counts of units
 abbrev occ : ℕ → List ℕ → ℕ

@@ -1,27 +1,13 @@
 -- The requests among what a system has still to process of the message.
-use Rattle.std.proofs.Common.{◌≡◌, ◌≢◌, ℕ, suc, Bool, true, false, cond, not, ◌||◌, List, [], ◌∷◌, ◌++◌, map, Some}
-use Rattle.std.proofs.Common.{refl, ap, sym, ◌∙◌, subst}
-use Rattle.std.specs.Prelude.{◌==◌, filter}
-use Rattle.std.proofs.lemmas.Bool.{eqb-true, eq-eqb, or_left, or_right}
-use Rattle.grs_base.specs.Same.{same_task}
-use Rattle.grs_base.specs.declared.resource.SysId.{SysId}
-use Rattle.grs_base.specs.declared.resource.TaskId.{TaskId}
-use Rattle.grs_base.proofs.SameLaws.{same_task-exact}
-use Rattle.grs_wire.specs.Masks.{has, only}
-use Rattle.grs_wire.specs.Unseen.{is_unseen, unseen}
-use Rattle.grs_wire.specs.declared.medium.RingBody.{RingBody}
-use Rattle.grs_wire.specs.declared.medium.RingBody.TheVariants.{Request, Remove}
-use Rattle.grs_wire.specs.declared.medium.RingEntry.{RingEntry}
-use Rattle.grs_wire.specs.declared.request.Fixed.{Fixed}
-use Rattle.grs_wire.specs.declared.request.Fixed.TheVariants.{Asked, LocalLook, Purged}
-use Rattle.grs_wire.specs.declared.request.Req.{Req}
-use Rattle.grs_wire.proofs.MaskLaws.{has-without_other, has-with_other, has-zero}
-use Rattle.rsa_message.specs.Message.{cleared, left_by, stamped}
-use Rattle.grs_known.proofs.lists.Owners.{is_among}
-use Rattle.grs_known.proofs.lists.Truths.{no_truth}
-use Rattle.grs_known.proofs.system.Says.{askers, own_asked, own_requests}
-use Rattle.grs_known.specs.Items.{RunItem}
-use Rattle.rsa_message.proofs.Stands.{Bodies, body_of, none, more}
+use Rattle.grs_world.proofs.Common.{[], ◌++◌, ◌==◌, ◌||◌, ◌∙◌, ◌∷◌, ◌≡◌, ◌≢◌, ap, askers, Bodies, Bool, cleared, cond}
+use Rattle.grs_world.proofs.Common.{eq-eqb, eqb-true, false, filter, Fixed, has, has-with_other, has-without_other}
+use Rattle.grs_world.proofs.Common.{has-zero, is_among, is_unseen, left_by, List, LocalLook, map, no_truth, not}
+use Rattle.grs_world.proofs.Common.{or_left, or_right, own_asked, own_requests, Purged, refl, Remove, Req, Request}
+use Rattle.grs_world.proofs.Common.{RingBody, RingEntry, RunItem, same_task, same_task-exact, Some, stamped, subst, suc}
+use Rattle.grs_world.proofs.Common.{sym, SysId, TaskId, true, unseen, ℕ}
+use Rattle.grs_wire.specs.Masks.{only}
+use Rattle.grs_wire.specs.declared.request.Fixed.TheVariants.{Asked}
+use Rattle.rsa_message.proofs.Stands.{body_of, none, more}
 use Rattle.grs_world.proofs.run.Growing.{fixeds}
 
 abbrev pub request_in : RingBody → List Req

@@ -1,22 +1,12 @@
 -- What is shown of the live systems of a complex that changes is told by the world alone: who has changed shows itself,
 -- and any other what it comes to by its Turn.
-use Rattle.std.proofs.Common.{◌≡◌, ◌≤◌, ℕ, zero, suc, cond, List, [], ◌∷◌, length, Option, Some, None, refl, ap, sym}
-use Rattle.std.proofs.Common.{◌∙◌, arith, false}
-use Rattle.std.specs.Prelude.{is_none, slice_get}
-use Rattle.std.proofs.lemmas.Option.{same_Some, slice_get_within}
-use Rattle.grs_base.specs.declared.resource.SysId.{SysId}
-use Rattle.grs_node.specs.Node.{NodeState, change_to_star, read_entries}
-use Rattle.grs_node.specs.Star.{StarPart}
-use Rattle.grs_wire.specs.Unseen.{unseen}
-use Rattle.grs_wire.specs.declared.deck.Deck.{Deck}
-use Rattle.grs_wire.specs.declared.medium.RingEntry.{RingEntry}
-use Rattle.grs_known.proofs.lists.Facts.{slice_get-past}
-use Rattle.grs_known.specs.Items.{items}
+use Rattle.grs_world.proofs.Common.{[], ◌∙◌, ◌∷◌, ◌≡◌, ◌≤◌, ap, arith, change_to_star, cond, Deck, false, has, is_none}
+use Rattle.grs_world.proofs.Common.{items, length, List, NodeState, None, Option, read_entries, refl, RingEntry}
+use Rattle.grs_world.proofs.Common.{same_Some, slice_get, slice_get-past, slice_get_within, Some, StarPart, suc, sym}
+use Rattle.grs_world.proofs.Common.{SysId, unseen, World, zero, ℕ}
 use Rattle.grs_world.proofs.move.Changing.{IsChanging, Shown, Waits, has_changed, viewed, waits_yet}
 use Rattle.grs_world.proofs.move.Moved.{alive as lives-on}
 use Rattle.grs_world.proofs.move.Waiting.{comes-to}
-use Rattle.grs_world.specs.World.{World}
-use Rattle.grs_wire.specs.Masks.{has}
 use Rattle.grs_world.proofs.run.Site.{at_site}
 
 -- ---- lists

@@ -1,25 +1,11 @@
 -- An event of a system that waits to change to star mode leaves what rests.
-use Rattle.std.proofs.Common.{◌≡◌, ◌≤◌, ◌+◌, ℕ, true, List, [], ◌∷◌, ◌++◌, Some, None, refl, ap, sym, ◌∙◌, subst, arith}
-use Rattle.std.proofs.Common.{false}
-use Rattle.std.specs.Prelude.{slice_get}
-use Rattle.grs_base.specs.declared.resource.Res.{Res}
-use Rattle.grs_base.specs.State.{State, is_systems, list_of}
-use Rattle.grs_base.specs.declared.resource.SysId.{SysId}
-use Rattle.grs_base.specs.declared.resource.TaskId.{TaskId}
-use Rattle.grs_legal.specs.Asks.{lines_of}
-use Rattle.grs_node.proofs.Keeping.{Stays, stays-task}
-use Rattle.grs_node.specs.Node.{NodeState, desk_told, may_go, task_step, only}
-use Rattle.grs_wire.specs.declared.deck.Deck.{Deck}
-use Rattle.grs_wire.specs.declared.request.Fixed.{Fixed}
-use Rattle.grs_wire.specs.declared.request.Fixed.TheVariants as fixing
-use Rattle.grs_wire.specs.declared.told.Said.{Said}
-use Rattle.grs_wire.specs.declared.told.Said.TheVariants as saids
-use Rattle.grs_known.proofs.known.Histories.{made_item}
-use Rattle.grs_known.proofs.known.ItemLaws.{lists-push}
+use Rattle.grs_world.proofs.Common.{[], ◌++◌, ◌+◌, ◌∙◌, ◌∷◌, ◌≡◌, ◌≤◌, after_fixed, ap, arith, Deck, desk_told, false}
+use Rattle.grs_world.proofs.Common.{Fixed, fixed_by, goes_round, has, is_systems, items, lines_of, List, list_of, lists}
+use Rattle.grs_world.proofs.Common.{lists-push, made_item, may_go, NodeState, None, only, own_requests, placed, refl}
+use Rattle.grs_world.proofs.Common.{Res, RunItem, Said, slice_get, Some, State, stays-task, subst, sym, SysId}
+use Rattle.grs_world.proofs.Common.{task_step, TaskId, true, Turnout, World, ℕ}
+use Rattle.grs_node.proofs.Keeping.{Stays}
 use Rattle.grs_wire.proofs.WantLaws.{list_of-want_other}
-use Rattle.grs_known.proofs.system.Says.{own_requests}
-use Rattle.grs_known.specs.Items.{RunItem, goes_round, items, lists}
-use Rattle.grs_wire.specs.History.{after_fixed}
 use Rattle.grs_world.proofs.move.Changing.{IsChanging}
 use Rattle.grs_world.proofs.move.Late.{CameLate, desk_late, nothing_late, task_late, turn_late, informed_late}
 use Rattle.grs_world.proofs.move.Late.{vary_late}
@@ -35,9 +21,9 @@ use Rattle.grs_world.proofs.star.hearing.Passing.{enq_count-grown}
 use Rattle.grs_world.proofs.star.hearing.Quiet.{other-kind}
 use Rattle.grs_world.proofs.system.AtNode.{QuietStep, Seen, fixes, keeps}
 use Rattle.grs_world.proofs.system.Quiet.{quiet}
-use Rattle.grs_world.specs.World.{Turnout, World, fixed_by, placed}
-use Rattle.grs_wire.specs.Masks.{has}
 use Rattle.grs_world.proofs.run.Site.{at_site}
+use Rattle.grs_wire.specs.declared.request.Fixed.TheVariants as fixing
+use Rattle.grs_wire.specs.declared.told.Said.TheVariants as saids
 
 -- ---- its desk is told
 pub desk-shared : (n : NodeState) (said : Said) → (desk_told n said).shared ≡ n.shared

@@ -1,27 +1,17 @@
 -- What a system prepares fits the medium.
-use Rattle.std.proofs.Common.{◌≡◌, refl, ◌≢◌, false, Bool, ◌<◌, ◌≤◌, ℕ, true, length, Some, ap, sym, ◌∙◌, subst, arith}
-use Rattle.std.proofs.lemmas.Bool.{and_parts, eqb-true, eqb-false}
-use Rattle.std.proofs.lemmas.Bool.Decides.{nat_tests}
-use Rattle.std.specs.List.{list_all}
-use Rattle.std.specs.Prelude.{not, ◌==◌, nat_lt, nat_le}
-use Rattle.grs_base.specs.declared.resource.SysId.{SysId}
-use Rattle.grs_medium.specs.Apply.{ActFits, reply_to, medium_after}
-use Rattle.grs_medium.specs.Medium.{MediumState, systems_of}
+use Rattle.grs_world.proofs.Common.{◌<◌, ◌==◌, ◌∙◌, ◌≡◌, ◌≢◌, ◌≤◌, Act, and_parts, ap, arith, Bool, Call, carry_out}
+use Rattle.grs_world.proofs.Common.{Choice, chosen, Deck, eqb-false, eqb-true, false, finish, length, list_all}
+use Rattle.grs_world.proofs.Common.{MediumState, most_additions, nat_le, nat_lt, nat_tests, NodeState, prepare}
+use Rattle.grs_world.proofs.Common.{Prepared, refl, reply_to, Some, subst, sym, SysId, systems_of, true, ℕ}
+use Rattle.std.specs.Prelude.{not}
+use Rattle.grs_medium.specs.Apply.{ActFits, medium_after}
 use Rattle.grs_node.specs.Addressed.{is_act_addressed}
 use Rattle.grs_medium.proofs.Replies.{replies_are_listed}
 use Rattle.grs_node.proofs.Finish.{may_come-listed}
 use Rattle.grs_node.specs.Finish.{may_come}
-use Rattle.grs_node.specs.Node.{NodeState, prepare, finish}
-use Rattle.grs_base.specs.Limits.{most_additions}
-use Rattle.grs_node.specs.declared.prepared.Prepared.{Prepared}
-use Rattle.grs_node.specs.declared.prepared.Prepared.TheVariants.{Call}
-use Rattle.grs_wire.specs.declared.deck.Choice.{Choice}
-use Rattle.grs_wire.specs.declared.deck.Deck.{Deck}
-use Rattle.grs_wire.specs.declared.medium.Act.{Act}
-use Rattle.grs_wire.specs.declared.medium.Act.TheVariants as acts
 use Rattle.grs_wire.specs.declared.medium.Call.{Call as CallOfMedium}
 use Rattle.lock_structure.specs.Words.{word_fits}
-use Rattle.grs_world.specs.World.{chosen, carry_out}
+use Rattle.grs_wire.specs.declared.medium.Act.TheVariants as acts
 
 below : (a b c : ℕ) → nat_lt a b ≡ true → c ≡ b → a < c
 below a b c h e = grind (arith, nat_tests, h, e)

@@ -1,17 +1,12 @@
 -- What an event comes to, as the code takes it.
-use Rattle.std.proofs.Common.{◌≡◌, ◌<◌, ◌+◌, ℕ, Bool, true, false, cond, List, length, get_or, drop, refl, ap, sym, ◌∙◌}
-use Rattle.std.proofs.Common.{arith}
+use Rattle.grs_world.proofs.Common.{◌+◌, ◌<◌, ◌∙◌, ◌≡◌, and_parts, ap, arith, Bool, chosen, cond, counted, Deck, drop}
+use Rattle.grs_world.proofs.Common.{Event, false, first_node, happens, happens_at, has, is_live, length, List, ltb-true}
+use Rattle.grs_world.proofs.Common.{nat_lt, nat_tests, node_at, NodeState, placed, refl, run_from, slice_get}
+use Rattle.grs_world.proofs.Common.{slice_get-get_or, sym, true, World, ℕ}
+use Rattle.std.proofs.Common.{get_or}
 use Rattle.std.proofs.lemmas.List.{at_drop_more}
-use Rattle.std.proofs.lemmas.Bool.{and_parts, ltb-true}
-use Rattle.std.proofs.lemmas.Bool.Decides.{nat_tests}
-use Rattle.std.specs.Prelude.{◌&&◌, not, nat_lt, slice_get}
-use Rattle.std.proofs.lemmas.Option.{slice_get_past, slice_get-get_or}
-use Rattle.grs_wire.specs.Masks.{has}
-use Rattle.grs_wire.specs.declared.deck.Deck.{Deck}
-use Rattle.grs_wire.specs.declared.deck.Event.{Event}
-use Rattle.grs_node.specs.Node.{NodeState, first_node}
-use Rattle.grs_world.specs.World.{World, chosen, placed, counted, happens_at, happens, run_from}
-use Rattle.grs_world.specs.Running.{is_live, node_at}
+use Rattle.std.specs.Prelude.{◌&&◌, not}
+use Rattle.std.proofs.lemmas.Option.{slice_get_past}
 
 -- an event of a system that is there and wasn't removed
 pub happens-live : (deck : Deck) (w : World) (e : Event) → is_live w e.system ≡ true

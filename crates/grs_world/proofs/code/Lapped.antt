@@ -1,33 +1,23 @@
 -- A Turn in a lap, as the code takes it.
-use Rattle.std.proofs.Common.{◌≡◌, ◌<◌, ◌+◌, ◌-◌, ℕ, zero, suc, true, false, cond, List, [], ◌∷◌, length, refl, ap}
-use Rattle.std.proofs.Common.{sym, ◌∙◌, arith, take, Option, Some, None, drop, get_or}
-use Rattle.std.specs.Prelude.{is_none, is_some, slice_get, nat_lt, not, ◌==◌}
-use Rattle.std.proofs.Common.{◌++◌, ◌≤◌, append_assoc, length-append, ne_eqb, subst, Bool}
-use Rattle.std.specs.Option.{option_map}
-use Rattle.std.proofs.lemmas.Bool.{and_parts, ltb-true}
-use Rattle.std.proofs.lemmas.List.{at_drop_more, length-map}
-use Rattle.std.proofs.lemmas.Option.{same_Some, slice_get-get_or}
-use Rattle.grs_base.specs.Limits.{most_additions}
-use Rattle.grs_base.specs.declared.resource.SysId.{SysId}
+use Rattle.grs_world.proofs.Common.{[], ◌++◌, ◌+◌, ◌-◌, ◌<◌, ◌==◌, ◌∙◌, ◌∷◌, ◌≡◌, ◌≤◌, and_parts, ap, append_assoc}
+use Rattle.grs_world.proofs.Common.{arith, Bool, Call, call_at, call_in, cond, cut, Deck, drop, Event, false}
+use Rattle.grs_world.proofs.Common.{first_node, happens, is_live, is_none, is_some, is_turned, length, length-append}
+use Rattle.grs_world.proofs.Common.{length-map, List, ltb-true, MediumState, most_additions, nat_lt, node_at, nodes_of}
+use Rattle.grs_world.proofs.Common.{NodeState, NodeView, None, Nothing, Option, option_map, prepare, refl, Reply}
+use Rattle.grs_world.proofs.Common.{reply_by, reply_of, run_from, same_Some, slice_get, slice_get-get_or, Some, subst}
+use Rattle.grs_world.proofs.Common.{suc, sym, SysId, take, true, Turn, turn_of, World, zero, ℕ}
+use Rattle.std.proofs.Common.{get_or, ne_eqb}
+use Rattle.std.specs.Prelude.{not}
+use Rattle.std.proofs.lemmas.List.{at_drop_more}
 use Rattle.grs_medium.proofs.TurnLaws.{turn_is_refused, turn_is_served}
-use Rattle.grs_medium.specs.Medium.{MediumState}
 use Rattle.grs_medium.specs.TurnReplies.{refusal, refusal_reply}
 use Rattle.grs_medium.specs.declared.medium.TurnRefusal.{TurnRefusal}
-use Rattle.grs_medium.specs.declared.medium.TurnRefusal.TheVariants as refusals
-use Rattle.grs_node.specs.Log.{NodeView}
-use Rattle.grs_node.specs.Node.{NodeState, first_node, prepare}
-use Rattle.grs_node.specs.TurnCalls as calls
-use Rattle.grs_node.specs.declared.prepared.Prepared.TheVariants.{Call, Nothing}
-use Rattle.grs_wire.specs.declared.deck.Choice.TheVariants.{Turn}
-use Rattle.grs_wire.specs.declared.deck.Deck.{Deck}
-use Rattle.grs_wire.specs.declared.deck.Event.{Event}
-use Rattle.grs_wire.specs.declared.medium.Reply.{Reply}
-use Rattle.grs_world.specs.Removing.{call_at, call_in, reply_by, reply_of}
 use Rattle.grs_world.proofs.code.Nodes.{AreOf-get, nodes_of-get}
-use Rattle.grs_world.specs.Running.{AreOf, Running, after, is_live, node_at, nodes_of}
-use Rattle.grs_world.specs.Stopped.{cut, is_turned, lap_from, left_behind, left_of, next_of, turn_of}
-use Rattle.grs_world.specs.World.{World, happens, run_from}
+use Rattle.grs_world.specs.Running.{AreOf, Running, after}
+use Rattle.grs_world.specs.Stopped.{lap_from, left_behind, left_of, next_of}
 use Rattle.grs_world.proofs.run.Each.{run-push}
+use Rattle.grs_medium.specs.declared.medium.TurnRefusal.TheVariants as refusals
+use Rattle.grs_node.specs.TurnCalls as calls
 
 -- no refusal is a Turned
 refused-not : (r : TurnRefusal) → is_turned (Some (refusal_reply r)) ≡ false

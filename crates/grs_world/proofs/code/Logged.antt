@@ -1,13 +1,10 @@
 -- What the event that is taken out of a log fixed and told.
-use Rattle.std.proofs.Common.{◌≡◌, true, false, List, [], ◌∷◌, ◌++◌, length, drop, Option, Some, None, refl, ap, sym}
-use Rattle.std.proofs.Common.{◌∙◌}
+use Rattle.grs_world.proofs.Common.{[], ◌++◌, ◌∙◌, ◌∷◌, ◌≡◌, ap, Choice, drop, false, finish, length, List, NodeView}
+use Rattle.grs_world.proofs.Common.{None, Option, refl, Reply, Some, sym, true}
 use Rattle.std.specs.Prelude.{◌≢◌}
-use Rattle.grs_wire.specs.declared.deck.Choice.{Choice}
 use Rattle.grs_wire.specs.declared.log.StepDone.{StepDone}
-use Rattle.grs_wire.specs.declared.medium.Reply.{Reply}
 use Rattle.grs_wire.specs.Replies.{leaves_all}
-use Rattle.grs_node.specs.Node.{finish}
-use Rattle.grs_node.specs.Log.{NodeView, step_done, finished}
+use Rattle.grs_node.specs.Log.{step_done, finished}
 use Rattle.grs_node.proofs.Finish.{replies_leave}
 use Rattle.grs_world.specs.Done.{done_of, last_done, done_by, journalled}
 

@@ -1,12 +1,9 @@
 -- The systems of a run by their places.
-use Rattle.std.proofs.Common.{◌≡◌, ◌<◌, ◌+◌, ℕ, zero, suc, List, [], ◌∷◌, ◌++◌, length, set, get_or, refl, ap, ◌∙◌}
-use Rattle.std.proofs.Common.{arith, length-set}
-use Rattle.std.specs.Prelude.{map, slice_get}
-use Rattle.std.specs.Option.{option_map}
-use Rattle.grs_wire.specs.declared.deck.Deck.{Deck}
-use Rattle.grs_node.specs.Log.{NodeView}
-use Rattle.grs_node.specs.Node.{NodeState}
-use Rattle.grs_world.specs.Running.{AreOf, AreNumbered, busy_at, is_busy, nodes_of}
+use Rattle.grs_world.proofs.Common.{[], ◌++◌, ◌+◌, ◌<◌, ◌∙◌, ◌∷◌, ◌≡◌, ap, arith, Deck, length, List, nodes_of}
+use Rattle.grs_world.proofs.Common.{NodeState, NodeView, option_map, refl, slice_get, suc, zero, ℕ}
+use Rattle.std.proofs.Common.{set, get_or, length-set}
+use Rattle.std.specs.Prelude.{map}
+use Rattle.grs_world.specs.Running.{AreOf, AreNumbered, busy_at, is_busy}
 
 pub AreOf-get : (deck : Deck) (vs : List NodeView) (i : ℕ) (d : NodeView) → i < length vs → AreOf deck vs
     → (get_or vs i d).deck ≡ deck

@@ -1,15 +1,10 @@
 -- A Take that finds an empty inbox.
-use Rattle.std.proofs.Common.{◌≡◌, ℕ, true, [], Some, refl, ap, sym, ◌∙◌}
-use Rattle.grs_base.specs.declared.resource.SysId.{SysId}
-use Rattle.grs_medium.specs.Medium.{MediumState}
+use Rattle.grs_world.proofs.Common.{[], ◌∙◌, ◌≡◌, ap, Call, finish, MediumState, NodeView, prepare, refl, Reply, Some}
+use Rattle.grs_world.proofs.Common.{sym, SysId, true, ℕ}
 use Rattle.grs_medium.specs.TakeReplies.{finds_nothing}
 use Rattle.grs_medium.proofs.TakeLaws.{take_finds_nothing}
-use Rattle.grs_node.specs.Log.{NodeView}
-use Rattle.grs_node.specs.Node.{prepare, finish}
 use Rattle.grs_node.specs.TurnCalls.{take_of}
-use Rattle.grs_node.specs.declared.prepared.Prepared.TheVariants.{Call}
 use Rattle.grs_wire.specs.declared.deck.Choice.TheVariants.{Take}
-use Rattle.grs_wire.specs.declared.medium.Reply.{Reply}
 use Rattle.grs_wire.specs.declared.medium.Reply.TheVariants.{Empty}
 use Rattle.grs_world.specs.Done.{chosen_by, done_by}
 use Rattle.grs_world.proofs.code.Calls.{chosen-call}

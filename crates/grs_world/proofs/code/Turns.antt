@@ -1,22 +1,12 @@
 -- A Turn in a ring, by whether it gets to the message.
-use Rattle.std.proofs.Common.{◌≡◌, ℕ, true, cond, List, length, take, Some, None, ap, subst, ◌∙◌}
-use Rattle.grs_base.specs.declared.resource.SysId.{SysId}
-use Rattle.grs_medium.specs.Apply.{turn_row, apply}
-use Rattle.grs_medium.specs.Medium.{MediumState}
+use Rattle.grs_world.proofs.Common.{◌∙◌, ◌≡◌, ap, apply, Call, chosen, cond, Deck, finish, length, List, MediumState}
+use Rattle.grs_world.proofs.Common.{most_additions, NodeState, None, prepare, Reply, Req, Some, subst, SysId, take}
+use Rattle.grs_world.proofs.Common.{true, Turn, turn_row, unseen, ℕ}
 use Rattle.grs_medium.specs.TurnReplies.{refusal}
 use Rattle.grs_medium.proofs.TurnLaws.{turn_is_refused, turn_is_served, turn_is_here}
-use Rattle.grs_wire.specs.Unseen.{unseen}
 use Rattle.grs_node.specs.Finish.{may_come}
-use Rattle.grs_node.specs.Node.{NodeState, prepare, finish}
-use Rattle.grs_base.specs.Limits.{most_additions}
 use Rattle.grs_node.specs.TurnCalls.{turn_of}
-use Rattle.grs_node.specs.declared.prepared.Prepared.TheVariants.{Call}
-use Rattle.grs_wire.specs.declared.deck.Choice.TheVariants.{Turn}
-use Rattle.grs_wire.specs.declared.deck.Deck.{Deck}
-use Rattle.grs_wire.specs.declared.medium.Reply.{Reply}
 use Rattle.grs_wire.specs.declared.medium.Reply.TheVariants.{Turned}
-use Rattle.grs_wire.specs.declared.request.Req.{Req}
-use Rattle.grs_world.specs.World.{chosen}
 use Rattle.grs_world.proofs.code.Calls.{chosen-call, may_come-reply}
 
 -- what a Turn that was prepared leads to, by what the medium makes of it

@@ -1,34 +1,20 @@
 -- Who acts in star mode knows all who were removed, since a call of a system that doesn't is refused. So of no removed
 -- system it keeps anything.
-use Rattle.std.proofs.Common.{◌≡◌, ◌<◌, ℕ, Bool, true, false, cond, List, Option, Some, None, refl, ap, sym, ◌∙◌, subst}
-use Rattle.std.specs.Prelude.{slice_get, ◌==◌}
-use Rattle.std.proofs.lemmas.Option.{same_Some}
-use Rattle.grs_base.specs.Limits.{most_systems}
-use Rattle.grs_base.specs.declared.resource.SysId.{SysId}
-use Rattle.grs_node.specs.Node.{NodeState, is_pending, may_go, next_order, prepare, prepared_by, purge_call, star_call}
-use Rattle.grs_node.specs.Node.{star_need, switch_call, turn_call}
-use Rattle.grs_node.specs.Star.{StarPart}
-use Rattle.grs_node.specs.declared.prepared.Prepared.{Prepared}
-use Rattle.grs_node.specs.declared.prepared.Prepared.TheVariants.{Call as Calls, Nothing, Quiet}
+use Rattle.grs_world.proofs.Common.{◌==◌, ◌∙◌, ◌≡◌, ap, Bool, by_test, call_at, call_in, Choice, cond, Deck, Event}
+use Rattle.grs_world.proofs.Common.{false, has, is_live, is_pending, List, may_go, next_order, NodeState, None, Nothing}
+use Rattle.grs_world.proofs.Common.{Option, Order, OrdersFit, prepare, Prepared, prepared_by, Quiet, refl, run}
+use Rattle.grs_world.proofs.Common.{same_Some, Some, star_call, StarPart, sym, SysId, true, ℕ}
+use Rattle.grs_node.specs.Node.{purge_call, star_need, switch_call, turn_call}
+use Rattle.grs_node.specs.declared.prepared.Prepared.TheVariants.{Call as Calls}
 use Rattle.grs_node.specs.declared.star.Need.{Need}
 use Rattle.grs_node.specs.declared.star.Need.TheVariants.{Asks, Idle}
-use Rattle.grs_wire.proofs.WantLaws.{by_test}
-use Rattle.grs_wire.specs.Masks.{has}
-use Rattle.grs_wire.specs.declared.deck.Choice.{Choice}
-use Rattle.grs_wire.specs.declared.deck.Choice.TheVariants as choices
-use Rattle.grs_wire.specs.declared.deck.Deck.{Deck}
-use Rattle.grs_wire.specs.declared.deck.Event.{Event}
-use Rattle.grs_wire.specs.declared.deck.Order.{Order}
-use Rattle.grs_wire.specs.declared.deck.Order.TheVariants as orders
-use Rattle.grs_wire.specs.declared.medium.Act.TheVariants as acts
 use Rattle.grs_wire.specs.declared.medium.Call.{Call}
-use Rattle.grs_known.proofs.known.Histories.{OrdersFit}
 use Rattle.grs_world.proofs.gather.HeldBack.{held_run}
 use Rattle.grs_world.proofs.gather.Known.{clean_run}
-use Rattle.grs_world.specs.Gone.{ActsWithoutGone, KeepsNothingOf, KnownAreGone}
-use Rattle.grs_world.specs.Removing.{CallsKnowing, call_at, call_in, call_of}
-use Rattle.grs_world.specs.Running.{is_live}
-use Rattle.grs_world.specs.World.{World, run}
+use Rattle.grs_world.specs.Gone.{ActsWithoutGone, KnownAreGone}
+use Rattle.grs_wire.specs.declared.deck.Choice.TheVariants as choices
+use Rattle.grs_wire.specs.declared.deck.Order.TheVariants as orders
+use Rattle.grs_wire.specs.declared.medium.Act.TheVariants as acts
 
 -- ---- what a system is prepared to call says whom it knows to be removed
 abbrev Says : ℕ → Prepared → Type 0

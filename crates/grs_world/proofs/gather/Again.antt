@@ -1,60 +1,39 @@
 -- A task that has sent its request is to send it again exactly where its system takes a notice of the request's entry.
-use Rattle.std.proofs.Common.{◌≡◌, ◌≢◌, ◌<◌, ℕ, Bool, true, false, cond, not, ◌&&◌, ◌||◌, List, [], ◌∷◌, length, map}
-use Rattle.std.proofs.Common.{Option, Some, None, is_some, refl, ap, sym, ◌∙◌, subst}
-use Rattle.std.specs.Prelude.{◌==◌, filter, get_or, nat_lt, slice_get, slice_set, unwrap_or}
-use Rattle.std.specs.List.{list_any}
-use Rattle.std.proofs.Math.Bool.{and-false}
-use Rattle.std.proofs.lemmas.Bool.{and_parts, eqb-false, eqb-true, lt-ltb, not-true}
-use Rattle.std.proofs.lemmas.List.{get_or-map, get_or-set_other, length-map}
-use Rattle.std.proofs.lemmas.Option.{same_Some, unwrap_or-slice_get}
+use Rattle.grs_world.proofs.Common.{[], ◌&&◌, ◌<◌, ◌==◌, ◌||◌, ◌∙◌, ◌∷◌, ◌≡◌, ◌≢◌, and-false, and_parts, ap, Asked}
+use Rattle.grs_world.proofs.Common.{awaited, awaiting, Bool, by_test, call_at, call_in, Choice, chosen, cond}
+use Rattle.grs_world.proofs.Common.{controlled, counted, Deck, eqb-false, eqb-true, Event, false, filter, fixing_none}
+use Rattle.grs_world.proofs.Common.{Gathering, gathering_at, gathers, get_or, happens, happens_at, has, is_held_for}
+use Rattle.grs_world.proofs.Common.{is_item_of, is_live, is_news, is_sent, is_task, length, length-map, List, list_any}
+use Rattle.grs_world.proofs.Common.{lose_each, lt-ltb, Mail, manages, MediumState, move_each, move_entry, Moved}
+use Rattle.grs_world.proofs.Common.{names_of, nat_lt, new_task, no_truth, NodeState, None, not, not-true, Nothing}
+use Rattle.grs_world.proofs.Common.{Option, owing, Phase, placed, prepare, Prepared, Quiet, record_of, refl, Reply}
+use Rattle.grs_world.proofs.Common.{reply_by, Res, run, same_Some, sent_again, slice_get, slice_get-set, Some, Standing}
+use Rattle.grs_world.proofs.Common.{standing, StarPart, StarStep, state_of, subst, sym, SysId, take_mail, take_up_all}
+use Rattle.grs_world.proofs.Common.{TaskId, TaskState, TasksView, tell_control, tell_untold, ToldLine, took_mail, true}
+use Rattle.grs_world.proofs.Common.{Turnout, with_role, World, ℕ}
+use Rattle.std.proofs.Common.{is_some}
+use Rattle.std.proofs.lemmas.List.{get_or-map, get_or-set_other}
+use Rattle.std.proofs.lemmas.Option.{unwrap_or-slice_get}
 use Rattle.contention_mgr.specs.Installs.{own_owners}
-use Rattle.grs_base.specs.declared.resource.Res.{Res}
-use Rattle.grs_base.specs.declared.resource.SysId.{SysId}
-use Rattle.grs_base.specs.declared.resource.TaskId.{TaskId}
-use Rattle.grs_medium.specs.Medium.{MediumState}
-use Rattle.grs_node.specs.Names.{names_of}
-use Rattle.grs_node.specs.Node.{NodeState, fixing_nothing, is_item_of, prepare, take_mail, took_mail}
-use Rattle.grs_node.specs.Removal.{Standing, again, awaited, installing, is_news, lose_each, move_each, move_entry}
-use Rattle.grs_node.specs.Removal.{sent_again, standing, take_up_all, took_notice, with_role}
-use Rattle.grs_node.specs.Star.{StarPart, StarStep, asks_in, fixing_none, gathers, manages}
-use Rattle.grs_node.specs.declared.prepared.Prepared.{Prepared}
-use Rattle.grs_node.specs.declared.prepared.Prepared.TheVariants.{Call as Calls, Nothing, Quiet}
-use Rattle.grs_wire.proofs.WantLaws.{by_test}
-use Rattle.grs_wire.specs.Masks.{has}
-use Rattle.grs_wire.specs.declared.deck.Choice.{Choice}
-use Rattle.grs_wire.specs.declared.deck.Deck.{Deck}
-use Rattle.grs_wire.specs.declared.deck.Event.{Event}
-use Rattle.grs_wire.specs.declared.gather.Moved.{Moved}
-use Rattle.grs_wire.specs.declared.medium.Call.{Call}
-use Rattle.grs_wire.specs.declared.medium.Mail.{Mail}
-use Rattle.grs_wire.specs.declared.medium.Mail.TheVariants as mails
-use Rattle.grs_wire.specs.declared.medium.Reply.{Reply}
-use Rattle.grs_wire.specs.declared.medium.Reply.TheVariants as replies
-use Rattle.star_client.specs.Owes.{OwesView, owing}
-use Rattle.system_purge.specs.Gathers.{GathersView, awaiting, gathering_at}
-use Rattle.system_purge.specs.Purge.{tell_each}
-use Rattle.system_purge.specs.declared.gathers.Gathering.{Gathering}
+use Rattle.grs_node.specs.Node.{fixing_nothing}
+use Rattle.grs_node.specs.Removal.{again, installing, took_notice}
+use Rattle.grs_node.specs.Star.{asks_in}
+use Rattle.grs_node.specs.declared.prepared.Prepared.TheVariants.{Call as Calls}
+use Rattle.star_client.specs.Owes.{OwesView}
+use Rattle.system_purge.specs.Gathers.{GathersView}
 use Rattle.task_state.proofs.ViewLaws.{is_task-place}
-use Rattle.task_state.specs.Replies.{is_held, is_held_for, tell_control, tell_untold}
-use Rattle.task_state.specs.View.{TasksView, is_sent, is_task, new_task, record_of, state_of}
-use Rattle.task_state.specs.declared.state.Asked.{Asked}
-use Rattle.task_state.specs.declared.state.Phase.{Phase}
-use Rattle.task_state.specs.declared.state.Phase.TheVariants as phases
-use Rattle.task_state.specs.declared.state.TaskState.{TaskState}
-use Rattle.grs_wire.specs.declared.told.ToldLine.{ToldLine}
-use Rattle.grs_known.proofs.lists.Facts.{slice_get-set}
-use Rattle.grs_known.proofs.lists.Truths.{no_truth}
-use Rattle.grs_known.proofs.records.Control.{Controlled, Hears, coded, controlled, given, none, passed, posted}
-use Rattle.grs_world.proofs.run.Came as any
+use Rattle.task_state.specs.Replies.{is_held}
+use Rattle.grs_known.proofs.records.Control.{Controlled, Hears, coded, given, none, passed, posted}
 use Rattle.grs_world.proofs.run.Came.{Acts, Came, Result, acted, already, began, changed, decided, informed, is_silent}
 use Rattle.grs_world.proofs.run.Came.{last_turn, left, no_such, parted, removes_one, removes_star, replied, result_of}
 use Rattle.grs_world.proofs.run.Came.{sent, settled, told, took, turn, went_on}
 use Rattle.grs_world.proofs.run.Chosen.{came}
 use Rattle.grs_world.proofs.run.Lost.{by-loss, tasks-each}
 use Rattle.grs_world.specs.Again.{NoticesSendAgain, asks_again}
-use Rattle.grs_world.specs.Removing.{call_at, call_in, reply_by, reply_of}
-use Rattle.grs_world.specs.Running.{is_live}
-use Rattle.grs_world.specs.World.{Turnout, World, chosen, counted, happens, happens_at, placed, run}
+use Rattle.grs_wire.specs.declared.medium.Mail.TheVariants as mails
+use Rattle.grs_wire.specs.declared.medium.Reply.TheVariants as replies
+use Rattle.task_state.specs.declared.state.Phase.TheVariants as phases
+use Rattle.grs_world.proofs.run.Came as any
 
 -- a task in this phase isn't held, by an answer or at a WAIT line
 abbrev IsFree : Phase → Type 0

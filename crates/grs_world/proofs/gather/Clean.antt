@@ -1,29 +1,15 @@
 -- The part of a system in star mode that keeps nothing of another system u: no element in the lists that it manages,
 -- and of no entry that it gathers a part of it, or the wish for one. What the loss of systems, and mail, leave of that.
-use Rattle.std.proofs.Common.{◌≡◌, ◌<◌, ℕ, Bool, true, false, ◌||◌, List, [], ◌∷◌, length, Some, None, refl, ap, ◌∙◌}
-use Rattle.std.proofs.Common.{subst}
-use Rattle.std.specs.Prelude.{◌==◌}
-use Rattle.std.specs.List.{list_any}
-use Rattle.std.proofs.lemmas.Bool.{eqb-true}
+use Rattle.grs_world.proofs.Common.{[], ◌<◌, ◌==◌, ◌||◌, ◌∙◌, ◌∷◌, ◌≡◌, ap, awaited, awaiting, Bool, by_test, eqb-true}
+use Rattle.grs_world.proofs.Common.{false, false_by, gathering_at, has, is_news, length, List, list_any, lose}
+use Rattle.grs_world.proofs.Common.{lose_each, most_systems, move_entry, Moved, no_truth, None, owing, part_of, PartRec}
+use Rattle.grs_world.proofs.Common.{refl, Res, sent_again, Some, Standing, standing, StarPart, subst, SysId, take_up}
+use Rattle.grs_world.proofs.Common.{take_up_all, TaskId, TasksView, tell_each, true, with_role, ℕ}
 use Rattle.contention_mgr.specs.Installs.{own_owners}
 use Rattle.contention_mgr.specs.Loses.{gained}
-use Rattle.grs_base.specs.Limits.{most_systems}
-use Rattle.grs_base.specs.declared.resource.Res.{Res}
-use Rattle.grs_base.specs.declared.resource.SysId.{SysId}
-use Rattle.grs_base.specs.declared.resource.TaskId.{TaskId}
-use Rattle.grs_node.specs.Removal.{Standing, awaited, installing, is_news, lose, lose_each, move_entry, sent_again}
-use Rattle.grs_node.specs.Removal.{standing, take_up, take_up_all, took_part, with_role}
-use Rattle.grs_node.specs.Star.{StarPart}
-use Rattle.grs_wire.proofs.WantLaws.{by_test}
-use Rattle.grs_wire.specs.Masks.{has}
-use Rattle.grs_wire.specs.declared.gather.Moved.{Moved}
-use Rattle.grs_wire.specs.declared.gather.PartRec.{PartRec}
-use Rattle.star_client.specs.Owes.{owing}
-use Rattle.system_purge.specs.Gather.{gathered, part_of}
-use Rattle.system_purge.specs.Gathers.{awaiting, gathering_at, parts_in, with_part_at}
-use Rattle.system_purge.specs.Purge.{tell_each}
-use Rattle.task_state.specs.View.{TasksView}
-use Rattle.grs_known.proofs.lists.Truths.{false_by, no_truth}
+use Rattle.grs_node.specs.Removal.{installing, took_part}
+use Rattle.system_purge.specs.Gather.{gathered}
+use Rattle.system_purge.specs.Gathers.{parts_in, with_part_at}
 use Rattle.grs_world.proofs.gather.Elements.{KeepsNone, gone-none, installed-none, losing-none}
 use Rattle.grs_world.proofs.gather.Gathered.{AreFree, AreRight, awaiting-free, awaiting-right, came-free, came-right}
 use Rattle.grs_world.proofs.gather.Gathered.{gathered-free, gone-all, losing-free, losing-right, taken-free}

@@ -1,36 +1,21 @@
 -- A manager that keeps no element of a system: which of its steps leave it so, and by which it comes to be so.
-use Rattle.std.proofs.Common.{◌≡◌, ℕ, Bool, true, false, cond, not, ◌&&◌, List, [], ◌∷◌, ◌++◌, length, map, Option}
-use Rattle.std.proofs.Common.{Some}
-use Rattle.std.proofs.Common.{None, is_some, refl, ap, ◌∙◌}
-use Rattle.std.specs.Prelude.{◌==◌, filter}
-use Rattle.std.specs.List.{list_all}
-use Rattle.std.specs.Option.{option_map, option_map_or}
-use Rattle.std.proofs.Math.Bool.{and-false}
-use Rattle.std.proofs.lemmas.Bool.{and_from, and_parts}
+use Rattle.grs_world.proofs.Common.{[], ◌&&◌, ◌==◌, ◌∙◌, ◌∷◌, ◌≡◌, after_request, after_telling, and-false, and_from}
+use Rattle.grs_world.proofs.Common.{and_parts, ap, Bool, by_test, cond, Ctl, Deq, Enq, entry_of_res, entry_wanted}
+use Rattle.grs_world.proofs.Common.{false, filter, is_systems, is_without, kept_for, length, List, list_all, list_of}
+use Rattle.grs_world.proofs.Common.{Look, Managed, managed_at, managed_of, ManagerView, map, new_owners, no_elements}
+use Rattle.grs_world.proofs.Common.{None, not, Option, option_map, option_map_or, PartRec, plain, Ranked, refl, Release}
+use Rattle.grs_world.proofs.Common.{Res, settled, Some, standing_of, State, SysId, TaskId, true, Want, with_entry, ℕ}
+use Rattle.std.proofs.Common.{is_some}
 use Rattle.contention_mgr.specs.Installs.{installed, kept_of, lists_of}
-use Rattle.contention_mgr.specs.LoseLaws.{is_without}
 use Rattle.contention_mgr.specs.Loses.{Freed, after_losing, freed_lists, lost, stays, with_freed}
-use Rattle.contention_mgr.specs.Manager.{Managed, ManagerView, Ranked, after_request, after_telling, enqueued}
-use Rattle.contention_mgr.specs.Manager.{entry_wanted, exclusive, given_up, is_of, kept_for, made_exclusive, managed_at}
-use Rattle.contention_mgr.specs.Manager.{managed_for, managed_of, marked, no_elements, plain, settled, taken_out}
-use Rattle.contention_mgr.specs.Manager.{told as told_in, with_control, with_entry, with_mark}
-use Rattle.grs_base.specs.Lists.{is_owner, standing_of}
-use Rattle.grs_base.specs.State.{State, is_systems, list_of}
+use Rattle.contention_mgr.specs.Manager.{enqueued, exclusive, given_up, is_of, made_exclusive, managed_for, marked}
+use Rattle.contention_mgr.specs.Manager.{taken_out, told as told_in, with_control, with_mark}
+use Rattle.grs_base.specs.Lists.{is_owner}
 use Rattle.grs_base.specs.declared.decision.Effect.{Effect}
-use Rattle.grs_base.specs.declared.decision.Effect.TheVariants as effects
-use Rattle.grs_base.specs.declared.resource.Ctl.{Ctl}
-use Rattle.grs_base.specs.declared.resource.Res.{Res}
-use Rattle.grs_base.specs.declared.resource.SysId.{SysId}
-use Rattle.grs_base.specs.declared.resource.TaskId.{TaskId}
 use Rattle.grs_node.specs.Star.{managing, not_managing}
 use Rattle.grs_node.proofs.Orderly.{all-at, all-items, all-set}
-use Rattle.grs_wire.proofs.WantLaws.{by_test}
-use Rattle.grs_wire.specs.Wants.{new_owners}
-use Rattle.grs_wire.specs.declared.gather.PartRec.{PartRec}
-use Rattle.grs_wire.specs.declared.request.Want.{Want}
-use Rattle.grs_wire.specs.declared.request.Want.TheVariants.{Enq, Deq, Release, Look}
-use Rattle.lock_structure.specs.Entries.{entry_of_res}
 use Rattle.system_purge.proofs.GatheredParts.{all-left, all-more}
+use Rattle.grs_base.specs.declared.decision.Effect.TheVariants as effects
 
 module _ (u : ℕ) where
   -- ---- the elements of an entry

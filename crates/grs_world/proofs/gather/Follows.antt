@@ -1,61 +1,29 @@
 -- Behind the removal of a system none of its tasks asks for anything, in every run and either mode: what an event fixes
 -- is asked by tasks of systems that weren't removed.
-use Rattle.std.proofs.Common.{◌≡◌, ◌<◌, ◌≤◌, ℕ, zero, suc, Bool, true, false, cond, ◌&&◌, ◌||◌, List, [], ◌∷◌, ◌++◌}
-use Rattle.std.proofs.Common.{map, take, Option, Some, None, is_some, refl, ap, sym, ◌∙◌, subst, arith, append-nil}
-use Rattle.std.proofs.Common.{append_assoc, length}
-use Rattle.std.specs.Prelude.{◌==◌, nat_lt}
-use Rattle.std.specs.List.{list_all, list_any}
-use native.Mathlib.Decide.{ℕ_discrete}
-use Rattle.std.proofs.Math.Bool.{or-false}
-use Rattle.std.proofs.lemmas.Bool.{and_parts, eq-eqb, eqb-true, or_left, or_parts, or_right}
-use Rattle.std.proofs.lemmas.List.Folds.{list_any-append}
-use Rattle.grs_base.proofs.SameLaws.{same_task-exact}
-use Rattle.grs_base.specs.Limits.{most_additions, most_systems}
-use Rattle.grs_base.specs.State.{State}
-use Rattle.grs_base.specs.declared.look.Filter.{Filter}
-use Rattle.grs_base.specs.declared.resource.SysId.{SysId}
-use Rattle.grs_base.specs.declared.resource.TaskId.{TaskId}
-use Rattle.grs_legal.specs.Asks.{lines_of}
+use Rattle.grs_world.proofs.Common.{[], ◌++◌, ◌<◌, ◌==◌, ◌||◌, ◌∙◌, ◌∷◌, ◌≡◌, ◌≤◌, after_fixed, and_parts, answer_for}
+use Rattle.grs_world.proofs.Common.{Answered, ap, append-nil, append_assoc, apply, arith, Bool, by_test, Choice, chosen}
+use Rattle.grs_world.proofs.Common.{cond, decide_own, Deck, entries_for, eq-eqb, eqb-true, Event, false, false_by}
+use Rattle.grs_world.proofs.Common.{Filter, first_held, first_world, Fixed, fixed_by, fixed_entries, has}
+use Rattle.grs_world.proofs.Common.{has-with_other, has-zero, has_most, hist, HistEntry, is_by, is_for_all, is_task}
+use Rattle.grs_world.proofs.Common.{length, lines_of, List, list_all, list_any, list_any-append, LocalLook, map}
+use Rattle.grs_world.proofs.Common.{may_send, may_settle, Meaning, MediumState, most_additions, most_systems, nat_lt}
+use Rattle.grs_world.proofs.Common.{no_truth, NodeState, None, Option, or-false, or_left, or_parts, or_right, OrdersFit}
+use Rattle.grs_world.proofs.Common.{Phase, placed, prepare, prepared_by, Purged, purged, put_in, rank_of, Rec, refl}
+use Rattle.grs_world.proofs.Common.{removes, Reply, reply_to, Req, res_wanted, row, run, same_task-exact, Some}
+use Rattle.grs_world.proofs.Common.{star_call, StarPart, State, state_of, subst, suc, sym, SysId, take, TaskId, true}
+use Rattle.grs_world.proofs.Common.{Turnout, unseen, Want, with_also, without_in_star, without_system, without_target}
+use Rattle.grs_world.proofs.Common.{World, zero, ℕ, ℕ_discrete}
+use Rattle.std.proofs.Common.{is_some}
 use Rattle.grs_legal.specs.Legal.{entries_of}
-use Rattle.grs_legal.specs.declared.meaning.Meaning.{Meaning}
-use Rattle.grs_legal.specs.declared.meaning.Meaning.TheVariants as lines
-use Rattle.grs_medium.specs.Apply.{apply, reply_to, row, without_in_star, without_system, without_target}
-use Rattle.grs_medium.specs.Medium.{MediumState}
-use Rattle.grs_node.specs.Node.{NodeState, has_most, may_send, prepare, prepared_by, purged, put_in, star_call}
-use Rattle.grs_node.specs.Star.{StarPart, answer_for, decide_own, first_held, may_settle, rank_of, settle_by}
+use Rattle.grs_node.specs.Star.{settle_by}
 use Rattle.grs_node.specs.declared.prepared.Prepared.TheVariants.{Call as Calls}
-use Rattle.grs_wire.proofs.MaskLaws.{has-with_other, has-zero}
-use Rattle.grs_wire.proofs.WantLaws.{by_test}
-use Rattle.grs_wire.specs.History.{after_fixed, answered_from, entries_for, fixed_entries, is_by, look_entries, removes}
-use Rattle.grs_wire.specs.Masks.{has, with_also}
-use Rattle.grs_wire.specs.Unseen.{unseen}
-use Rattle.grs_wire.specs.Wants.{res_wanted, is_for_all}
-use Rattle.grs_wire.specs.declared.deck.Choice.{Choice}
-use Rattle.grs_wire.specs.declared.deck.Choice.TheVariants as choices
-use Rattle.grs_wire.specs.declared.deck.Deck.{Deck}
-use Rattle.grs_wire.specs.declared.deck.Event.{Event}
-use Rattle.grs_wire.specs.declared.history.HistEntry.{HistEntry}
+use Rattle.grs_wire.specs.History.{answered_from, look_entries}
 use Rattle.grs_wire.specs.declared.history.HistEntry.TheVariants.{Remove}
-use Rattle.grs_wire.specs.declared.medium.Act.TheVariants as acts
 use Rattle.grs_wire.specs.declared.medium.Call.{Call}
-use Rattle.grs_wire.specs.declared.medium.Mail.TheVariants.{Answered}
-use Rattle.grs_wire.specs.declared.medium.Reply.{Reply}
-use Rattle.grs_wire.specs.declared.medium.Reply.TheVariants as replies
-use Rattle.grs_wire.specs.declared.request.Fixed.{Fixed}
-use Rattle.grs_wire.specs.declared.request.Fixed.TheVariants.{Asked, LocalLook, Purged}
-use Rattle.grs_wire.specs.declared.request.Req.{Req}
-use Rattle.grs_wire.specs.declared.request.Want.{Want}
-use Rattle.grs_wire.specs.declared.request.Want.TheVariants as wants
-use Rattle.task_state.specs.View.{is_task, state_of}
-use Rattle.task_state.specs.declared.state.Phase.{Phase}
-use Rattle.task_state.specs.declared.state.Phase.TheVariants as phases
-use Rattle.task_state.specs.declared.state.Rec.{Rec}
-use Rattle.grs_known.proofs.known.Histories.{OrdersFit}
-use Rattle.grs_known.proofs.lists.Truths.{false_by, no_truth}
+use Rattle.grs_wire.specs.declared.request.Fixed.TheVariants.{Asked}
 use Rattle.grs_world.proofs.gather.HeldBack.{HoldsNone, held_run, none-found}
 use Rattle.grs_world.proofs.at_rest.Homes.{homes_run}
 use Rattle.grs_world.proofs.at_rest.KeptUp.{IsBoxed, kept_run}
-use Rattle.grs_world.proofs.run.Came as any
 use Rattle.grs_world.proofs.run.Came.{Acts, Came, Result, acted, already, began, changed, decided, informed, last_turn}
 use Rattle.grs_world.proofs.run.Came.{left, no_such, parted, removes_one, removes_star, replied, result_of, sent}
 use Rattle.grs_world.proofs.run.Came.{settled, told, took, turn, went_on}
@@ -69,7 +37,13 @@ use Rattle.grs_world.specs.Agree.{is_purge}
 use Rattle.grs_world.specs.Fixing.{at_once, fixed_at_end, fixed_by_line, fixed_by_task, fixed_in_phase}
 use Rattle.grs_world.specs.Fixing.{fixed_when_ready}
 use Rattle.grs_world.specs.Removing.{NoneFollows}
-use Rattle.grs_world.specs.World.{Turnout, World, chosen, first_world, fixed_by, hist, placed, run}
+use Rattle.grs_legal.specs.declared.meaning.Meaning.TheVariants as lines
+use Rattle.grs_wire.specs.declared.deck.Choice.TheVariants as choices
+use Rattle.grs_wire.specs.declared.medium.Act.TheVariants as acts
+use Rattle.grs_wire.specs.declared.medium.Reply.TheVariants as replies
+use Rattle.grs_wire.specs.declared.request.Want.TheVariants as wants
+use Rattle.task_state.specs.declared.state.Phase.TheVariants as phases
+use Rattle.grs_world.proofs.run.Came as any
 
 -- ---- who asks
 -- What is fixed is asked by a task of a system that isn't in the set of the removed ones; a removal is asked by no

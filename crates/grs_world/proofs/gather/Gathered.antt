@@ -1,31 +1,20 @@
 -- What a system keeps of the entries that it gathers: each part has records of tasks of its sender alone; and where
 -- nothing of it is of a system, it awaits no part of that one, and has none that it sent.
-use Rattle.std.proofs.Common.{◌≡◌, ◌<◌, ℕ, Bool, true, false, not, ◌&&◌, List, [], ◌∷◌, ◌++◌, length, map, Option}
-use Rattle.std.proofs.Common.{Some, None, refl, ap, ◌∙◌}
-use Rattle.std.specs.Prelude.{◌==◌, filter, nat_le, slice_set}
-use Rattle.std.specs.List.{flat_map, list_all}
-use Rattle.std.specs.Option.{option_map, option_map_or}
-use native.Mathlib.Decide.{ℕ_discrete}
-use Rattle.std.proofs.lemmas.Bool.{and_from, and_parts, eq-eqb, eqb-true}
-use Rattle.grs_base.specs.Limits.{last_number, most_systems}
-use Rattle.grs_base.specs.declared.resource.SysId.{SysId}
-use Rattle.grs_base.specs.declared.resource.TaskId.{TaskId}
-use Rattle.grs_node.specs.Removal.{awaited, without_those}
+use Rattle.grs_world.proofs.Common.{[], ◌&&◌, ◌++◌, ◌<◌, ◌==◌, ◌∙◌, ◌∷◌, ◌≡◌, and_from, and_parts, ap, awaited}
+use Rattle.grs_world.proofs.Common.{awaiting, Bool, by_test, entry_of_res, eq-eqb, eqb-true, false, false_by, filter}
+use Rattle.grs_world.proofs.Common.{Gathering, gathering_at, has, has-without_other, has-without_same, is_entry}
+use Rattle.grs_world.proofs.Common.{last_number, length, List, list_all, map, most_systems, nat_le, no_truth, None, not}
+use Rattle.grs_world.proofs.Common.{Option, option_map, option_map_or, part_of, PartRec, refl, slice_set, Some, SysId}
+use Rattle.grs_world.proofs.Common.{TaskId, TasksView, true, without, without_those, ℕ, ℕ_discrete}
+use Rattle.std.specs.List.{flat_map}
 use Rattle.grs_node.proofs.Orderly.{all-at, all-items, all-set}
-use Rattle.grs_wire.proofs.MaskLaws.{has-without_all, has-without_other, has-without_same}
-use Rattle.grs_wire.proofs.WantLaws.{by_test}
-use Rattle.grs_wire.specs.Masks.{has, without}
-use Rattle.grs_wire.specs.declared.gather.PartRec.{PartRec}
-use Rattle.lock_structure.specs.Entries.{entry_of_res, is_entry}
+use Rattle.grs_wire.proofs.MaskLaws.{has-without_all}
 use Rattle.system_purge.proofs.GatheredParts.{all-gathered, all-joined, all-left, all-more, all-weaker, own-counts}
-use Rattle.system_purge.specs.Gather.{gathered, is_of_part, part_of}
-use Rattle.system_purge.specs.Gathers.{GathersView, awaiting, behind_loss, gathering_at, parts_in, with_part}
-use Rattle.system_purge.specs.Gathers.{with_part_at, without_entry, without_sender}
-use Rattle.system_purge.specs.declared.gathers.Gathering.{Gathering}
+use Rattle.system_purge.specs.Gather.{gathered, is_of_part}
+use Rattle.system_purge.specs.Gathers.{GathersView, behind_loss, parts_in, with_part, with_part_at, without_entry}
+use Rattle.system_purge.specs.Gathers.{without_sender}
 use Rattle.system_purge.specs.declared.gathers.SentPart.{SentPart}
-use Rattle.task_state.specs.View.{TasksView}
 use Rattle.grs_world.specs.Gone.{is_free_of, is_sent_by_other}
-use Rattle.grs_known.proofs.lists.Truths.{false_by, no_truth}
 
 off-by : (b : Bool) → not b ≡ true → b ≡ false
 off-by true h = absurd (cc)

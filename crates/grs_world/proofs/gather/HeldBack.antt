@@ -1,46 +1,22 @@
 -- A system in star mode holds no request of a system that it knows to be removed, in every run: such a request isn't
 -- held when it is taken, and those that were held go when their system is lost.
-use Rattle.std.proofs.Common.{◌≡◌, ◌≢◌, ◌<◌, ◌⊎◌, inl, inr, ℕ, zero, suc, Bool, true, false, cond, not, ◌&&◌, ◌||◌}
-use Rattle.std.proofs.Common.{List, [], ◌∷◌, ◌++◌, length, take, Option, Some, None, refl, ap, sym, ◌∙◌, subst, arith}
-use Rattle.std.specs.Prelude.{◌==◌, filter, find, is_none, slice_get}
-use Rattle.std.specs.List.{list_all, list_any}
-use native.Mathlib.Decide.{ℕ_discrete}
-use Rattle.std.proofs.lemmas.Bool.{and_from, and_parts, eq-eqb, eqb-true, or_left, or_right}
-use Rattle.std.proofs.lemmas.List.Folds.{list_all-append, list_any-append}
-use Rattle.std.proofs.lemmas.Option.{same_Some}
-use Rattle.grs_base.specs.Limits.{most_additions, most_systems}
-use Rattle.grs_base.specs.declared.resource.SysId.{SysId}
-use Rattle.grs_base.specs.declared.resource.TaskId.{TaskId}
-use Rattle.grs_legal.specs.Asks.{lines_of}
-use Rattle.grs_medium.specs.Medium.{MediumState}
-use Rattle.grs_node.specs.Change.{part_by_table}
-use Rattle.grs_node.specs.Names.{names_of}
-use Rattle.grs_node.specs.Node.{NodeState, change_to_star, desk_told, first_node, is_for_deck, is_item_of, is_of_deck}
-use Rattle.grs_node.specs.Node.{changed as changed_now, known_from, losing, losing_in, purged, read_entries, stale}
-use Rattle.grs_node.specs.Node.{switched, take_mail, took_mail}
-use Rattle.grs_node.specs.Removal.{Standing, awaited, is_news, lose, lose_all, lose_each, members, members_below}
-use Rattle.grs_node.specs.Removal.{move_entry, sent_again, standing, with_role, without_those}
-use Rattle.grs_node.specs.Star.{StarPart, besides_first, decide_own, entry_for, fixing_none, gathers, is_held_for}
-use Rattle.grs_node.specs.Star.{manages, may_settle}
-use Rattle.grs_node.proofs.Keeping.{stays-task, stays-turned}
-use Rattle.grs_wire.proofs.MaskLaws.{has-with_other, has-without_all, has-zero}
-use Rattle.grs_wire.proofs.WantLaws.{by_test}
-use Rattle.grs_wire.specs.Masks.{has, with_also}
-use Rattle.grs_wire.specs.Unseen.{unseen}
-use Rattle.grs_wire.specs.declared.deck.Choice.{Choice}
-use Rattle.grs_wire.specs.declared.deck.Choice.TheVariants as choices
-use Rattle.grs_wire.specs.declared.deck.Deck.{Deck}
-use Rattle.grs_wire.specs.declared.deck.Event.{Event}
-use Rattle.grs_wire.specs.declared.gather.Moved.{Moved}
-use Rattle.grs_wire.specs.declared.medium.Mail.{Mail}
-use Rattle.grs_wire.specs.declared.medium.Mail.TheVariants as mails
-use Rattle.grs_wire.specs.declared.request.Req.{Req}
-use Rattle.grs_wire.specs.declared.told.Said.{Said}
-use Rattle.grs_wire.specs.declared.told.Said.TheVariants as saids
-use Rattle.lock_structure.specs.Entries.{is_entry}
-use Rattle.star_client.specs.Owes.{owing}
-use Rattle.system_purge.specs.Gathers.{awaiting}
-use Rattle.grs_known.proofs.lists.Truths.{false_by, no_truth}
+use Rattle.grs_world.proofs.Common.{[], ◌&&◌, ◌++◌, ◌<◌, ◌==◌, ◌||◌, ◌∙◌, ◌∷◌, ◌≡◌, ◌⊎◌, and_from, and_parts, ap, arith}
+use Rattle.grs_world.proofs.Common.{awaited, awaiting, Bool, by_test, change_to_star, Choice, cond, decide_own, Deck}
+use Rattle.grs_world.proofs.Common.{desk_told, entry_for, eq-eqb, eqb-true, Event, false, false_by, filter, first_node}
+use Rattle.grs_world.proofs.Common.{fixing_none, gathers, has, has-with_other, has-zero, inl, inr, is_entry}
+use Rattle.grs_world.proofs.Common.{is_for_deck, is_item_of, is_news, is_none, is_of_deck, known_from, length, lines_of}
+use Rattle.grs_world.proofs.Common.{List, list_all, list_all-append, list_any, list_any-append, lose, lose_all}
+use Rattle.grs_world.proofs.Common.{lose_each, losing, losing_in, Mail, manages, may_settle, MediumState, members}
+use Rattle.grs_world.proofs.Common.{members_below, most_additions, most_systems, move_entry, Moved, names_of, no_truth}
+use Rattle.grs_world.proofs.Common.{NodeState, None, not, Option, or_left, or_right, owing, part_by_table, placed}
+use Rattle.grs_world.proofs.Common.{purged, read_entries, refl, Req, run, Said, same_Some, sent_again, slice_get, Some}
+use Rattle.grs_world.proofs.Common.{stale, Standing, standing, StarPart, stays-task, stays-turned, subst, suc, switched}
+use Rattle.grs_world.proofs.Common.{sym, SysId, take, take_mail, TaskId, took_mail, true, Turnout, unseen, with_also}
+use Rattle.grs_world.proofs.Common.{with_role, without_those, World, zero, ℕ, ℕ_discrete}
+use Rattle.std.specs.Prelude.{find}
+use Rattle.grs_node.specs.Node.{changed as changed_now}
+use Rattle.grs_node.specs.Star.{besides_first, is_held_for}
+use Rattle.grs_wire.proofs.MaskLaws.{has-without_all}
 use Rattle.grs_world.proofs.run.Came.{Acts, Came, Result, acted, already, began, changed, decided, informed, last_turn}
 use Rattle.grs_world.proofs.run.Came.{left, no_part, no_such, nothing, parted, removes_one, removes_star, sent, settled}
 use Rattle.grs_world.proofs.run.Came.{told, took, turn, went_on}
@@ -49,7 +25,9 @@ use Rattle.grs_world.proofs.run.Each.{each_run}
 use Rattle.grs_world.proofs.run.Lost.{by-loss, by-notice, by-part}
 use Rattle.grs_world.proofs.run.Runs.{by_node}
 use Rattle.grs_world.proofs.run.Sound.{first_of}
-use Rattle.grs_world.specs.World.{Turnout, World, placed, run}
+use Rattle.grs_wire.specs.declared.deck.Choice.TheVariants as choices
+use Rattle.grs_wire.specs.declared.medium.Mail.TheVariants as mails
+use Rattle.grs_wire.specs.declared.told.Said.TheVariants as saids
 
 -- ---- requests
 -- none of these is of the system of this number

@@ -1,40 +1,23 @@
 -- What holds of every world in star mode behind removals, as far as all systems have changed: said, and not shown yet.
 -- It goes by one lock entry and one live system at a time. An entry is closed while its manager has its lists, and open
 -- while that one has still to gather them. Beside it stand: what holds of tasks and of what is under way to them (as in
--- the star that loses nobody); that each element is of a system with interest (`AreNear`); and that nothing is kept of a
--- removed system by who knows of it (`KnownAreGone`).
-use Rattle.std.proofs.Common.{◌≡◌, ◌≢◌, ◌⊎◌, ℕ, Bool, true, false, cond, List, [], ◌∷◌, map, Option, Some, None}
-use Rattle.std.specs.Prelude.{◌==◌, slice_get}
-use Rattle.std.specs.List.{list_any}
-use Rattle.contention_mgr.specs.Manager.{Ranked, items_of, managed_at, plain}
-use Rattle.grs_base.specs.Lists.{has_task}
-use Rattle.grs_base.specs.Same.{same_task}
-use Rattle.grs_base.specs.State.{State, is_systems, list_of}
-use Rattle.grs_base.specs.declared.resource.Elem.{Elem}
-use Rattle.grs_base.specs.declared.resource.Res.{Res}
-use Rattle.grs_base.specs.declared.resource.SysId.{SysId}
-use Rattle.grs_base.specs.declared.resource.TaskId.{TaskId}
-use Rattle.grs_medium.specs.Medium.{inbox}
-use Rattle.grs_node.specs.Node.{NodeState}
-use Rattle.grs_node.specs.Star.{StarPart, gathers, has_interest, manages, owed_to}
-use Rattle.grs_wire.specs.Masks.{has}
-use Rattle.grs_wire.specs.Notices.{names, noticed}
-use Rattle.grs_wire.specs.declared.deck.Deck.{Deck}
-use Rattle.grs_wire.specs.declared.gather.Moved.{Moved}
-use Rattle.grs_wire.specs.declared.medium.Mail.{Mail}
-use Rattle.grs_wire.specs.declared.medium.Mail.TheVariants.{Answered, Granted, Notice, Part, Request}
-use Rattle.lock_structure.specs.Entries.{entry_of_res}
-use Rattle.lock_structure.specs.Laws.{is_interested, manager_at}
+-- the star that loses nobody); that each element is of a system with interest (`AreNear`); and that nothing is kept of
+-- a removed system by who knows of it (`KnownAreGone`).
+use Rattle.grs_world.proofs.Common.{[], ◌==◌, ◌∷◌, ◌≡◌, ◌≢◌, ◌⊎◌, Answered, Bool, cond, Deck, Elem, entry_of_res, false}
+use Rattle.grs_world.proofs.Common.{gathers, Granted, has, has_interest, has_task, inbox, is_interested, is_systems}
+use Rattle.grs_world.proofs.Common.{items_of, List, list_any, list_of, Mail, managed_at, manager_at, manages, map}
+use Rattle.grs_world.proofs.Common.{Moved, NodeState, None, Notice, noticed, Option, owed_to, Part, plain, Ranked, Rec}
+use Rattle.grs_world.proofs.Common.{record_of, Res, same_task, slice_get, Some, StarPart, State, state_of, SysId}
+use Rattle.grs_world.proofs.Common.{TaskId, true, without_gone, World, ℕ}
+use Rattle.grs_wire.specs.Notices.{names}
+use Rattle.grs_wire.specs.declared.medium.Mail.TheVariants.{Request}
 use Rattle.lock_structure.specs.RankedRows.{rises}
-use Rattle.task_state.specs.View.{record_of, state_of}
-use Rattle.task_state.specs.declared.state.Rec.{Rec}
 use Rattle.grs_world.proofs.gather.Views.{WayAt, last_item, parts_from, tells_in, view_at, view_of}
 use Rattle.grs_world.proofs.star.Members.{all_lists, has_manager}
 use Rattle.grs_world.proofs.star.Under.{under}
 use Rattle.grs_world.proofs.star.Worlds.{are_live}
 use Rattle.grs_world.proofs.run.Site.{Site}
-use Rattle.grs_world.specs.Kept.{shown_list, without_gone}
-use Rattle.grs_world.specs.World.{World}
+use Rattle.grs_world.specs.Kept.{shown_list}
 
 -- ---- one system and one entry
 -- How a system stands to an entry of which it is the manager by the word: it has the lists, it gathers them, or it has
@@ -70,7 +53,8 @@ pub record IsTo (deck : Deck) (words : List ℕ) (removed : ℕ) (L : State) (cl
   pub interest : has_interest p e ≡ is_interested words e s
   -- the lists that it manages are the history's but for elements of removed systems
   pub lists : manages p e ≡ true → (r : Res)
-      → without_gone removed (list_of (plain (items_of (managed_at p.manager e))) r) ≡ list_of (under deck.entries e L) r
+      → without_gone removed (list_of (plain (items_of (managed_at p.manager e))) r)
+      ≡ list_of (under deck.entries e L) r
   -- it owes its part to the manager, or to one that was removed, and then a notice will tell it of the next one
   pub owes : (to : SysId) → owed_to p e ≡ Some to
       → (is_interested words e s ≡ true)

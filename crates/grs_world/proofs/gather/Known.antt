@@ -1,41 +1,22 @@
 -- A system in star mode keeps nothing of a system that it knows to be removed, in every run where no desk orders the
 -- removal of its own system.
-use Rattle.std.proofs.Common.{◌≡◌, ◌≢◌, ◌<◌, ◌⊎◌, inl, inr, ℕ, zero, suc, Bool, true, false, cond, not, List, [], ◌∷◌}
-use Rattle.std.proofs.Common.{◌++◌, length, take, replicate, Option, Some, None, refl, ap, sym, ◌∙◌, subst}
-use Rattle.std.specs.Prelude.{◌==◌, filter, is_none, nat_lt, slice_get}
-use Rattle.std.specs.List.{list_all, list_any}
-use native.Mathlib.Decide.{ℕ_discrete}
-use Rattle.std.proofs.lemmas.Bool.{and_from, and_parts, eq-eqb, eqb-true, or_left}
-use Rattle.std.proofs.lemmas.Option.{same_Some}
-use Rattle.grs_base.specs.Limits.{most_additions, most_systems}
-use Rattle.grs_base.specs.declared.resource.SysId.{SysId}
-use Rattle.grs_base.specs.declared.resource.TaskId.{TaskId}
-use Rattle.grs_legal.specs.Asks.{lines_of}
-use Rattle.grs_medium.specs.Medium.{MediumState}
-use Rattle.grs_node.specs.Change.{part_by_table}
-use Rattle.grs_node.specs.Names.{names_of}
-use Rattle.grs_node.specs.Node.{NodeState, change_to_star, desk_told, first_node, is_for_deck, is_item_of, is_of_deck}
-use Rattle.grs_node.specs.Node.{changed as changed_now, known_from, losing, losing_in, may_send, purged, read_entries}
-use Rattle.grs_node.specs.Node.{stale, switched, take_mail, took_mail}
-use Rattle.grs_node.specs.Removal.{Standing, lose_all, lose_each, members, standing, without_those}
-use Rattle.grs_node.specs.Star.{StarPart, begun, decide_own, first_part, fixing_none, is_held_for, may_settle}
-use Rattle.grs_node.proofs.Keeping.{stays-entries, stays-task, stays-turned}
-use Rattle.grs_wire.proofs.MaskLaws.{has-with_other, has-without_all, has-zero}
-use Rattle.grs_wire.proofs.WantLaws.{by_test}
-use Rattle.grs_wire.specs.Masks.{has, with_also}
-use Rattle.grs_wire.specs.Unseen.{unseen}
-use Rattle.grs_wire.specs.declared.deck.Choice.{Choice}
-use Rattle.grs_wire.specs.declared.deck.Choice.TheVariants as choices
-use Rattle.grs_wire.specs.declared.deck.Deck.{Deck}
-use Rattle.grs_wire.specs.declared.deck.Event.{Event}
-use Rattle.grs_wire.specs.declared.medium.Mail.{Mail}
-use Rattle.grs_wire.specs.declared.medium.Mail.TheVariants as mails
-use Rattle.grs_wire.specs.declared.told.Said.{Said}
-use Rattle.grs_wire.specs.declared.told.Said.TheVariants as saids
-use Rattle.system_purge.specs.declared.gathers.Gathering.{Gathering}
-use Rattle.task_state.specs.View.{is_task}
-use Rattle.grs_known.proofs.known.Histories.{OrdersFit}
-use Rattle.grs_known.proofs.lists.Truths.{false_by, no_truth}
+use Rattle.grs_world.proofs.Common.{[], ◌++◌, ◌<◌, ◌==◌, ◌∙◌, ◌∷◌, ◌≡◌, ◌≢◌, ◌⊎◌, and_from, and_parts, ap, begun, Bool}
+use Rattle.grs_world.proofs.Common.{by_test, change_to_star, Choice, cond, decide_own, Deck, desk_told, eq-eqb}
+use Rattle.grs_world.proofs.Common.{eqb-true, Event, false, false_by, filter, first_node, first_part, fixing_none}
+use Rattle.grs_world.proofs.Common.{Gathering, has, has-with_other, has-zero, inl, inr, is_for_deck, is_item_of}
+use Rattle.grs_world.proofs.Common.{is_none, is_of_deck, is_task, known_from, length, lines_of, List, list_all}
+use Rattle.grs_world.proofs.Common.{list_any, lose_all, lose_each, losing, losing_in, Mail, may_send, may_settle}
+use Rattle.grs_world.proofs.Common.{MediumState, members, most_additions, most_systems, names_of, nat_lt, no_truth}
+use Rattle.grs_world.proofs.Common.{NodeState, None, not, Option, or_left, OrdersFit, part_by_table, placed, purged}
+use Rattle.grs_world.proofs.Common.{read_entries, refl, run, Said, same_Some, slice_get, Some, stale, Standing}
+use Rattle.grs_world.proofs.Common.{standing, StarPart, stays-task, stays-turned, subst, suc, switched, sym, SysId}
+use Rattle.grs_world.proofs.Common.{take, take_mail, TaskId, took_mail, true, Turnout, unseen, with_also, without_those}
+use Rattle.grs_world.proofs.Common.{World, zero, ℕ, ℕ_discrete}
+use Rattle.std.proofs.Common.{replicate}
+use Rattle.grs_node.specs.Node.{changed as changed_now}
+use Rattle.grs_node.specs.Star.{is_held_for}
+use Rattle.grs_node.proofs.Keeping.{stays-entries}
+use Rattle.grs_wire.proofs.MaskLaws.{has-without_all}
 use Rattle.grs_world.proofs.gather.Clean.{IsClean, IsOf, clean-all, clean-among, clean-moved, clean-part, clean-stays}
 use Rattle.grs_world.proofs.gather.Clean.{clean-up, of-lost, of-moved, of-part, of-up}
 use Rattle.grs_world.proofs.gather.Elements.{KeepsNone, leaving-none, managing-none, request-none, telling-none}
@@ -53,7 +34,9 @@ use Rattle.grs_world.proofs.run.Lost.{by-loss, by-notice}
 use Rattle.grs_world.proofs.run.Purging.{target-fits}
 use Rattle.grs_world.proofs.run.Runs.{by_node}
 use Rattle.grs_world.proofs.run.Sound.{first_of}
-use Rattle.grs_world.specs.World.{Turnout, World, placed, run}
+use Rattle.grs_wire.specs.declared.deck.Choice.TheVariants as choices
+use Rattle.grs_wire.specs.declared.medium.Mail.TheVariants as mails
+use Rattle.grs_wire.specs.declared.told.Said.TheVariants as saids
 
 -- What a system keeps in star mode: each part that came has records of its sender's tasks, and of a system that it
 -- knows to be removed there is nothing.

@@ -1,27 +1,14 @@
 -- In star mode each lock word names a manager exactly where its set isn't empty, who is in it, whichever systems are
 -- removed: the words change by requests, by entries that are left, and by removals, each of which keeps that.
-use Rattle.std.proofs.Common.{◌≡◌, ◌<◌, ◌++◌, ◌∷◌, Bool, List, None, Option, Some, [], arith, false, refl, subst, sym}
-use Rattle.std.proofs.Common.{true, ℕ}
-use Rattle.std.specs.Prelude.{slice_get}
-use Rattle.std.specs.List.{All}
+use Rattle.grs_world.proofs.Common.{[], ◌++◌, ◌<◌, ◌∷◌, ◌≡◌, All, arith, Bool, Choice, Deck, Event, false, first_world}
+use Rattle.grs_world.proofs.Common.{FitsStar, happens, IsManaged, left_word, left_words, List, may_be_star}
+use Rattle.grs_world.proofs.Common.{most_systems, no_truth, NodeState, None, Option, placed, refl, run, slice_get}
+use Rattle.grs_world.proofs.Common.{slice_get-past, slice_get_within, Some, StarPart, submitted, submitted_words, subst}
+use Rattle.grs_world.proofs.Common.{sym, SysId, true, Turnout, word_at, World, ℕ}
 use Rattle.std.proofs.lemmas.List.Elements.{All-set}
-use Rattle.std.proofs.lemmas.Option.{slice_get_within}
-use Rattle.grs_base.specs.Limits.{most_systems}
-use Rattle.grs_base.specs.declared.resource.SysId.{SysId}
-use Rattle.grs_known.proofs.lists.Facts.{slice_get-past}
-use Rattle.grs_known.proofs.lists.Truths.{no_truth}
-use Rattle.grs_node.specs.Node.{NodeState}
-use Rattle.grs_node.specs.Star.{StarPart}
-use Rattle.grs_wire.specs.LockWords.{left_word, submitted}
-use Rattle.grs_wire.specs.declared.deck.Choice.{Choice}
-use Rattle.grs_wire.specs.declared.deck.Deck.{Deck}
-use Rattle.grs_wire.specs.declared.deck.Event.{Event}
 use Rattle.lock_structure.proofs.LawProofs.{empty_is_managed, leave_keeps_managed, submit_keeps_managed}
 use Rattle.lock_structure.proofs.Purges.{purge_keeps_all_managed}
-use Rattle.lock_structure.specs.Laws.{IsManaged}
-use Rattle.lock_structure.specs.Words.{left_words, submitted_words, word_at}
 use Rattle.grs_world.proofs.move.Sound.{GoodRun, every_run, in_ring, in_star}
-use Rattle.grs_world.proofs.run.Came as any
 use Rattle.grs_world.proofs.run.Came.{Acts, Came, Result, acted, already, began, changed, decided, informed, last_turn}
 use Rattle.grs_world.proofs.run.Came.{left, no_such, parted, removes_one, removes_star, sent, settled, took, turn}
 use Rattle.grs_world.proofs.run.Came.{went_on}
@@ -30,8 +17,7 @@ use Rattle.grs_world.proofs.run.Each.{each_run, run-push}
 use Rattle.grs_world.proofs.run.GoesOn.{as_many}
 use Rattle.grs_world.proofs.run.Spared.{none_behind_ring}
 use Rattle.grs_world.proofs.star.Runs.{word_past}
-use Rattle.grs_world.specs.Decks.{FitsStar, may_be_star}
-use Rattle.grs_world.specs.World.{Turnout, World, first_world, happens, placed, run}
+use Rattle.grs_world.proofs.run.Came as any
 
 -- the word of an entry, also of one that isn't there
 each-managed : (words : List ℕ) → All IsManaged words → (e : ℕ) → IsManaged (word_at words e)

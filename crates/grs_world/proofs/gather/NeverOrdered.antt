@@ -1,30 +1,19 @@
 -- A run of a deck on whose desks no removal is ordered removes no system in star mode: no event of it is answered that
 -- a system was removed.
-use Rattle.std.proofs.Common.{◌≡◌, Bool, true, false, cond, ◌&&◌, List, [], ◌∷◌, ◌++◌, Option, Some, None, refl, ap}
-use Rattle.std.proofs.Common.{sym, ◌∙◌}
-use Rattle.std.specs.Prelude.{◌≢◌, nat_lt, not, length, slice_get}
-use Rattle.std.proofs.lemmas.Bool.{and_parts, not-true}
-use Rattle.grs_base.specs.declared.resource.SysId.{SysId}
-use Rattle.grs_medium.specs.Medium.{MediumState}
-use Rattle.grs_node.specs.Node.{NodeState, prepare}
-use Rattle.grs_node.specs.Star.{StarPart}
-use Rattle.grs_wire.specs.Masks.{has}
-use Rattle.grs_wire.specs.declared.deck.Choice.{Choice}
-use Rattle.grs_wire.specs.declared.deck.Deck.{Deck}
-use Rattle.grs_wire.specs.declared.deck.Event.{Event}
-use Rattle.grs_wire.specs.declared.medium.Reply.{Reply}
-use Rattle.grs_wire.specs.declared.medium.Reply.TheVariants as replies
-use Rattle.grs_known.proofs.lists.Truths.{false_by, no_truth}
+use Rattle.grs_world.proofs.Common.{[], ◌&&◌, ◌++◌, ◌∙◌, ◌∷◌, ◌≡◌, and_parts, ap, Bool, call_at, call_in, Choice, cond}
+use Rattle.grs_world.proofs.Common.{Deck, Event, false, false_by, first_world, happens, has, is_live, is_purged, List}
+use Rattle.grs_world.proofs.Common.{MediumState, nat_lt, no_truth, NodeState, None, NoneInStar, not-true, Option}
+use Rattle.grs_world.proofs.Common.{prepare, refl, Reply, reply_by, reply_of, slice_get, Some, StarPart, sym, SysId}
+use Rattle.grs_world.proofs.Common.{true, Turnout, World}
+use Rattle.std.specs.Prelude.{◌≢◌, not, length}
 use Rattle.grs_world.proofs.move.Decks.{order-removes}
 use Rattle.grs_world.proofs.run.Came.{Acts, Came, Result, acted, already, began, by_itself, changed, decided, informed}
 use Rattle.grs_world.proofs.run.Came.{is_silent, last_turn, left, no_such, nothing, parted, removes_one, removes_star}
 use Rattle.grs_world.proofs.run.Came.{replied, result_of, sent, settled, skipped, told, took, turn, went_on}
 use Rattle.grs_world.proofs.run.Chosen.{came, reply-in, reply_in}
 use Rattle.grs_world.specs.Decks.{may_remove}
-use Rattle.grs_world.specs.InStar.{NoneInStar, is_purged, removals_from}
-use Rattle.grs_world.specs.Removing.{call_at, call_in, reply_by, reply_of}
-use Rattle.grs_world.specs.Running.{is_live}
-use Rattle.grs_world.specs.World.{Turnout, World, first_world, happens}
+use Rattle.grs_world.specs.InStar.{removals_from}
+use Rattle.grs_wire.specs.declared.medium.Reply.TheVariants as replies
 
 -- what an event was that is answered so
 purged-reply : (r : Reply) → is_purged (Some r) ≡ true → r ≡ replies.Purged

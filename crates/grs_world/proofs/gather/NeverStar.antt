@@ -1,16 +1,9 @@
 -- A run of a deck that neither begins in star mode nor has a desk that orders it is in ring mode throughout, so it
 -- removes no system in star mode.
-use Rattle.std.proofs.Common.{◌≡◌, Bool, true, false, cond, ◌&&◌, List, [], ◌∷◌, ◌++◌, refl, ap, ◌∙◌, subst}
-use Rattle.std.specs.List.{list_any}
-use Rattle.std.proofs.lemmas.Bool.{or_parts}
-use Rattle.grs_base.specs.declared.resource.SysId.{SysId}
-use Rattle.grs_medium.specs.Medium.{MediumState}
-use Rattle.grs_node.specs.Node.{NodeState}
-use Rattle.grs_wire.specs.declared.deck.Choice.{Choice}
-use Rattle.grs_wire.specs.declared.deck.Deck.{Deck}
-use Rattle.grs_wire.specs.declared.deck.Event.{Event}
-use Rattle.grs_known.proofs.known.Histories.{OrdersFit}
-use Rattle.grs_known.proofs.lists.Truths.{no_truth}
+use Rattle.grs_world.proofs.Common.{[], ◌&&◌, ◌++◌, ◌∙◌, ◌∷◌, ◌≡◌, ap, Bool, Choice, cond, Deck, Event, false}
+use Rattle.grs_world.proofs.Common.{first_world, FitsStar, happens, is_purged, List, list_any, may_be_star, MediumState}
+use Rattle.grs_world.proofs.Common.{no_truth, NodeState, NoneInStar, or_parts, OrdersFit, placed, refl, reply_of, run}
+use Rattle.grs_world.proofs.Common.{subst, SysId, true, Turnout, World}
 use Rattle.grs_world.proofs.gather.Follows.{live_follow}
 use Rattle.grs_world.proofs.move.Decks.{order-may}
 use Rattle.grs_world.proofs.move.Sound.{every_sound}
@@ -19,10 +12,9 @@ use Rattle.grs_world.proofs.run.Came.{Came, Result, acted, acts-keep, already, c
 use Rattle.grs_world.proofs.run.Came.{nothing, removes_one, removes_star, turn, went_on}
 use Rattle.grs_world.proofs.run.Chosen.{each_came}
 use Rattle.grs_world.proofs.run.Each.{each_run, run-push}
-use Rattle.grs_world.specs.Decks.{FitsStar, may_be_star, orders_star}
-use Rattle.grs_world.specs.InStar.{NoneInStar, is_purged, removals_from}
-use Rattle.grs_world.specs.Removing.{NoneFollows, reply_of}
-use Rattle.grs_world.specs.World.{Turnout, World, first_world, happens, placed, run}
+use Rattle.grs_world.specs.Decks.{orders_star}
+use Rattle.grs_world.specs.InStar.{removals_from}
+use Rattle.grs_world.specs.Removing.{NoneFollows}
 
 module _ (deck : Deck) (never : may_be_star deck ≡ false) where
   mode-first : (first_world deck).medium.star ≡ false

@@ -1,60 +1,35 @@
 -- In a complex that begins in star mode the notices in a live system's inbox name the managers of lock entries,
 -- whichever systems are removed: of those that name an entry the last one names its manager, each other one a system
 -- that was removed since; and whose inbox it is has interest in the entry.
-use Rattle.std.proofs.Common.{◌≡◌, ◌≢◌, ◌<◌, ◌≤◌, ℕ, Bool, true, false, cond, not, ◌&&◌, ◌||◌, List, [], ◌∷◌, ◌++◌}
-use Rattle.std.proofs.Common.{length}
-use Rattle.std.proofs.Common.{Option, Some, None, refl, ap, sym, ◌∙◌, subst, arith, append-nil, zero, suc}
-use Rattle.std.specs.Prelude.{◌==◌, drop, filter, nat_lt, replicate, slice_get}
-use Rattle.std.specs.List.{All, list_any}
-use native.Mathlib.Decide.{ℕ_discrete}
-use Rattle.std.proofs.Math.Bool.{and-false, and-true, or-false}
-use Rattle.std.proofs.lemmas.Bool.{and_parts, eq-eqb, eqb-false, eqb-true, ltb-false, ltb-true, ne_eqb, not-true}
-use Rattle.std.proofs.lemmas.Bool.{or_left, or_parts, or_right}
-use Rattle.std.proofs.lemmas.List.{get_or-map, get_or_past, length-map, length-replicate, length-set, set_past}
-use Rattle.std.proofs.lemmas.List.Folds.{list_any-append}
-use Rattle.grs_base.specs.Limits.{most_systems}
-use Rattle.grs_base.specs.declared.resource.SysId.{SysId}
-use Rattle.grs_base.specs.declared.resource.TaskId.{TaskId}
-use Rattle.grs_medium.specs.Apply.{is_noticed, leave_row, manages as manages_there, moved_by, notice_reply, row}
-use Rattle.grs_medium.specs.Apply.{without_in_star}
-use Rattle.grs_medium.specs.Inboxes.{inbox_of, emptied, notices_to, with_mail, without_first}
-use Rattle.grs_medium.specs.Medium.{MediumState, awake, inbox, systems_of}
+use Rattle.grs_world.proofs.Common.{[], ◌&&◌, ◌++◌, ◌<◌, ◌==◌, ◌||◌, ◌∙◌, ◌∷◌, ◌≡◌, ◌≢◌, ◌≤◌, All, and-false, and-true}
+use Rattle.grs_world.proofs.Common.{and_parts, answer_for, ap, append-nil, arith, Asked, awake, Bool, by_test, Choice}
+use Rattle.grs_world.proofs.Common.{cond, Deck, entries_some, eqb-false, eqb-true, Event, false, filter, first_world}
+use Rattle.grs_world.proofs.Common.{FitsStar, has, has-with_other, has-with_same, has_interest, inbox, inbox_of}
+use Rattle.grs_world.proofs.Common.{interest, is_interested, is_manager, IsManaged, leave_reply, leave_row, left_words}
+use Rattle.grs_world.proofs.Common.{length, length-map, length-replicate, length-set, List, list_any, list_any-append}
+use Rattle.grs_world.proofs.Common.{ltb-true, Mail, manager, manager_at, MediumState, most_systems, Moved, names_of}
+use Rattle.grs_world.proofs.Common.{nat_lt, ne_eqb, no_truth, NodeState, None, not, not-true, noticed, Option, or-false}
+use Rattle.grs_world.proofs.Common.{or_left, or_parts, or_right, part_of, placed, prepare, prepared_by, rank_of, refl}
+use Rattle.grs_world.proofs.Common.{replicate, Reply, request_of, row, run, Some, star_call, StarPart, submitted_words}
+use Rattle.grs_world.proofs.Common.{subst, sym, SysId, systems_of, TaskId, true, Turnout, with_also, with_mail}
+use Rattle.grs_world.proofs.Common.{without_first, without_in_star, word_at, World, ℕ, ℕ_discrete}
+use Rattle.std.specs.Prelude.{drop}
+use Rattle.std.proofs.lemmas.Bool.{ltb-false}
+use Rattle.std.proofs.lemmas.List.{get_or-map, get_or_past, set_past}
+use Rattle.grs_medium.specs.Apply.{is_noticed, manages as manages_there, moved_by, notice_reply}
+use Rattle.grs_medium.specs.Inboxes.{emptied, notices_to}
 use Rattle.grs_medium.proofs.Removals.{inbox-left, moved-at, told-where, told_to}
 use Rattle.grs_medium.proofs.SpaceLaws.{length-posted}
-use Rattle.grs_node.specs.Node.{NodeState, prepare, prepared_by, star_call}
-use Rattle.grs_node.specs.Names.{names_of}
-use Rattle.grs_node.specs.Star.{StarPart, answer_for, has_interest, may_leave, rank_of, request_of}
+use Rattle.grs_node.specs.Star.{may_leave}
 use Rattle.grs_node.specs.declared.prepared.Prepared.TheVariants.{Call as Calls}
 use Rattle.grs_node.specs.declared.star.Need.TheVariants.{Asks, Idle}
-use Rattle.grs_wire.proofs.DeckLaws.{entries_some}
-use Rattle.grs_wire.proofs.MaskLaws.{has-with_other, has-with_same}
-use Rattle.grs_wire.proofs.WantLaws.{by_test}
-use Rattle.grs_wire.specs.LockWords.{interest, is_manager, leave_reply, manager}
-use Rattle.grs_wire.specs.Masks.{has, with_also}
-use Rattle.grs_wire.specs.Notices.{names, noticed}
-use Rattle.grs_wire.specs.declared.deck.Choice.{Choice}
-use Rattle.grs_wire.specs.declared.deck.Choice.TheVariants as choices
-use Rattle.grs_wire.specs.declared.deck.Deck.{Deck}
-use Rattle.grs_wire.specs.declared.deck.Event.{Event}
-use Rattle.grs_wire.specs.declared.gather.Moved.{Moved}
-use Rattle.grs_wire.specs.declared.medium.Act.TheVariants as acts
-use Rattle.grs_wire.specs.declared.medium.Call.{Call}
-use Rattle.grs_wire.specs.declared.medium.Mail.{Mail}
-use Rattle.grs_wire.specs.declared.medium.Mail.TheVariants as mails
-use Rattle.grs_wire.specs.declared.medium.Reply.{Reply}
-use Rattle.grs_wire.specs.declared.medium.Reply.TheVariants as replies
+use Rattle.grs_wire.specs.Notices.{names}
 use Rattle.lock_structure.proofs.LawProofs.{leave_keeps_all_managed, leave_manages, leave_parts, manager_is_kept}
 use Rattle.lock_structure.proofs.LawProofs.{submit_keeps_all_managed, words_begin}
 use Rattle.lock_structure.proofs.Purges.{moved_for_interested, purge_keeps_all_managed, purge_keeps_others}
 use Rattle.lock_structure.proofs.Purges.{purge_takes_target}
-use Rattle.lock_structure.specs.Laws.{IsManaged, is_interested, manager_at}
 use Rattle.lock_structure.specs.Purge.{made_known, moved_at, moved_for, purged_word, purged_words}
-use Rattle.lock_structure.specs.Words.{left_words, submitted_words, word_at}
-use Rattle.system_purge.specs.Gather.{part_of}
-use Rattle.task_state.specs.declared.state.Asked.{Asked}
-use Rattle.grs_known.proofs.lists.Truths.{no_truth}
 use Rattle.grs_world.proofs.at_rest.Sized.{IsSized, sized_run}
-use Rattle.grs_world.proofs.run.Came as any
 use Rattle.grs_world.proofs.run.Came.{Acts, Came, Result, acted, already, began, changed, decided, informed, last_turn}
 use Rattle.grs_world.proofs.run.Came.{left, no_such, parted, removes_one, removes_star, replied, result_of, sent}
 use Rattle.grs_world.proofs.run.Came.{settled, told, took, turn, went_on}
@@ -62,16 +37,18 @@ use Rattle.grs_world.proofs.run.Chosen.{came}
 use Rattle.grs_world.proofs.run.Each.{each_heard, each_live, each_run}
 use Rattle.grs_world.proofs.run.GoesOn.{as_many}
 use Rattle.grs_world.proofs.run.Laps.{goes_on}
-use Rattle.grs_world.proofs.run.Site.{Site, at_site, site-below}
+use Rattle.grs_world.proofs.run.Site.{at_site, site-below}
 use Rattle.grs_world.proofs.star.Boxes.{by_box, taken-box, untaken-box}
 use Rattle.grs_world.proofs.star.Members.{has_manager, managed-is, manager-here}
 use Rattle.grs_world.proofs.star.Roles.{interest-within, want-within}
 use Rattle.grs_world.proofs.star.Sending.{WordsGrow, submit-grows}
 use Rattle.grs_world.proofs.star.Sound.{no_mail}
-use Rattle.grs_world.specs.Decks.{FitsStar}
 use Rattle.grs_world.specs.Noticed.{AllName, InBox, NamesOne, NoticesName, items_in}
-use Rattle.grs_world.specs.Running.{is_live}
-use Rattle.grs_world.specs.World.{Turnout, World, first_world, placed, run}
+use Rattle.grs_wire.specs.declared.deck.Choice.TheVariants as choices
+use Rattle.grs_wire.specs.declared.medium.Act.TheVariants as acts
+use Rattle.grs_wire.specs.declared.medium.Mail.TheVariants as mails
+use Rattle.grs_wire.specs.declared.medium.Reply.TheVariants as replies
+use Rattle.grs_world.proofs.run.Came as any
 
 -- ---- notices in an inbox
 none-filtered : (p : Moved → Bool) (xs : List Moved) → list_any p xs ≡ false → filter p xs ≡ []

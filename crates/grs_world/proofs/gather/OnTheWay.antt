@@ -1,20 +1,13 @@
 -- Where a live system's part of an open lock entry is, and how each event moves it. An entry is open while its manager
 -- has still to gather its lists. Two systems are all that is looked at: that manager, of number m, and another one, of
 -- number u. What both are to the entry is a view of each.
-use Rattle.std.proofs.Common.{◌≡◌, ◌⊎◌, inl, inr, ℕ, Bool, true, false, not, ◌&&◌, List, [], ◌∷◌, ◌++◌, map, Option, Some}
-use Rattle.std.proofs.Common.{None, refl, ap, sym, ◌∙◌}
-use Rattle.std.specs.Prelude.{◌==◌, filter}
-use Rattle.std.proofs.lemmas.Option.{same_Some}
-use Rattle.grs_base.specs.declared.resource.SysId.{SysId}
-use Rattle.grs_wire.specs.Masks.{has}
-use Rattle.grs_wire.specs.declared.gather.Moved.{Moved}
-use Rattle.grs_wire.specs.declared.gather.PartRec.{PartRec}
-use Rattle.system_purge.specs.declared.gathers.Gathering.{Gathering}
-use Rattle.grs_known.proofs.lists.Truths.{no_truth}
+use Rattle.grs_world.proofs.Common.{[], ◌&&◌, ◌++◌, ◌==◌, ◌∙◌, ◌∷◌, ◌≡◌, ◌⊎◌, ap, Bool, false, filter, Gathering, has}
+use Rattle.grs_world.proofs.Common.{inl, inr, List, map, Moved, no_truth, None, not, Option, PartRec, refl, same_Some}
+use Rattle.grs_world.proofs.Common.{Some, sym, SysId, true, ℕ}
 
--- What a system is to an entry: the item of the last notice in its inbox that names the entry; to whom it owes its part,
--- and what it gathers itself; the parts of each system that are in its inbox; what it has on record in the entry; and
--- whether an answer to a request in the entry, or control of a resource of it, is in its inbox.
+-- What a system is to an entry: the item of the last notice in its inbox that names the entry; to whom it owes its
+-- part, and what it gathers itself; the parts of each system that are in its inbox; what it has on record in the entry;
+-- and whether an answer to a request in the entry, or control of a resource of it, is in its inbox.
 pub record View : Type 0 where
   pub notice : Option Moved
   pub owes : Option SysId

@@ -1,49 +1,24 @@
 -- From the change of the medium on, whichever systems are removed: a system that has changed has nothing of the message
 -- left to process, and one that hasn't stands by itself as in a ring in which nobody but it has fixed anything since.
-use Rattle.std.proofs.Common.{◌≡◌, ◌≢◌, ℕ, Bool, true, false, cond, not, List, [], ◌∷◌, map, Some, None, refl, ap, sym}
-use Rattle.std.proofs.Common.{◌∙◌, subst}
-use Rattle.std.specs.Prelude.{filter, is_none, slice_get, ◌==◌}
-use Rattle.std.proofs.lemmas.Bool.{eqb-true}
-use Rattle.grs_base.specs.declared.resource.SysId.{SysId}
-use Rattle.grs_base.specs.declared.resource.TaskId.{TaskId}
-use Rattle.grs_known.proofs.known.Histories.{IsHistory}
-use Rattle.grs_known.proofs.lists.Truths.{no_truth}
-use Rattle.grs_known.proofs.system.Says.{own_requests}
-use Rattle.grs_known.specs.Items.{RunItem, items}
-use Rattle.grs_legal.specs.Asks.{lines_of}
-use Rattle.grs_medium.specs.Medium.{MediumState}
-use Rattle.grs_node.proofs.ChangeFits.{star-changed}
-use Rattle.grs_node.proofs.Keeping.{stays-task}
-use Rattle.grs_node.specs.Change.{part_by_table}
-use Rattle.grs_node.specs.Names.{names_of}
-use Rattle.grs_node.specs.Node.{NodeState, Step, change_to_star, desk_told, losing, losing_in, purged, read_entries}
-use Rattle.grs_node.specs.Node.{changed as changed_now, known_from, may_go, stale, switched, task_step}
-use Rattle.grs_node.specs.Removal.{lose_all, members, standing, without_those}
-use Rattle.grs_node.specs.Star.{StarPart}
-use Rattle.grs_wire.proofs.MaskLaws.{has-with_other, has-with_same, has-without_other, has-without_same, has-zero}
-use Rattle.grs_wire.proofs.WantLaws.{by_test}
-use Rattle.grs_wire.specs.Masks.{has, only as only_in, with_also}
-use Rattle.grs_wire.specs.Unseen.{is_unseen, unseen}
-use Rattle.grs_wire.specs.declared.deck.Choice.{Choice}
-use Rattle.grs_wire.specs.declared.deck.Choice.TheVariants as choices
-use Rattle.grs_wire.specs.declared.deck.Deck.{Deck}
-use Rattle.grs_wire.specs.declared.deck.Event.{Event}
-use Rattle.grs_wire.specs.declared.medium.RingEntry.{RingEntry}
-use Rattle.grs_wire.specs.declared.request.Fixed.{Fixed}
-use Rattle.grs_wire.specs.declared.told.Said.{Said}
-use Rattle.grs_wire.specs.declared.told.Said.TheVariants as saids
-use Rattle.rsa_message.specs.Message.{Message, cleared, closed_by, departed, first_number, left_by}
-use Rattle.rsa_message.proofs.Stands.{Bodies}
-use Rattle.rsa_message.proofs.Stands as stands
+use Rattle.grs_world.proofs.Common.{[], ◌==◌, ◌∙◌, ◌∷◌, ◌≡◌, ◌≢◌, ap, Bodies, Bool, by_test, change_to_star, Choice}
+use Rattle.grs_world.proofs.Common.{cleared, closed_by, cond, Deck, departed, desk_told, eqb-true, Event, false, filter}
+use Rattle.grs_world.proofs.Common.{first_number, first_world, FitsStar, Fixed, happens, has, has-with_other}
+use Rattle.grs_world.proofs.Common.{has-with_same, has-without_other, has-without_same, has-zero, is_none, is_unseen}
+use Rattle.grs_world.proofs.Common.{IsHistory, items, known_from, left_by, lines_of, List, lose_all, losing, losing_in}
+use Rattle.grs_world.proofs.Common.{map, may_be_star, may_go, MediumState, members, Message, names_of, no_truth}
+use Rattle.grs_world.proofs.Common.{NodeState, None, not, own_requests, part_by_table, placed, purged, read_entries}
+use Rattle.grs_world.proofs.Common.{refl, RingEntry, run, RunItem, Said, slice_get, Some, stale, standing, star-changed}
+use Rattle.grs_world.proofs.Common.{StarPart, stays-task, Step, subst, switched, sym, SysId, task_step, TaskId, true}
+use Rattle.grs_world.proofs.Common.{Turnout, unseen, with_also, without_those, World, ℕ}
+use Rattle.grs_node.specs.Node.{changed as changed_now}
+use Rattle.grs_wire.specs.Masks.{only as only_in}
 use Rattle.grs_world.proofs.move.Sound.{ring_good}
-use Rattle.grs_world.proofs.run.Came as any
 use Rattle.grs_world.proofs.run.Came.{Acts, Came, Result, acted, acts-keep, already, began, changed, decided, informed}
 use Rattle.grs_world.proofs.run.Came.{last_turn, left, no_part, no_such, parted, removes_one, removes_star, sent}
 use Rattle.grs_world.proofs.run.Came.{settled, took, turn, went_on}
 use Rattle.grs_world.proofs.run.Chosen.{each_came}
 use Rattle.grs_world.proofs.run.Each.{each_run}
 use Rattle.grs_world.proofs.run.Growing.{fixeds}
-use Rattle.grs_world.proofs.run.InRing as ringing
 use Rattle.grs_world.proofs.run.InRing.{CameInRing, IsRing, each_in_ring, first_ring, is_ring, live-there, purged-ring}
 use Rattle.grs_world.proofs.run.InRing.{removed_by, told-ring}
 use Rattle.grs_world.proofs.run.Laps.{goes}
@@ -52,8 +27,11 @@ use Rattle.grs_world.proofs.run.Runs.{GoodWorld, by_node}
 use Rattle.grs_world.proofs.system.AtNode.{QuietStep, Seen, fix-history, fixes, keeps, seen-known}
 use Rattle.grs_world.proofs.system.Desks.{desk-seen}
 use Rattle.grs_world.proofs.system.Quiet.{quiet}
-use Rattle.grs_world.specs.Decks.{FitsStar, may_be_star}
-use Rattle.grs_world.specs.World.{Turnout, World, first_world, happens, placed, run}
+use Rattle.grs_wire.specs.declared.deck.Choice.TheVariants as choices
+use Rattle.grs_wire.specs.declared.told.Said.TheVariants as saids
+use Rattle.rsa_message.proofs.Stands as stands
+use Rattle.grs_world.proofs.run.Came as any
+use Rattle.grs_world.proofs.run.InRing as ringing
 
 -- ---- what is left of the message where a system leaves all masks
 -- the entries that aren't left to this system alone

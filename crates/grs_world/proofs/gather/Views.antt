@@ -1,24 +1,10 @@
 -- What a system is to a lock entry, by its tasks, its part in star mode and its inbox.
-use Rattle.std.specs.Prelude.{◌≡◌, ℕ, Bool, true, false, ◌&&◌, ◌==◌, cond, find, List, [], ◌∷◌, Option, Some, None}
-use Rattle.std.specs.Prelude.{slice_get}
-use Rattle.std.specs.List.{flat_map, list_any}
-use Rattle.contention_mgr.specs.Manager.{entry_wanted}
-use Rattle.grs_medium.specs.Medium.{inbox}
-use Rattle.grs_node.specs.Names.{names_of}
-use Rattle.grs_node.specs.Node.{NodeState}
-use Rattle.grs_node.specs.Star.{StarPart, owed_to}
-use Rattle.grs_wire.specs.declared.deck.Deck.{Deck}
-use Rattle.grs_wire.specs.declared.gather.Moved.{Moved}
-use Rattle.grs_wire.specs.declared.gather.PartRec.{PartRec}
-use Rattle.grs_wire.specs.declared.medium.Mail.{Mail}
-use Rattle.grs_wire.specs.declared.medium.Mail.TheVariants.{Answered, Granted, Notice, Part}
-use Rattle.lock_structure.specs.Entries.{entry_of_res, is_entry}
-use Rattle.system_purge.specs.Gather.{part_of}
-use Rattle.system_purge.specs.Gathers.{gathering_at}
-use Rattle.task_state.specs.View.{TasksView, state_of}
-use Rattle.task_state.specs.declared.state.Asked.{Asked}
+use Rattle.grs_world.proofs.Common.{◌==◌, Answered, Asked, Deck, entry_of_res, entry_wanted, gathering_at, Granted}
+use Rattle.grs_world.proofs.Common.{inbox, is_entry, list_any, Mail, Moved, names_of, NodeState, Notice, owed_to, Part}
+use Rattle.grs_world.proofs.Common.{part_of, PartRec, slice_get, StarPart, state_of, TasksView, World}
+use Rattle.std.specs.Prelude.{ℕ, Bool, false, ◌&&◌, cond, find, List, [], ◌∷◌, Option, Some, None}
+use Rattle.std.specs.List.{flat_map}
 use Rattle.grs_world.proofs.gather.OnTheWay.{OnTheWay, View}
-use Rattle.grs_world.specs.World.{World}
 
 -- ---- of an inbox
 -- the item of a notice that names the entry, if a mail is one with such an item

@@ -1,21 +1,14 @@
 -- A lap ends, and leaves none of the entries that stood in the message before.
-use Rattle.std.proofs.Common.{ℕ, zero, suc, ◌≡◌, ◌≢◌, ◌+◌, ◌-◌, ◌*◌, ◌<◌, ◌≤◌, Bool, true, false, cond, not, ◌&&◌, List}
-use Rattle.std.proofs.Common.{[], ◌∷◌, ◌++◌, length, Option, Some, refl, sym, ap, ◌∙◌, subst, arith, ◌⊎◌, inl, inr}
-use Rattle.std.specs.Prelude.{Contains, nat_lt, slice_index_or}
-use Rattle.std.proofs.lemmas.Bool.{and_parts, lt-ltb, ltb-true, or_left, or_right, true≢false}
-use Rattle.std.proofs.lemmas.Option.{same_Some}
+use Rattle.grs_world.proofs.Common.{[], ◌&&◌, ◌*◌, ◌++◌, ◌+◌, ◌-◌, ◌<◌, ◌∙◌, ◌∷◌, ◌≡◌, ◌≢◌, ◌≤◌, ◌⊎◌, and_parts, ap}
+use Rattle.grs_world.proofs.Common.{arith, Bool, cond, Deck, Event, false, first_world, happens, has, has-live, inl}
+use Rattle.grs_world.proofs.Common.{inr, is_live, is_turned, lap, length, List, live, live_below, lives, lt-ltb}
+use Rattle.grs_world.proofs.Common.{ltb-true, Message, nat_lt, not, Option, or_left, or_right, refl, reply_of}
+use Rattle.grs_world.proofs.Common.{RingEntry, run, run_from, same_Some, slice_index_or, Some, subst, suc, sym, SysId}
+use Rattle.grs_world.proofs.Common.{true, true≢false, turn_of, turned_open, WaitsForLive, World, zero, ℕ}
+use Rattle.std.specs.Prelude.{Contains}
 use native.Mathlib.Decide.{dec_lt}
-use Rattle.grs_base.specs.declared.resource.SysId.{SysId}
 use Rattle.grs_medium.proofs.GoesOn.{masks_of}
-use Rattle.grs_medium.proofs.LiveLaws.{has-live}
 use Rattle.grs_medium.specs.Apply.{is_live as is_live_at}
-use Rattle.grs_medium.specs.GoesOn.{WaitsForLive}
-use Rattle.grs_medium.specs.Medium.{live}
-use Rattle.grs_wire.specs.Masks.{has, lives}
-use Rattle.grs_wire.specs.declared.deck.Deck.{Deck}
-use Rattle.grs_wire.specs.declared.deck.Event.{Event}
-use Rattle.grs_wire.specs.declared.medium.RingEntry.{RingEntry}
-use Rattle.rsa_message.specs.Message.{Message, turned_open}
 use Rattle.grs_world.proofs.lap.Held.{AllHeld, Held, run_held}
 use Rattle.grs_world.proofs.lap.Old.{old_unseen, waits_old}
 use Rattle.grs_world.proofs.lap.Phases.{Done, Phase, begins, ends, turned_phase}
@@ -23,11 +16,7 @@ use Rattle.grs_world.proofs.lap.Turns.{Knows, TurnCame, served, told, turn_came,
 use Rattle.grs_world.proofs.run.Each.{run-push}
 use Rattle.grs_world.proofs.run.InRing.{IsRing, begins_ring, is_ring, live-is}
 use Rattle.grs_world.proofs.run.Waits.{run_waits}
-use Rattle.grs_world.specs.Running.{is_live}
-use Rattle.grs_world.specs.Stopped.{AreAtMessage, LapsEnd, is_turned, lap, lap_from, left_behind, live_below}
-use Rattle.grs_world.specs.Stopped.{live_count, next_of, turn_of, turned_in}
-use Rattle.grs_world.specs.Removing.{reply_of}
-use Rattle.grs_world.specs.World.{World, first_world, happens, run, run_from}
+use Rattle.grs_world.specs.Stopped.{AreAtMessage, LapsEnd, lap_from, left_behind, live_count, next_of, turned_in}
 
 -- ---- one of the entries
 held_at : (n next : ℕ) (x : RingEntry) (es : List RingEntry) (k : ℕ) → k < length es → slice_index_or es k x ≡ x

@@ -1,35 +1,22 @@
 -- In each run each entry of the message has somebody who has still to process it, where some system is live, and a
 -- number below that of the next.
-use Rattle.std.proofs.Common.{ℕ, suc, ◌≡◌, ◌≢◌, ◌+◌, ◌<◌, ◌≤◌, Bool, true, false, cond, not, List, [], ◌∷◌, ◌++◌}
-use Rattle.std.proofs.Common.{length, map, take, refl, sym, ap, ◌∙◌, subst, arith}
-use Rattle.std.specs.Prelude.{filter, nat_lt, ◌==◌}
-use Rattle.std.specs.List.{list_any}
-use Rattle.std.proofs.lemmas.Bool.{and_parts, eq-eqb, ltb-true, or_left, or_right, true≢false}
-use native.Mathlib.Decide.{ℕ_discrete}
-use Rattle.grs_base.specs.Limits.{most_additions}
-use Rattle.grs_base.specs.declared.resource.SysId.{SysId}
-use Rattle.grs_known.proofs.lists.Truths.{false_by, no_truth}
+use Rattle.grs_world.proofs.Common.{[], ◌++◌, ◌+◌, ◌<◌, ◌==◌, ◌∙◌, ◌∷◌, ◌≡◌, ◌≢◌, ◌≤◌, and_parts, any_unseen, ap, arith}
+use Rattle.grs_world.proofs.Common.{Bool, cleared, cond, Deck, dropped, eq-eqb, Event, false, false_by, filter}
+use Rattle.grs_world.proofs.Common.{first_medium, first_world, happens, has, has-live, has-with_other, has-with_same}
+use Rattle.grs_world.proofs.Common.{has-without_other, has-zero, is_unseen, left_by, length, List, list_any, live}
+use Rattle.grs_world.proofs.Common.{ltb-true, map, MediumState, most_additions, nat_lt, no_truth, NodeState, not}
+use Rattle.grs_world.proofs.Common.{or_left, or_right, placed, refl, Req, RingEntry, run, stamped, subst, suc, sym}
+use Rattle.grs_world.proofs.Common.{SysId, take, true, true≢false, turned_open, Turnout, WaitsForLive, with_also}
+use Rattle.grs_world.proofs.Common.{without, without_system, World, ℕ, ℕ_discrete}
 use Rattle.grs_medium.proofs.GoesOn.{masks_of}
-use Rattle.grs_medium.proofs.LiveLaws.{has-live, same_set}
-use Rattle.grs_medium.specs.Apply.{is_live, without_system}
-use Rattle.grs_medium.specs.GoesOn.{WaitsForLive}
-use Rattle.grs_medium.specs.Medium.{MediumState, first_medium, live}
-use Rattle.grs_node.specs.Node.{NodeState}
-use Rattle.grs_wire.proofs.MaskLaws.{has-with_other, has-with_same, has-without_other, has-zero}
-use Rattle.grs_wire.specs.Masks.{has, only, with_also, without}
-use Rattle.grs_wire.specs.Unseen.{is_unseen}
-use Rattle.grs_wire.specs.declared.deck.Deck.{Deck}
-use Rattle.grs_wire.specs.declared.deck.Event.{Event}
-use Rattle.grs_wire.specs.declared.medium.RingEntry.{RingEntry}
-use Rattle.grs_wire.specs.declared.request.Req.{Req}
-use Rattle.rsa_message.specs.Message.{any_unseen, cleared, dropped, left_by, stamped, turned_open}
+use Rattle.grs_medium.proofs.LiveLaws.{same_set}
+use Rattle.grs_medium.specs.Apply.{is_live}
+use Rattle.grs_wire.specs.Masks.{only}
 use Rattle.grs_world.proofs.lap.Old.{Search, nobody, search_below, somebody}
 use Rattle.grs_world.proofs.run.Each.{each_run}
 use Rattle.grs_world.proofs.run.InRing.{CameInRing, IsRing, begins_ring, changed, each_in_ring, informed, is_ring}
-use Rattle.grs_world.proofs.run.InRing.{no_such}
-use Rattle.grs_world.proofs.run.InRing.{nothing, removes_one, star-stays, turn, went_on}
+use Rattle.grs_world.proofs.run.InRing.{no_such, nothing, removes_one, star-stays, turn, went_on}
 use Rattle.grs_world.proofs.run.Waits.{run_waits}
-use Rattle.grs_world.specs.World.{Turnout, World, first_world, happens, placed, run}
 
 -- A system below n has still to process the entry, whose number is below the next.
 abbrev pub Held : ℕ → ℕ → RingEntry → Type 0

@@ -1,18 +1,10 @@
 -- The entries that stood in the message before a lap, and who has still to process one of them.
-use Rattle.std.proofs.Common.{ℕ, zero, suc, ◌≡◌, ◌≢◌, ◌<◌, ◌≤◌, Bool, true, false, cond, not, ◌&&◌, ◌||◌, List}
-use Rattle.std.proofs.Common.{[], ◌∷◌, ◌++◌, map, refl, sym, ap, ◌∙◌, subst, arith}
-use Rattle.std.specs.Prelude.{filter, nat_lt, ◌==◌}
-use Rattle.std.specs.List.{list_any}
-use Rattle.std.proofs.lemmas.Bool.{and_parts, ltb-true, or_left, or_right, true≢false}
-use native.Mathlib.Decide.{ℕ_discrete}
-use Rattle.grs_base.specs.declared.resource.SysId.{SysId}
-use Rattle.grs_known.proofs.lists.Truths.{false_by}
-use Rattle.grs_wire.proofs.MaskLaws.{has-without_same, has-without_other}
-use Rattle.grs_wire.specs.Masks.{has, only, without}
-use Rattle.grs_wire.specs.Unseen.{is_unseen}
-use Rattle.grs_wire.specs.declared.medium.RingEntry.{RingEntry}
-use Rattle.grs_wire.specs.declared.request.Req.{Req}
-use Rattle.rsa_message.specs.Message.{any_unseen, cleared, left_by, stamped}
+use Rattle.grs_world.proofs.Common.{[], ◌&&◌, ◌++◌, ◌<◌, ◌==◌, ◌||◌, ◌∙◌, ◌∷◌, ◌≡◌, ◌≢◌, ◌≤◌, and_parts, any_unseen, ap}
+use Rattle.grs_world.proofs.Common.{arith, Bool, cleared, cond, false, false_by, filter, has, has-without_other}
+use Rattle.grs_world.proofs.Common.{has-without_same, is_unseen, left_by, List, list_any, ltb-true, map, nat_lt, not}
+use Rattle.grs_world.proofs.Common.{or_left, or_right, refl, Req, RingEntry, stamped, subst, suc, sym, SysId, true}
+use Rattle.grs_world.proofs.Common.{true≢false, without, zero, ℕ, ℕ_discrete}
+use Rattle.grs_wire.specs.Masks.{only}
 
 -- whether a system has still to process an entry with a number below this one
 abbrev pub waits_old : ℕ → ℕ → List RingEntry → Bool

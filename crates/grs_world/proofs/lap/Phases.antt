@@ -1,22 +1,16 @@
 -- How far a lap has come: whoever has still to process an old entry is ahead of the message.
-use Rattle.std.proofs.Common.{ℕ, ◌≡◌, ◌≢◌, ◌+◌, ◌-◌, ◌%◌, ◌<◌, ◌≤◌, Bool, true, false, cond, List, ◌++◌, length, Option}
-use Rattle.std.proofs.Common.{Some, refl, sym, ap, ◌∙◌, subst, arith}
+use Rattle.grs_world.proofs.Common.{◌%◌, ◌++◌, ◌+◌, ◌-◌, ◌<◌, ◌∙◌, ◌≡◌, ◌≢◌, ◌≤◌, ap, arith, Bool, cleared, cond, false}
+use Rattle.grs_world.proofs.Common.{false_by, first_after, has, length, List, live_below, Message, Option, refl, Req}
+use Rattle.grs_world.proofs.Common.{RingEntry, same_Some, Some, stamped, subst, sym, SysId, true, true≢false}
+use Rattle.grs_world.proofs.Common.{turned_open, without, ℕ}
 use Rattle.std.proofs.Math.Nat.{mod-eq_of_lt}
-use Rattle.std.proofs.lemmas.Bool.{true≢false}
-use Rattle.std.proofs.lemmas.Option.{same_Some}
-use Rattle.grs_base.specs.declared.resource.SysId.{SysId}
-use Rattle.grs_known.proofs.lists.Truths.{false_by}
 use Rattle.grs_medium.proofs.Round.{first_found}
 use Rattle.grs_medium.proofs.Waiting.{Masks, masks_cleared, masks_joined, stamped_unseen}
-use Rattle.grs_wire.specs.Masks.{has, without}
-use Rattle.grs_wire.specs.declared.medium.RingEntry.{RingEntry}
-use Rattle.grs_wire.specs.declared.request.Req.{Req}
-use Rattle.rsa_message.specs.Message.{Message, cleared, first_after, is_due, moves, or_else, stamped, turned_open}
+use Rattle.rsa_message.specs.Message.{is_due, moves, or_else}
 use Rattle.grs_world.proofs.lap.Old.{Search, nobody, old_cleared, old_joined, old_stamped, old_unseen, search_below}
 use Rattle.grs_world.proofs.lap.Old.{somebody, waits_old}
 use Rattle.grs_world.proofs.lap.Places.{ahead_less, one_less, one_there, place_of, same_place, still_ahead, whole_round}
 use Rattle.grs_world.proofs.message.LapsMessage.{further, the_way}
-use Rattle.grs_world.specs.Stopped.{live_below}
 
 -- Nobody has still to process an entry with a number below b.
 abbrev pub Done : ℕ → Message → Type 0

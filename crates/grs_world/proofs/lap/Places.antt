@@ -1,12 +1,10 @@
 -- How many live systems the message has still to come to, counted in places round.
-use Rattle.std.proofs.Common.{ℕ, zero, suc, ◌≡◌, ◌+◌, ◌-◌, ◌%◌, ◌<◌, ◌≤◌, false, cond, refl, sym, ap, ◌∙◌}
-use Rattle.std.proofs.Common.{arith}
+use Rattle.grs_world.proofs.Common.{◌%◌, ◌+◌, ◌-◌, ◌<◌, ◌∙◌, ◌≡◌, ◌≤◌, ap, arith, cond, false, has, live_below, refl}
+use Rattle.grs_world.proofs.Common.{suc, sym, zero, ℕ, ℕ_discrete}
 use Rattle.std.proofs.Math.Nat.{mod-eq_of_lt, add-mod_right}
-use native.Mathlib.Decide.{dec_lt, ℕ_discrete}
+use native.Mathlib.Decide.{dec_lt}
 use Rattle.grs_medium.proofs.Round.{came_round, under}
-use Rattle.grs_wire.specs.Masks.{has}
 use Rattle.grs_world.proofs.message.LapsMessage.{the_way}
-use Rattle.grs_world.specs.Stopped.{live_below}
 
 -- what a system counts
 abbrev pub counts : ℕ → ℕ → ℕ

@@ -1,33 +1,20 @@
 -- What the Turn of the system comes to at which the message stands, in ring mode.
-use Rattle.std.proofs.Common.{◌≡◌, ◌≢◌, Bool, true, false, cond, not, List, [], length, take, Some, None}
-use Rattle.std.proofs.Common.{refl, sym, ap, ◌∙◌}
-use Rattle.std.specs.Prelude.{nat_lt, slice_get, ◌==◌, ◌^◌}
-use Rattle.std.proofs.lemmas.Bool.{and_parts, eq-eqb, lt-ltb, ltb-true, true≢false}
-use Rattle.std.proofs.lemmas.Option.{same_Some, slice_get-get_or}
-use Rattle.grs_base.specs.Limits.{most_additions}
-use Rattle.grs_base.specs.declared.resource.SysId.{SysId}
-use Rattle.grs_known.proofs.lists.Facts.{slice_get-set}
-use Rattle.grs_medium.specs.Apply.{turn_row}
-use Rattle.grs_medium.specs.Medium.{live}
+use Rattle.grs_world.proofs.Common.{[], ◌==◌, ◌∙◌, ◌≡◌, ◌≢◌, and_parts, ap, Bool, Call, chosen, cond, Deck, eq-eqb}
+use Rattle.grs_world.proofs.Common.{false, finish, finish_call, first_node, happens, has, is_live, is_turned, length}
+use Rattle.grs_world.proofs.Common.{List, live, lt-ltb, ltb-true, most_additions, nat_lt, node_at, NodeState, None, not}
+use Rattle.grs_world.proofs.Common.{only, placed, prepare, refl, reply_of, Req, same_Some, slice_get, slice_get-get_or}
+use Rattle.grs_world.proofs.Common.{slice_get-set, Some, stands_at, Step, sym, SysId, take, true, true≢false, Turn}
+use Rattle.grs_world.proofs.Common.{turn_of, turn_row, turned, turned_open, Turnout, World}
+use Rattle.std.specs.Prelude.{◌^◌}
 use Rattle.grs_medium.specs.TurnReplies.{refusal}
-use Rattle.grs_medium.specs.declared.medium.TurnRefusal.TheVariants as refusals
-use Rattle.grs_node.specs.Node.{NodeState, Step, finish, first_node, finish_call, only, prepare, turn_call}
-use Rattle.grs_node.specs.TurnCalls as calls
-use Rattle.grs_node.specs.declared.prepared.Prepared.TheVariants.{Call}
-use Rattle.grs_wire.specs.Masks.{has}
-use Rattle.grs_wire.specs.declared.deck.Choice.TheVariants.{Turn}
-use Rattle.grs_wire.specs.declared.deck.Deck.{Deck}
-use Rattle.grs_wire.specs.declared.medium.Reply.TheVariants as replies
-use Rattle.grs_wire.specs.declared.request.Req.{Req}
-use Rattle.rsa_message.specs.Message.{stands_at, turned, turned_open}
+use Rattle.grs_node.specs.Node.{turn_call}
 use Rattle.grs_world.proofs.code.Happens.{happens-live}
 use Rattle.grs_world.proofs.code.Lapped.{reply_of-live, turned-call}
 use Rattle.grs_world.proofs.code.Turns.{chosen-given, chosen-refused}
 use Rattle.grs_world.proofs.run.InRing.{IsRing, told-ring}
-use Rattle.grs_world.specs.Removing.{reply_of}
-use Rattle.grs_world.specs.Running.{is_live, node_at}
-use Rattle.grs_world.specs.Stopped.{is_turned, turn_of}
-use Rattle.grs_world.specs.World.{Turnout, World, chosen, happens, placed}
+use Rattle.grs_medium.specs.declared.medium.TurnRefusal.TheVariants as refusals
+use Rattle.grs_node.specs.TurnCalls as calls
+use Rattle.grs_wire.specs.declared.medium.Reply.TheVariants as replies
 
 -- A system knows which systems were removed.
 abbrev pub Knows : World → SysId → Type 0

@@ -1,29 +1,19 @@
 -- The message as it goes round: it passes over no system that has still to process an entry.
-use Rattle.std.proofs.Common.{ℕ, suc, ◌≡◌, ◌≢◌, ◌+◌, ◌-◌, ◌%◌, ◌<◌, ◌≤◌, Bool, true, false, cond, not, List, [], ◌∷◌}
-use Rattle.std.proofs.Common.{◌++◌, length, map, Option, Some, None, refl, sym, ap, ◌∙◌, subst, arith, add-zero, ◌||◌}
-use Rattle.std.specs.Prelude.{filter, ◌==◌}
-use Rattle.std.specs.List.{list_any}
-use Rattle.std.proofs.lemmas.List.Folds.{list_any-append}
+use Rattle.grs_world.proofs.Common.{[], ◌%◌, ◌++◌, ◌+◌, ◌-◌, ◌<◌, ◌==◌, ◌||◌, ◌∙◌, ◌∷◌, ◌≡◌, ◌≢◌, ◌≤◌, any_unseen, ap}
+use Rattle.grs_world.proofs.Common.{arith, Bool, by_test, cleared, closed_by, cond, departed, dropped, false, false_by}
+use Rattle.grs_world.proofs.Common.{filter, first_after, first_number, has, has-without_other, has-without_same}
+use Rattle.grs_world.proofs.Common.{is_unseen, left_by, length, List, list_any, list_any-append, map, Message, no_truth}
+use Rattle.grs_world.proofs.Common.{None, not, Option, or_left, or_parts, or_right, refl, Remove, Req, Request}
+use Rattle.grs_world.proofs.Common.{RingEntry, Some, stamped, stands_at, subst, suc, sym, SysId, true, turned_closed}
+use Rattle.grs_world.proofs.Common.{turned_open, unseen, without, ℕ, ℕ_discrete}
+use Rattle.std.proofs.Common.{add-zero}
 use Rattle.std.proofs.Math.Nat.{mod-eq_of_lt, mod-add-mod}
-use Rattle.std.proofs.lemmas.Bool.{or_left, or_right, or_parts}
-use native.Mathlib.Decide.{ℕ_discrete}
-use Rattle.grs_base.specs.declared.resource.SysId.{SysId}
-use Rattle.grs_wire.specs.declared.medium.RingEntry.{RingEntry}
-use Rattle.grs_wire.specs.declared.medium.RingBody.TheVariants.{Request, Remove}
-use Rattle.grs_wire.specs.declared.request.Req.{Req}
-use Rattle.grs_wire.specs.Masks.{has, without, only}
-use Rattle.grs_wire.proofs.WantLaws.{by_test}
-use Rattle.grs_wire.proofs.MaskLaws.{has-without_same, has-without_other}
-use Rattle.rsa_message.specs.Message.{Message, first_after, or_else, any_unseen, left_by, cleared, dropped, departed}
-use Rattle.rsa_message.specs.Message.{stamped, stands_at, is_due, moves, turned_open, turned_closed, closed_by}
-use Rattle.rsa_message.specs.Message.{moved_on}
-use Rattle.rsa_message.specs.Message.{first_number}
-use Rattle.grs_wire.specs.Unseen.{is_unseen, unseen}
+use Rattle.grs_wire.specs.Masks.{only}
+use Rattle.rsa_message.specs.Message.{or_else, is_due, moves, moved_on}
 use Rattle.rsa_message.proofs.OrderLaws.{stands_at-exact}
 use Rattle.grs_world.specs.Laps.{OnlyLeft, LastAtHome}
 use Rattle.grs_medium.proofs.Round.{Ahead, home, inside_round, after_some, first_found, first_inside}
 use Rattle.grs_medium.proofs.Waiting.{Masks, cleared_live, cleared_unseen, masks_cleared, masks_joined, stamped_unseen}
-use Rattle.grs_known.proofs.lists.Truths.{false_by, no_truth}
 
 -- Whoever has still to process an entry: the message comes to it before it has gone once round from the system that
 -- put the entry in.

@@ -1,46 +1,26 @@
 -- The complex begins to change: the lock words are those of the table of the system that orders it, and every system is
 -- shown as it will be behind what it has still to process. So the world that is shown is one in star mode.
-use Rattle.std.proofs.Common.{◌≡◌, [], ◌<◌, ◌≤◌, ◌++◌, ◌&&◌, Bool, not, List, Option, Some, None, ap, append-nil, arith}
-use Rattle.std.proofs.Common.{false, length, refl, set, suc, subst, sym, true, zero, ℕ, ◌∙◌, ◌∷◌, ◌+◌, ◌||◌}
-use Rattle.std.specs.Prelude.{nat_lt, replicate, slice_get, is_some, slice_index_or}
-use Rattle.std.specs.List.{list_all, list_any, All}
-use Rattle.std.proofs.lemmas.Bool.{and_from, and_parts, lt-ltb, ltb-false, ltb-true}
-use Rattle.std.proofs.Math.Bool.{and-true}
-use Rattle.std.proofs.lemmas.List.{length-replicate, length-set}
-use Rattle.std.proofs.lemmas.Option.{same_Some}
-use Rattle.grs_base.specs.State.{State, is_systems}
-use Rattle.grs_base.specs.Limits.{most_systems}
-use Rattle.grs_base.specs.declared.resource.SysId.{SysId}
-use Rattle.grs_legal.specs.Asks.{lines_of}
-use Rattle.grs_known.proofs.known.Histories.{AllAsk, IsHistory, elements-ask, may_have}
-use Rattle.grs_known.proofs.lists.Facts.{slice_get-set, slice_get-set_other}
-use Rattle.grs_known.proofs.lists.Parts.{is_res_of}
-use Rattle.grs_known.proofs.ring.Reading.{table-is}
-use Rattle.grs_known.proofs.system.Says.{own_requests}
-use Rattle.grs_known.specs.Items.{RunItem, history, items, lists, rounds}
-use Rattle.grs_known.proofs.known.ItemLaws.{items_are_history}
-use Rattle.grs_known.proofs.lists.Truths.{no_truth}
-use Rattle.grs_medium.specs.Medium.{awake, inbox, live}
-use Rattle.grs_node.proofs.ChangeFits.{star-changed}
+use Rattle.grs_world.proofs.Common.{[], ◌&&◌, ◌++◌, ◌+◌, ◌<◌, ◌||◌, ◌∙◌, ◌∷◌, ◌≡◌, ◌≤◌, All, AllAsk, and-true, and_from}
+use Rattle.grs_world.proofs.Common.{and_parts, ap, append-nil, are_within, arith, awake, Bodies, Bool, change_to_star}
+use Rattle.grs_world.proofs.Common.{closed_by, Deck, desk_told, false, first_number, fixed_by, has, history, inbox}
+use Rattle.grs_world.proofs.Common.{is_interested, is_res_of, is_some, is_systems, IsHistory, IsManaged, items}
+use Rattle.grs_world.proofs.Common.{items_are_history, length, length-replicate, length-set, lines_of, List, list_all}
+use Rattle.grs_world.proofs.Common.{list_any, lists, live, lt-ltb, ltb-true, Mail, manager_at, most_systems, nat_lt}
+use Rattle.grs_world.proofs.Common.{next_order, no_truth, NodeState, None, not, only, Option, own_requests, own_words}
+use Rattle.grs_world.proofs.Common.{part_by_table, placed, refl, removes, replicate, RingEntry, rounds, rows_of}
+use Rattle.grs_world.proofs.Common.{RunItem, same_Some, slice_get, slice_get-set, slice_get-set_other, slice_index_or}
+use Rattle.grs_world.proofs.Common.{Some, star-changed, StarPart, State, subst, suc, switched, sym, SysId, table-is}
+use Rattle.grs_world.proofs.Common.{true, Turnout, unseen, World, zero, ℕ}
+use Rattle.std.proofs.Common.{set}
+use Rattle.std.proofs.lemmas.Bool.{ltb-false}
+use Rattle.grs_known.proofs.known.Histories.{elements-ask, may_have}
 use Rattle.grs_node.proofs.StepFits.{deck-task}
 use Rattle.grs_node.proofs.InRing.{switched-ring}
-use Rattle.grs_node.specs.Change.{part_by_table}
-use Rattle.grs_node.specs.Node.{NodeState, change_to_star, desk_told, next_order, only, own_words, switched, words_by}
-use Rattle.grs_node.specs.Star.{StarPart}
-use Rattle.grs_base.specs.Rows.{rows_of}
-use Rattle.grs_wire.specs.History.{removes}
-use Rattle.grs_wire.specs.Masks.{has}
-use Rattle.grs_wire.specs.declared.deck.Deck.{Deck}
-use Rattle.grs_wire.specs.declared.deck.Order.TheVariants as orders
-use Rattle.grs_wire.specs.declared.medium.Mail.{Mail}
-use Rattle.grs_wire.specs.declared.medium.RingEntry.{RingEntry}
-use Rattle.grs_wire.specs.declared.told.Said.TheVariants as saids
-use Rattle.grs_wire.specs.declared.told.ToldLine.TheVariants as lines
+use Rattle.grs_node.specs.Node.{words_by}
 use Rattle.grs_world.proofs.run.Knowing.{KnowsRemoved}
 use Rattle.grs_world.proofs.star.Calm.{losing-nothing}
 use Rattle.grs_world.proofs.star.Usual.{usual}
 use Rattle.grs_world.proofs.star.steps.Outcome.{part}
-use Rattle.rsa_message.proofs.Stands.{Bodies}
 use Rattle.grs_world.proofs.move.Changing.{IsMoved, Shown, Waits, has_changed, view-read, viewed, waits_yet}
 use Rattle.grs_world.proofs.move.Parts.{free-by, near-by, nobody-by, part-by, past-by, removed-by}
 use Rattle.grs_world.proofs.move.Ranks.{changed-at, changed-told}
@@ -57,15 +37,13 @@ use Rattle.grs_world.proofs.star.Systems.{IsSystem}
 use Rattle.grs_world.proofs.star.Worlds.{Hands, IsWhole, are_live, in_hands, items-none}
 use Rattle.grs_world.proofs.system.AtNode.{Seen}
 use Rattle.grs_world.proofs.system.Desks.{desk-seen, desk-told}
-use Rattle.grs_world.specs.World.{Turnout, World, fixed_by, placed}
 use Rattle.grs_world.proofs.run.Reading.{read_all}
-use Rattle.lock_structure.specs.Laws.{is_interested, manager_at, IsManaged}
 use Rattle.mode_migrate.proofs.TableWords.{table-count, table-managed}
-use Rattle.mode_migrate.specs.Laws.{are_within}
 use Rattle.mode_migrate.specs.Migrate.{has_elements, table_words}
-use Rattle.rsa_message.specs.Message.{closed_by, first_number}
-use Rattle.grs_wire.specs.Unseen.{unseen}
 use Rattle.grs_world.proofs.run.Site.{IsThere, at_site}
+use Rattle.grs_wire.specs.declared.deck.Order.TheVariants as orders
+use Rattle.grs_wire.specs.declared.told.Said.TheVariants as saids
+use Rattle.grs_wire.specs.declared.told.ToldLine.TheVariants as lines
 
 -- ---- the elements of a table of a run are of systems of the deck
 each-within : (deck : Deck) (t : State) → list_all (λ h. may_have deck h.0 h.1.task) t ≡ true

@@ -1,15 +1,16 @@
 -- The complex from the change of the medium on. A system that hasn't changed yet is shown as if it had: it has
 -- processed what it was given of the message, and its table is its part. By what is shown the world is one in star
 -- mode.
-use Rattle.std.proofs.Common.{◌≡◌, [], ◌++◌, Bool, List, None, Some, ap, append-nil, append_assoc, cond, false, length}
-use Rattle.std.proofs.Common.{refl, set, subst, sym, true, ℕ, ◌∙◌, ◌∷◌, ◌≢◌}
-use Rattle.std.proofs.lemmas.List.Elements.{filter-append}
-use Rattle.std.proofs.lemmas.List.{length-set}
-use Rattle.std.specs.Prelude.{slice_get}
-use Rattle.grs_wire.specs.declared.deck.Deck.{Deck}
-use Rattle.grs_wire.specs.declared.medium.Mail.{Mail}
-use Rattle.grs_wire.specs.declared.request.Req.{Req}
-use Rattle.grs_wire.specs.Masks.{has, others}
+use Rattle.grs_world.proofs.Common.{[], ◌++◌, ◌∙◌, ◌∷◌, ◌≡◌, ◌≢◌, ap, append-nil, append_assoc, askers, Bool}
+use Rattle.grs_world.proofs.Common.{change_to_star, cond, Deck, false, filter-append, filter-cons_kept}
+use Rattle.grs_world.proofs.Common.{filter-cons_left, fixed_by, goes_round, has, history, is_among, is_of, IsHistory}
+use Rattle.grs_world.proofs.Common.{IsOurs, items, length, length-set, List, lists, live, Mail, Meaning, Message, mine}
+use Rattle.grs_world.proofs.Common.{no_truth, NodeState, None, own_requests, part_by_table, placed, refl, Req, rounds}
+use Rattle.grs_world.proofs.Common.{RunItem, same_task-itself, slice_get, slice_get-set, slice_get-set_other, Some}
+use Rattle.grs_world.proofs.Common.{star-changed, subst, sym, SysId, TaskId, told-news, ToldNews, true, Turnout, World}
+use Rattle.grs_world.proofs.Common.{ℕ}
+use Rattle.std.proofs.Common.{set}
+use Rattle.grs_wire.specs.Masks.{others}
 use Rattle.grs_world.proofs.run.Desks.{EventTells}
 use Rattle.grs_world.proofs.star.Worlds.{Fixes, IsWhole, none_fixed, one_fixed}
 use Rattle.grs_world.proofs.run.Runs.{GoodMessage, by_node, seen_at}
@@ -17,27 +18,9 @@ use Rattle.grs_world.proofs.star.Ghosts.{IsAt}
 use Rattle.grs_world.proofs.star.Systems.{IsSystem}
 use Rattle.grs_world.proofs.run.Reading.{ReadTo, read_all, reading}
 use Rattle.grs_world.proofs.system.AtNode.{Seen}
-use Rattle.grs_world.specs.World.{Turnout, World, fixed_by, placed}
 use Rattle.grs_world.proofs.move.Ranks.{changed-at, changed-told}
 use Rattle.grs_world.proofs.run.Growing.{fixeds}
 use Rattle.grs_world.proofs.run.Messages.{message-kept}
-use Rattle.grs_known.proofs.known.Histories.{IsHistory}
-use Rattle.grs_known.proofs.system.Ours.{IsOurs}
-use Rattle.grs_known.specs.Items.{RunItem, goes_round, history, is_of, items, lists, mine, rounds}
-use Rattle.grs_known.proofs.told.News.{ToldNews, told-news}
-use Rattle.grs_known.proofs.system.Says.{askers, own_requests}
-use Rattle.grs_known.proofs.lists.Truths.{no_truth}
-use Rattle.grs_known.proofs.lists.Facts.{filter-cons_kept, filter-cons_left, slice_get-set, slice_get-set_other}
-use Rattle.grs_known.proofs.lists.Owners.{is_among}
-use Rattle.grs_legal.specs.declared.meaning.Meaning.{Meaning}
-use Rattle.rsa_message.specs.Message.{Message}
-use Rattle.grs_node.specs.Node.{NodeState, change_to_star}
-use Rattle.grs_node.specs.Change.{part_by_table}
-use Rattle.grs_node.proofs.ChangeFits.{star-changed}
-use Rattle.grs_base.specs.declared.resource.SysId.{SysId}
-use Rattle.grs_base.specs.declared.resource.TaskId.{TaskId}
-use Rattle.grs_base.proofs.SameLaws.{same_task-itself}
-use Rattle.grs_medium.specs.Medium.{live}
 
 -- System s hasn't changed. Of what went with the message it has processed `before` and has still to process `due`; of
 -- what was fixed since the message is closed nothing is of its tasks.

@@ -1,19 +1,12 @@
 -- Decks whose desks order the change to star mode, and decks whose desks order a removal.
-use Rattle.std.proofs.Common.{◌≡◌, Bool, None, Option, Some, ap, refl, true, ◌∙◌}
-use Rattle.std.specs.Prelude.{slice_get}
-use Rattle.std.specs.List.{list_any}
-use Rattle.std.specs.Option.{option_map}
-use Rattle.std.proofs.lemmas.Bool.{or_right}
+use Rattle.grs_world.proofs.Common.{◌∙◌, ◌≡◌, ap, Bool, Deck, list_any, may_be_star, next_order, NodeState, None}
+use Rattle.grs_world.proofs.Common.{Option, option_map, or_right, Order, refl, same_Some, slice_get, Some, SysId}
+use Rattle.grs_world.proofs.Common.{SystemDef, true}
 use Rattle.std.proofs.lemmas.Map.Keys.{any_passes_from_place}
-use Rattle.std.proofs.lemmas.Option.{same_Some}
-use Rattle.grs_base.specs.declared.resource.SysId.{SysId}
-use Rattle.grs_node.specs.Node.{NodeState, desk_of, next_order}
-use Rattle.grs_wire.specs.declared.deck.Deck.{Deck}
+use Rattle.grs_node.specs.Node.{desk_of}
 use Rattle.grs_wire.specs.declared.deck.Desk.{Desk}
-use Rattle.grs_wire.specs.declared.deck.Order.{Order}
+use Rattle.grs_world.specs.Decks.{is_removal_order, is_star_order, may_remove, orders_star}
 use Rattle.grs_wire.specs.declared.deck.Order.TheVariants as orders
-use Rattle.grs_wire.specs.declared.deck.SystemDef.{SystemDef}
-use Rattle.grs_world.specs.Decks.{is_removal_order, is_star_order, may_be_star, may_remove, orders_star}
 
 -- what a system's next desk line orders is ordered at a desk of the deck
 ordered : (is_such : Order → Bool) (deck : Deck) (n : NodeState) (order : Order) → next_order deck n ≡ Some order

@@ -1,30 +1,13 @@
 -- What is kept is what the history says, in either mode and where the complex changes from ring to star mode.
-use Rattle.std.proofs.Common.{◌≡◌, ◌<◌, ◌≤◌, ◌++◌, ◌||◌, [], List, None, Option, Some, ap, append_assoc, arith, cond}
-use Rattle.std.proofs.Common.{false}
-use Rattle.std.proofs.Common.{length, refl, subst, sym, true, ◌∙◌, ℕ}
-use Rattle.std.specs.Option.{option_map_or}
-use Rattle.std.specs.Prelude.{slice_get}
-use Rattle.std.proofs.lemmas.Option.{same_Some}
-use Rattle.std.proofs.lemmas.Bool.{eq-eqb}
-use Rattle.contention_mgr.specs.Manager.{items_of, kept_for, plain}
-use Rattle.grs_base.specs.Limits.{most_systems}
-use Rattle.grs_base.specs.State.{State, is_systems, list_of}
-use Rattle.grs_base.specs.declared.resource.Res.{Res}
-use Rattle.grs_base.specs.declared.resource.SysId.{SysId}
-use Rattle.grs_known.proofs.known.Histories.{AllAsk, asks-front}
-use Rattle.grs_known.proofs.known.ItemLaws.{items_are_history}
-use Rattle.grs_known.proofs.lists.Facts.{slice_get-past}
-use Rattle.grs_known.specs.Items.{items, lists, rounds, history}
+use Rattle.grs_world.proofs.Common.{[], ◌++◌, ◌<◌, ◌||◌, ◌∙◌, ◌≡◌, ◌≤◌, AllAsk, ap, append_assoc, are_within, arith}
+use Rattle.grs_world.proofs.Common.{cond, Deck, entries_some, entry_of_res, eq-eqb, Event, false, FitsStar, gathers}
+use Rattle.grs_world.proofs.Common.{has, history, is_entry, is_systems, items, items_are_history, items_of, kept}
+use Rattle.grs_world.proofs.Common.{kept_for, length, List, list_of, lists, manager_at, manages, may_be_star}
+use Rattle.grs_world.proofs.Common.{most_systems, NodeState, None, NoneInStar, Option, option_map_or, part_by_table}
+use Rattle.grs_world.proofs.Common.{places, plain, refl, replay, Res, rounds, run, same_Some, slice_get, slice_get-past}
+use Rattle.grs_world.proofs.Common.{Some, StarPart, State, subst, sym, SysId, true, without_gone, World, ℕ}
+use Rattle.grs_known.proofs.known.Histories.{asks-front}
 use Rattle.grs_node.proofs.TableParts.{table-lists}
-use Rattle.grs_node.specs.Change.{part_by_table}
-use Rattle.grs_node.specs.Node.{NodeState}
-use Rattle.grs_node.specs.Star.{StarPart, gathers, manages}
-use Rattle.grs_wire.specs.Masks.{has}
-use Rattle.grs_wire.specs.History.{replay}
-use Rattle.grs_wire.specs.declared.deck.Deck.{Deck}
-use Rattle.grs_wire.specs.declared.deck.Event.{Event}
-use Rattle.grs_wire.proofs.DeckLaws.{entries_some}
-use Rattle.grs_world.specs.InStar.{NoneInStar}
 use Rattle.grs_world.proofs.move.Begin.{front-within, more-within}
 use Rattle.grs_world.proofs.move.Changing.{IsChanging, Shown, Waits, has_changed, view-read, view-star, viewed}
 use Rattle.grs_world.proofs.move.Changing.{waits_yet}
@@ -36,13 +19,7 @@ use Rattle.grs_world.proofs.run.KeptPlaces.{kept_is}
 use Rattle.grs_world.proofs.star.Members.{IsMember, all_lists, manager-here}
 use Rattle.grs_world.proofs.star.Runs.{none-to-gather, own-kept}
 use Rattle.grs_world.proofs.star.Worlds.{kept-whole, live-below, manager-live, quiet-whole}
-use Rattle.grs_world.specs.Decks.{FitsStar, may_be_star}
-use Rattle.grs_world.specs.Kept.{KeptArePlaces, at_manager, at_node, has_to_gather, kept, kept_in, managed_list}
-use Rattle.grs_world.specs.Kept.{named_by, places, without_gone}
-use Rattle.grs_world.specs.World.{World, run}
-use Rattle.lock_structure.specs.Entries.{entry_of_res, is_entry}
-use Rattle.lock_structure.specs.Laws.{manager_at}
-use Rattle.mode_migrate.specs.Laws.{are_within}
+use Rattle.grs_world.specs.Kept.{KeptArePlaces, at_manager, at_node, has_to_gather, kept_in, managed_list, named_by}
 use Rattle.grs_world.proofs.run.Site.{Site, at_site}
 
 -- a resource of an entry is of that entry

@@ -1,25 +1,16 @@
 -- What came of an event of a system that hasn't changed, though the medium has.
-use Rattle.std.proofs.Common.{◌≡◌, None, Some, ap, false, refl, subst, sym, true, ℕ}
-use Rattle.grs_wire.specs.declared.deck.Choice.{Choice}
-use Rattle.grs_wire.specs.declared.deck.Deck.{Deck}
+use Rattle.grs_world.proofs.Common.{◌≡◌, ap, change_to_star, Choice, chosen, Deck, desk_told, false, has, known_from}
+use Rattle.grs_world.proofs.Common.{lines_of, losing, losing_in, may_go, members, next_order, no_truth, NodeState, None}
+use Rattle.grs_world.proofs.Common.{only, read_entries, refl, Some, stale, stands_at, subst, sym, SysId, task_step}
+use Rattle.grs_world.proofs.Common.{TaskId, true, turned_closed, Turnout, unseen, without_those, World, ℕ}
+use Rattle.grs_node.specs.Node.{changed as changed_now}
+use Rattle.grs_world.proofs.run.Came.{Came, acted, already, changed, informed, last_turn, no_such, nothing, removes_one}
+use Rattle.grs_world.proofs.run.Came.{removes_star, turn, went_on, no_part, ChoiceRemovesNone, RemovesNoneInStar}
+use Rattle.grs_world.proofs.run.Came.{Result}
+use Rattle.grs_medium.specs.Apply.{is_live}
+use Rattle.grs_world.proofs.run.Chosen.{came}
 use Rattle.grs_wire.specs.declared.deck.Order.TheVariants as orders
 use Rattle.grs_wire.specs.declared.told.Said.TheVariants as saids
-use Rattle.grs_node.specs.Removal.{members, without_those}
-use Rattle.grs_node.specs.Node.{NodeState, change_to_star, changed as changed_now, desk_told, known_from, losing}
-use Rattle.grs_node.specs.Node.{losing_in, may_go, next_order, only, read_entries, stale, task_step}
-use Rattle.grs_wire.specs.Masks.{has}
-use Rattle.rsa_message.specs.Message.{stands_at, turned_closed}
-use Rattle.grs_wire.specs.Unseen.{unseen}
-use Rattle.grs_base.specs.declared.resource.SysId.{SysId}
-use Rattle.grs_base.specs.declared.resource.TaskId.{TaskId}
-use Rattle.grs_world.specs.World.{Turnout, World, chosen}
-use Rattle.grs_world.proofs.run.Came.{Came, acted, already, changed, informed, last_turn, no_such, nothing}
-use Rattle.grs_world.proofs.run.Came.{removes_one, removes_star, turn, went_on, no_part}
-use Rattle.grs_world.proofs.run.Came.{ChoiceRemovesNone, RemovesNoneInStar, Result}
-use Rattle.grs_medium.specs.Apply.{is_live}
-use Rattle.grs_known.proofs.lists.Truths.{no_truth}
-use Rattle.grs_legal.specs.Asks.{lines_of}
-use Rattle.grs_world.proofs.run.Chosen.{came}
 
 -- Nothing but a flag of rest, a task that went on, its Turn at the closed message, its desk that was told of the
 -- change or that there was no such system, or the removed systems of which it is told.

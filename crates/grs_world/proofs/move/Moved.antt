@@ -1,17 +1,8 @@
 -- An event of a run that changes from ring to star mode, behind the change of the medium.
-use Rattle.std.proofs.Common.{◌≡◌, ◌<◌, None, Some, arith, false, refl, subst, sym, true, ◌∙◌, ℕ}
-use Rattle.std.specs.Prelude.{nat_lt, slice_get}
-use Rattle.std.proofs.lemmas.Bool.{lt-ltb}
-use Rattle.std.proofs.lemmas.Option.{slice_get_within}
-use Rattle.grs_base.specs.declared.resource.SysId.{SysId}
-use Rattle.grs_base.specs.Limits.{most_systems}
-use Rattle.grs_known.specs.Items.{items}
-use Rattle.grs_medium.specs.Medium.{live}
-use Rattle.grs_node.specs.Node.{NodeState}
-use Rattle.grs_wire.specs.Masks.{has}
-use Rattle.grs_wire.specs.declared.deck.Choice.{Choice}
-use Rattle.grs_wire.specs.declared.deck.Deck.{Deck}
-use Rattle.grs_medium.proofs.LiveLaws.{has-live}
+use Rattle.grs_world.proofs.Common.{◌<◌, ◌∙◌, ◌≡◌, arith, change_to_star, Choice, chosen, counted, Deck, false, has}
+use Rattle.grs_world.proofs.Common.{has-live, items, live, lt-ltb, most_systems, nat_lt, NodeState, None, read_entries}
+use Rattle.grs_world.proofs.Common.{refl, slice_get, slice_get_within, Some, subst, sym, SysId, true, unseen, World, ℕ}
+use Rattle.grs_node.specs.Node.{changed as changed_now}
 use Rattle.grs_world.proofs.move.Changing.{IsChanging, IsMoved, Shown, has_changed, waits_yet}
 use Rattle.grs_world.proofs.move.Late.{came_late}
 use Rattle.grs_world.proofs.move.Star.{star-moved}
@@ -19,11 +10,8 @@ use Rattle.grs_world.proofs.move.Waiting.{change-stays, waits-moved}
 use Rattle.grs_world.proofs.run.Knowing.{KnowsRemoved}
 use Rattle.grs_world.proofs.run.Came.{ChoiceRemovesNone, no_part}
 use Rattle.grs_world.proofs.run.Site.{at_site}
-use Rattle.grs_node.specs.Node.{changed as changed_now, change_to_star, read_entries}
-use Rattle.grs_wire.specs.Unseen.{unseen}
 use Rattle.grs_world.proofs.run.Removals.{GoneAreRemoved}
 use Rattle.grs_world.proofs.star.Worlds.{whole-counted, IsWhole}
-use Rattle.grs_world.specs.World.{World, chosen, counted}
 
 -- an event that is only counted
 pub changing-counted : (deck : Deck) (w : World) → IsChanging deck w → IsChanging deck (counted w)

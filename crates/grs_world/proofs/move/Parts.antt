@@ -1,45 +1,25 @@
 -- What a system's part is by the words of a table: it manages the entries that they give to it, with the table's lists.
-use Rattle.std.proofs.Common.{◌≡◌, [], ◌<◌, Bool, List, None, Option, Some, ap, arith, cond, false, not, refl, subst}
-use Rattle.std.proofs.Common.{sym, true, ◌&&◌, ◌||◌, ℕ, ◌∙◌, ◌∷◌, ◌≤◌}
-use Rattle.std.specs.Prelude.{◌==◌}
-use Rattle.std.proofs.Math.Bool.{and-false}
-use Rattle.std.proofs.lemmas.Bool.{and_parts, eq-eqb, eqb-true, ltb-true, or_left, or_parts, or_right}
-use Rattle.std.specs.List.{list_all, list_any}
+use Rattle.grs_world.proofs.Common.{[], ◌&&◌, ◌<◌, ◌==◌, ◌||◌, ◌∙◌, ◌∷◌, ◌≡◌, ◌≤◌, and-false, and_parts, ap, are_within}
+use Rattle.grs_world.proofs.Common.{arith, Bool, cond, Deck, Elem, entry_of_res, eq-eqb, eqb-true, false, false_by}
+use Rattle.grs_world.proofs.Common.{has_task, history, is_entry, is_interested, is_manager, is_systems, IsHistory, List}
+use Rattle.grs_world.proofs.Common.{list_all, list_any, list_of, lists, ltb-true, manager_at, most_systems, no_truth}
+use Rattle.grs_world.proofs.Common.{None, not, Option, or_left, or_parts, or_right, part, part_by_table, refl, removes}
+use Rattle.grs_world.proofs.Common.{removes_system_of, Res, rounds, rows_of, RunItem, same_task, same_task-exact, Some}
+use Rattle.grs_world.proofs.Common.{State, subst, sym, SysId, System, table-is, TaskId, true, ℕ}
 use Rattle.grs_world.proofs.star.Calm.{calm-first}
 use Rattle.grs_world.proofs.star.Elements.{AreNear, is_near_res, near-words}
 use Rattle.grs_world.proofs.star.Members.{IsPart, has_manager}
 use Rattle.grs_world.proofs.star.Under.{entry-same, in_entry, list-under, under, none-under}
 use Rattle.grs_world.proofs.star.Systems.{near_at}
-use Rattle.grs_wire.specs.declared.deck.Deck.{Deck}
-use Rattle.grs_wire.specs.LockWords.{is_manager}
-use Rattle.grs_base.specs.declared.resource.Elem.{Elem}
-use Rattle.grs_base.specs.declared.resource.Res.{Res}
-use Rattle.grs_base.specs.State.{State, is_systems, list_of}
-use Rattle.grs_base.specs.declared.resource.Res.TheVariants.{Step as StepRes, System, Systems}
-use Rattle.grs_base.specs.declared.resource.SysId.{SysId}
-use Rattle.grs_base.specs.declared.resource.TaskId.{TaskId}
-use Rattle.grs_base.specs.Lists.{has_task}
-use Rattle.grs_base.specs.Limits.{most_systems}
-use Rattle.grs_base.specs.Rows.{rows_of}
-use Rattle.grs_base.specs.Same.{same_task}
-use Rattle.grs_base.proofs.SameLaws.{same_task-exact}
-use Rattle.mode_migrate.specs.Laws.{are_within}
+use Rattle.grs_base.specs.declared.resource.Res.TheVariants.{Step as StepRes, Systems}
 use Rattle.mode_migrate.proofs.TableWords.{elements-are, table-free, table-interest, table-manager}
 use Rattle.lock_structure.proofs.LeastLaws.{least-passes}
 use Rattle.mode_migrate.proofs.WordLaws.{elements-within}
 use Rattle.mode_migrate.specs.Migrate.{has_elements, manager_by, table_words, is_by}
 use Rattle.mode_migrate.proofs.Rows.{any-list}
-use Rattle.lock_structure.specs.Entries.{entry_of_res, is_entry}
-use Rattle.lock_structure.specs.Laws.{is_interested, manager_at}
-use Rattle.grs_known.proofs.lists.Truths.{false_by, no_truth}
-use Rattle.grs_known.proofs.known.Histories.{IsHistory, may_stand, removes-history}
-use Rattle.grs_known.proofs.ring.Reading.{table-is}
-use Rattle.grs_known.specs.Items.{RunItem, history, lists, removes_system_of, rounds}
-use Rattle.grs_wire.specs.History.{removes}
+use Rattle.grs_known.proofs.known.Histories.{may_stand, removes-history}
 use Rattle.grs_known.proofs.ring.Parts.{list_of-systems}
-use Rattle.grs_known.proofs.lists.Parts.{part}
 use Rattle.grs_known.specs.Parts.{systems_part}
-use Rattle.grs_node.specs.Change.{part_by_table}
 use Rattle.grs_node.proofs.TableParts.{table-counts, table-interested, table-lists, table-manages, table-well}
 
 -- a resource of an entry is one of the whole complex

@@ -1,49 +1,25 @@
 -- A system that changes to star mode: its tasks stand as they did, though their records get ranks; and what waited in
 -- its outbox waits at them.
-use Rattle.std.proofs.Common.{◌≡◌, [], Bool, List, None, Option, Some, ap, false, get_or, refl, sym}
-use Rattle.std.proofs.Common.{true, ℕ, ◌∙◌, ◌∷◌, subst, zero, suc, arith, ◌<◌, ◌-◌}
-use Rattle.std.specs.Prelude.{◌==◌, min}
-use Rattle.std.proofs.lemmas.Bool.{eqb-false, eqb-true, and_parts}
-use Rattle.std.specs.List.{list_all}
-use Rattle.task_state.specs.declared.state.Asked.{Asked}
-use Rattle.task_state.specs.declared.state.TaskState.{TaskState}
-use Rattle.task_state.specs.declared.state.Phase.TheVariants as phases
-use Rattle.task_state.specs.View.{TasksView, is_task, new_task, on_record, state_of, with_rank, with_outstanding}
-use Rattle.grs_wire.specs.declared.deck.Deck.{Deck}
-use Rattle.grs_wire.specs.declared.request.Want.TheVariants.{Deq, Enq, Look, Release}
-use Rattle.grs_wire.specs.declared.request.Req.{Req}
-use Rattle.grs_wire.specs.declared.request.Want.{Want}
-use Rattle.grs_wire.proofs.WantLaws.{by_test}
-use Rattle.grs_known.proofs.system.Did.{Did, did-outstanding, did-none}
-use Rattle.grs_known.proofs.system.Asking.{IsOpenBy, Opens, AreLooks, IsLooks, IsLooksBy, first-looks}
-use Rattle.grs_known.proofs.system.Asking.{line_asked, phase_seen, unasked_by, task-open}
-use Rattle.grs_known.proofs.system.Good.{IsGood}
-use Rattle.grs_known.proofs.system.Ours.{IsHere, IsOurs}
-use Rattle.grs_known.specs.Items.{RunItem, mine}
-use Rattle.grs_known.proofs.system.Says.{is_home_at, none}
-use Rattle.grs_base.specs.declared.resource.Elem.{Elem}
-use Rattle.grs_base.specs.declared.resource.Res.{Res}
-use Rattle.grs_base.specs.declared.resource.TaskId.{TaskId}
+use Rattle.grs_world.proofs.Common.{[], ◌-◌, ◌<◌, ◌==◌, ◌∙◌, ◌∷◌, ◌≡◌, and_parts, ap, arith, Asked, Bool, by_test}
+use Rattle.grs_world.proofs.Common.{change_to_star, Deck, Deq, Did, did-none, did-outstanding, Elem, Enq, eqb-false}
+use Rattle.grs_world.proofs.Common.{eqb-true, false, gives_up, is_home_at, is_leaving, is_task, IsGood, IsHere, IsLooks}
+use Rattle.grs_world.proofs.Common.{IsLooksBy, IsOpenBy, IsOurs, IsOutstanding, IsTask, line_asked, List, list_all}
+use Rattle.grs_world.proofs.Common.{Look, Meaning, mine, new_task, NodeState, None, none, on_record, one_by_one, Opens}
+use Rattle.grs_world.proofs.Common.{Option, option_map, outstanding, past_of, phase_seen, quiet_good, ranked_by}
+use Rattle.grs_world.proofs.Common.{RankedRow, refl, Release, Req, Res, RunItem, Some, state_of, subst, suc, sym}
+use Rattle.grs_world.proofs.Common.{task-open, TaskId, TaskState, TasksView, told-state, ToldLine, true, unasked_by}
+use Rattle.grs_world.proofs.Common.{Want, with_first_look, with_list_ranks, with_outstanding, with_rank, with_rank_by}
+use Rattle.grs_world.proofs.Common.{with_ranks, zero, ℕ}
+use Rattle.std.proofs.Common.{get_or}
+use Rattle.std.specs.Prelude.{min}
+use Rattle.grs_known.proofs.system.Asking.{AreLooks, first-looks}
 use Rattle.grs_world.proofs.star.Ghosts.{IsAt, opens-as}
 use Rattle.grs_world.proofs.system.AtNode.{Seen, opens_of}
 use Rattle.grs_world.proofs.system.Puts.{home-task}
 use Rattle.grs_world.proofs.star.Ranked.{did-rank, here-ranked, told-rank, ranked}
-use Rattle.grs_legal.specs.declared.meaning.Meaning.{Meaning}
-use Rattle.grs_node.specs.Node.{NodeState, change_to_star}
-use Rattle.grs_node.specs.Change.{one_by_one, with_first_look, with_list_ranks, with_rank_by, with_ranks, first_look}
-use Rattle.grs_node.specs.Change.{more_left}
-use Rattle.lock_structure.specs.RankedRows.{RankedRow}
-use Rattle.mode_migrate.specs.Migrate.{ranked_by}
-use Rattle.std.specs.Option.{option_map}
-use Rattle.grs_known.proofs.system.Turns.{quiet_good}
-use Rattle.grs_known.proofs.tasks.Invariant.{IsTask}
-use Rattle.grs_known.specs.Known.{outstanding}
-use Rattle.grs_known.specs.Past.{past_of}
+use Rattle.grs_node.specs.Change.{first_look, more_left}
 use Rattle.grs_known.proofs.known.Knowing.{one-none}
-use Rattle.grs_known.proofs.known.Knows.{IsOutstanding}
-use Rattle.grs_wire.specs.declared.told.ToldLine.{ToldLine}
-use Rattle.task_state.specs.Replies.{gives_up, is_leaving}
-use Rattle.task_state.proofs.ViewLaws.{told-state}
+use Rattle.task_state.specs.declared.state.Phase.TheVariants as phases
 
 -- ---- a rank is given, to whatever task
 place-state : (v : TasksView) (t u : TaskId) → u.task ≡ t.task → state_of v u ≡ state_of v t

@@ -1,31 +1,18 @@
 -- In star mode the lock words go with the systems, whether they have changed or not; and each that has changed keeps
 -- well what it manages.
-use Rattle.std.proofs.Common.{◌≡◌, ◌&&◌, Bool, List, None, Option, Some, ap, arith, false, length, refl, subst, sym}
-use Rattle.std.proofs.Common.{true, ◌∙◌, ℕ, ◌++◌}
-use Rattle.std.specs.Prelude.{slice_get}
-use Rattle.std.proofs.lemmas.Option.{same_Some}
-use Rattle.grs_base.specs.declared.resource.SysId.{SysId}
-use Rattle.grs_known.proofs.lists.Facts.{slice_get-past}
-use Rattle.grs_known.specs.Items.{items, lists, rounds}
-use Rattle.grs_node.specs.Change.{part_by_table}
-use Rattle.grs_node.specs.Node.{NodeState}
-use Rattle.grs_node.specs.Star.{StarPart, has_interest, manages}
-use Rattle.grs_wire.specs.Masks.{has, lives}
-use Rattle.grs_wire.specs.declared.deck.Deck.{Deck}
-use Rattle.grs_wire.specs.declared.deck.Event.{Event}
-use Rattle.grs_world.specs.InStar.{NoneInStar}
+use Rattle.grs_world.proofs.Common.{◌&&◌, ◌++◌, ◌∙◌, ◌≡◌, ap, arith, Bool, Deck, Event, false, FitsStar, has}
+use Rattle.grs_world.proofs.Common.{has_interest, is_interested, is_live, items, length, List, lists, lives, manages}
+use Rattle.grs_world.proofs.Common.{may_be_star, NodeState, None, NoneInStar, Option, part_by_table, refl, rounds, run}
+use Rattle.grs_world.proofs.Common.{same_Some, slice_get, slice_get-past, Some, StarPart, subst, sym, SysId, true}
+use Rattle.grs_world.proofs.Common.{World, ℕ}
 use Rattle.grs_world.proofs.move.Changing.{IsChanging, Shown, has_changed, view-read, view-star, waits_yet}
 use Rattle.grs_world.proofs.move.Moved.{alive}
 use Rattle.grs_world.proofs.move.Sound.{GoodRun, every_run, in_ring, in_star}
 use Rattle.grs_world.proofs.move.Waiting.{reads, whole_now}
 use Rattle.grs_world.proofs.star.Members.{has_manager}
 use Rattle.grs_world.proofs.star.Worlds.{live-below}
-use Rattle.grs_world.specs.Decks.{FitsStar, may_be_star}
 use Rattle.grs_world.specs.Interest.{WordsGoWithSystems, interest_at, manages_at, part_at}
 use Rattle.grs_world.specs.Kept.{IsKeptBy, ManagersKeepWell}
-use Rattle.grs_world.specs.Running.{is_live}
-use Rattle.grs_world.specs.World.{World, run}
-use Rattle.lock_structure.specs.Laws.{is_interested}
 use Rattle.grs_world.proofs.run.Site.{at_site}
 
 module _ (deck : Deck) (w : World) (g : IsChanging deck w) where

@@ -1,23 +1,11 @@
 -- Every run is sound, in either mode and where it changes from ring to star mode.
-use Rattle.std.proofs.Common.{◌≡◌, ◌<◌, ◌++◌, [], ◌∷◌, Bool, List, Some, ap, arith, false, not, refl, true, ℕ, cond}
-use Rattle.std.proofs.Common.{length, take, ◌≤◌}
-use Rattle.std.specs.Prelude.{◌&&◌, slice_get}
-use Rattle.std.specs.List.{list_any}
-use Rattle.std.proofs.lemmas.Bool.{or_left}
-use Rattle.std.proofs.lemmas.Option.{slice_get_within}
-use Rattle.grs_base.specs.Limits.{most_systems}
-use Rattle.grs_base.specs.declared.resource.SysId.{SysId}
-use Rattle.grs_known.proofs.known.Histories.{IsHistory, OrdersFit}
-use Rattle.grs_known.proofs.lists.Truths.{no_truth}
-use Rattle.grs_known.specs.Items.{history, items}
-use Rattle.grs_node.specs.Node.{NodeState, first_node}
-use Rattle.grs_medium.specs.Medium.{live}
-use Rattle.grs_wire.specs.Masks.{has}
-use Rattle.grs_wire.proofs.MaskLaws.{has-zero}
-use Rattle.grs_wire.proofs.DeckLaws.{entries_some}
-use Rattle.grs_wire.proofs.WantLaws.{by_test}
-use Rattle.grs_wire.specs.declared.deck.Deck.{Deck}
-use Rattle.grs_wire.specs.declared.deck.Event.{Event}
+use Rattle.grs_world.proofs.Common.{[], ◌++◌, ◌<◌, ◌∷◌, ◌≡◌, ◌≤◌, ap, arith, Bool, by_test, chosen, cond, Deck}
+use Rattle.grs_world.proofs.Common.{entries_some, Event, false, first_node, first_world, FitsStar, fixed_by, happens}
+use Rattle.grs_world.proofs.Common.{has, has-zero, history, IsHistory, items, length, List, list_any, live, may_be_star}
+use Rattle.grs_world.proofs.Common.{Message, most_systems, never_opened, no_truth, NodeState, NoneInStar, not, opened}
+use Rattle.grs_world.proofs.Common.{or_left, OrdersFit, placed, refl, removes_in_star, run, slice_get, slice_get_within}
+use Rattle.grs_world.proofs.Common.{Some, SysId, take, true, Turnout, World, ℕ}
+use Rattle.std.specs.Prelude.{◌&&◌}
 use Rattle.grs_world.proofs.move.Begin.{switched-moved}
 use Rattle.grs_world.proofs.move.Changing.{IsChanging, IsMoved, Shown, has_changed, waits_yet}
 use Rattle.grs_world.proofs.move.Decks.{order-may}
@@ -28,7 +16,6 @@ use Rattle.grs_world.proofs.run.Chosen.{removes-none}
 use Rattle.grs_world.proofs.run.Knowing.{known_run}
 use Rattle.grs_world.proofs.run.Each.{each_live}
 use Rattle.grs_world.proofs.run.Spared.{each_spared, none_in_ring, none_next}
-use Rattle.grs_world.specs.InStar.{NoneInStar, removes_in_star}
 use Rattle.grs_world.proofs.run.InRing.{CameInRing, IsRing, changed, count_first, each_in_ring, first_ring, informed}
 use Rattle.grs_world.proofs.run.InRing.{live-there, no_such, nothing, removes_one, ring-counted, ring-placed, turn}
 use Rattle.grs_world.proofs.run.InRing.{went_on}
@@ -38,9 +25,7 @@ use Rattle.grs_world.proofs.run.Sound.{came_tells, first_good, first_good_told, 
 use Rattle.grs_world.proofs.run.Sound.{first_is, sound-of}
 use Rattle.grs_world.proofs.star.Sound.{first_whole}
 use Rattle.grs_world.specs.Agree.{Sound}
-use Rattle.grs_world.specs.Decks.{FitsStar, may_be_star, orders_star}
-use Rattle.grs_world.specs.World.{Turnout, World, chosen, first_world, fixed_by, happens, placed, run}
-use Rattle.rsa_message.specs.Message.{Message, never_opened, opened}
+use Rattle.grs_world.specs.Decks.{orders_star}
 use Rattle.grs_world.proofs.run.Site.{at_site}
 
 -- What holds of the world w after these events: the medium is in ring mode, or it was changed to star mode.

@@ -1,9 +1,6 @@
 -- An event of a system that has changed is the same event of what is shown.
-use Rattle.std.proofs.Common.{◌≡◌, [], ◌<◌, Some, false}
-use Rattle.std.specs.Prelude.{slice_get}
-use Rattle.grs_wire.specs.Masks.{has}
-use Rattle.grs_wire.specs.declared.deck.Choice.{Choice}
-use Rattle.grs_wire.specs.declared.deck.Deck.{Deck}
+use Rattle.grs_world.proofs.Common.{[], ◌<◌, ◌≡◌, Choice, chosen, Deck, false, has, items, most_systems, NodeState}
+use Rattle.grs_world.proofs.Common.{placed, slice_get, Some, SysId, World}
 use Rattle.grs_world.proofs.run.Came.{ChoiceRemovesNone}
 use Rattle.grs_world.proofs.run.Removals.{GoneAreRemoved}
 use Rattle.grs_world.proofs.run.Knowing.{KnowsRemoved}
@@ -12,12 +9,7 @@ use Rattle.grs_world.proofs.move.Changing.{IsChanging, IsMoved, fresh, has_chang
 use Rattle.grs_world.proofs.star.Sound.{outcome}
 use Rattle.grs_world.proofs.star.steps.Outcome.{IsOutcome}
 use Rattle.grs_world.proofs.star.Members.{IsStep}
-use Rattle.grs_world.specs.World.{World, chosen, placed}
 use Rattle.grs_world.proofs.star.Events.{good_choice}
-use Rattle.grs_node.specs.Node.{NodeState}
-use Rattle.grs_base.specs.declared.resource.SysId.{SysId}
-use Rattle.grs_base.specs.Limits.{most_systems}
-use Rattle.grs_known.specs.Items.{items}
 use Rattle.grs_world.proofs.run.Site.{at_site}
 
 module _ (deck : Deck) (some : 0 < deck.entries) (w : World) (g : IsChanging deck w) (c : SysId)

@@ -1,23 +1,18 @@
 -- An event of a system that hasn't changed: what is shown of it is what it then comes to.
-use Rattle.std.proofs.Common.{◌≡◌, [], ◌+◌, ◌++◌, List, Some, ap, append-nil, append_assoc, arith, false, length}
-use Rattle.std.proofs.Common.{length-append, refl, set, subst, sym, true, ℕ, ◌∙◌, ◌∷◌, ◌≢◌, None}
-use Rattle.std.proofs.lemmas.Bool.{and_parts}
-use Rattle.std.proofs.lemmas.List.Elements.{filter-append}
-use Rattle.std.proofs.lemmas.List.{length-set}
-use Rattle.std.specs.List.{list_all, list_any}
-use Rattle.std.proofs.lemmas.List.Folds.{list_all-append}
-use Rattle.std.specs.Prelude.{slice_get}
-use Rattle.grs_known.proofs.lists.Alike.{Alike}
-use Rattle.grs_known.proofs.known.Histories.{AllAsk, IsHistory, asks-behind, asks-front, made_item}
-use Rattle.grs_known.specs.Known.{Coming}
-use Rattle.grs_known.specs.Items.{RunItem, goes_round, history, items, lists, mine, rounds}
-use Rattle.grs_known.proofs.told.News.{ToldNews, still-told, told-news}
-use Rattle.grs_known.proofs.lists.Truths.{no_truth}
-use Rattle.grs_known.proofs.lists.Facts.{all-behind, filter-cons_left}
-use Rattle.grs_known.proofs.known.Blank.{blank}
-use Rattle.grs_known.proofs.system.Says.{is_home_at, own_requests}
-use Rattle.grs_known.specs.Parts.{put_at}
-use Rattle.grs_known.proofs.lists.Placed.{put_each, put_both, put_here}
+use Rattle.grs_world.proofs.Common.{[], ◌++◌, ◌+◌, ◌∙◌, ◌∷◌, ◌≡◌, ◌≢◌, Alike, all-behind, AllAsk, and_parts, ap}
+use Rattle.grs_world.proofs.Common.{append-nil, append_assoc, arith, asks-behind, blank, Bodies, change_to_star, Coming}
+use Rattle.grs_world.proofs.Common.{Deck, desk_told, false, filter-append, filter-cons_left, Fixed, fixed_by}
+use Rattle.grs_world.proofs.Common.{goes_round, has, history, inbox, is_home_at, IsHistory, items, items_of, length}
+use Rattle.grs_world.proofs.Common.{length-append, length-set, lines_of, List, list_all, list_all-append, list_any}
+use Rattle.grs_world.proofs.Common.{lists, live, lives, losing, made_item, managed_at, may_go, members, mine}
+use Rattle.grs_world.proofs.Common.{next_order, no_truth, NodeState, None, only, own_requests, placed, plain, put_at}
+use Rattle.grs_world.proofs.Common.{put_here, read_entries, refl, removes, rounds, RunItem, Said, slice_get, Some}
+use Rattle.grs_world.proofs.Common.{StarPart, stays-task, Step, still-told, subst, sym, SysId, task_step, TaskId}
+use Rattle.grs_world.proofs.Common.{told-news, told_by, told_in, ToldNews, true, turned_closed, Turnout, unseen, World}
+use Rattle.grs_world.proofs.Common.{ℕ}
+use Rattle.std.proofs.Common.{set}
+use Rattle.grs_known.proofs.known.Histories.{asks-front}
+use Rattle.grs_known.proofs.lists.Placed.{put_each, put_both}
 use Rattle.grs_world.proofs.star.Calm.{losing-nothing}
 use Rattle.grs_world.proofs.run.Knowing.{KnowsRemoved}
 use Rattle.grs_world.proofs.star.Usual.{usual}
@@ -25,9 +20,7 @@ use Rattle.grs_world.proofs.star.steps.Outcome.{part}
 use Rattle.grs_world.proofs.run.Purging.{target-fits}
 use Rattle.grs_world.proofs.run.Removals.{GoneAreRemoved}
 use Rattle.grs_medium.specs.Apply.{is_live}
-use Rattle.grs_wire.specs.History.{removes}
 use Rattle.grs_world.proofs.star.Elements.{AreNear}
-use Rattle.rsa_message.proofs.Stands.{Bodies}
 use Rattle.grs_world.proofs.star.Worlds.{Fixes, Hands, IsWhole, are_live, fixes-own, in_hands, items-none, items-one}
 use Rattle.grs_world.proofs.star.Worlds.{near-local, none_fixed, others-item, under-local, whole-still}
 use Rattle.grs_world.proofs.move.Late.{CameLate, desk_late, informed_late, nothing_late, task_late, turn_late}
@@ -37,8 +30,6 @@ use Rattle.grs_world.proofs.move.Changing.{view-star, viewed, waits_yet, has_cha
 use Rattle.grs_world.proofs.star.Members.{IsMember, IsStar, IsStep, all_lists, framed, lists-grown, lists_after}
 use Rattle.grs_world.proofs.star.Systems.{IsSystem, is_late, news_of}
 use Rattle.grs_world.proofs.system.AtNode.{QuietStep, Seen, keeps, fixes, fix-history, fix-stays, seen-known}
-use Rattle.grs_world.specs.World.{Turnout, World, fixed_by, placed, told_by}
-use Rattle.grs_node.specs.Log.{told_in}
 use Rattle.grs_world.proofs.run.Reading.{all-rounds, read-entries, read_all}
 use Rattle.grs_world.proofs.run.Growing.{asks-rounds, fixeds}
 use Rattle.grs_world.proofs.run.Runs.{by_node}
@@ -48,26 +39,11 @@ use Rattle.grs_world.proofs.run.Messages.{given-due, message-closed}
 use Rattle.grs_world.proofs.system.Quiet.{quiet}
 use Rattle.grs_world.proofs.run.Desks.{tells_already, tells_no_such, tells_tasks}
 use Rattle.grs_world.proofs.star.Under.{under}
-use Rattle.grs_wire.specs.declared.deck.Deck.{Deck}
-use Rattle.grs_wire.specs.declared.request.Fixed.{Fixed}
-use Rattle.grs_wire.specs.Masks.{has, lives}
-use Rattle.grs_wire.specs.declared.told.Said.{Said}
+use Rattle.grs_node.specs.Node.{changed as changed_now}
+use Rattle.grs_node.proofs.Keeping.{Stays, stays-entries}
+use Rattle.grs_world.proofs.run.Site.{Site, IsThere, at_site}
 use Rattle.grs_wire.specs.declared.deck.Order.TheVariants as orders
 use Rattle.grs_wire.specs.declared.told.Said.TheVariants as saids
-use Rattle.grs_node.specs.Node.{changed as changed_now, losing}
-use Rattle.grs_node.specs.Removal.{members}
-use Rattle.grs_node.specs.Node.{NodeState, Step, change_to_star, desk_told, may_go, next_order, only, read_entries}
-use Rattle.grs_node.specs.Node.{task_step}
-use Rattle.grs_node.specs.Star.{StarPart}
-use Rattle.grs_node.proofs.Keeping.{Stays, stays-entries, stays-task}
-use Rattle.grs_base.specs.declared.resource.SysId.{SysId}
-use Rattle.grs_base.specs.declared.resource.TaskId.{TaskId}
-use Rattle.grs_medium.specs.Medium.{inbox, live}
-use Rattle.contention_mgr.specs.Manager.{items_of, managed_at, plain}
-use Rattle.grs_legal.specs.Asks.{lines_of}
-use Rattle.rsa_message.specs.Message.{turned_closed}
-use Rattle.grs_wire.specs.Unseen.{unseen}
-use Rattle.grs_world.proofs.run.Site.{Site, IsThere, at_site}
 
 -- who has behind some what it had before has nothing there
 nothing-behind : {X : Type 0} (xs ys : List X) → xs ++ ys ≡ xs → ys ≡ []

@@ -1,32 +1,18 @@
 -- Who is told an answer has nothing open at its system, and where its requests stand in the message.
-use Rattle.std.proofs.Common.{◌≡◌, Bool, true, false, cond, ◌||◌, ℕ, suc, List, [], ◌∷◌, ◌++◌, map, take, drop, refl}
-use Rattle.std.proofs.Common.{ap, sym, ◌∙◌, subst, append-nil, append_assoc}
-use Rattle.std.specs.Prelude.{filter, not, ◌==◌}
-use Rattle.std.specs.List.{list_all, list_any}
+use Rattle.grs_world.proofs.Common.{[], ◌++◌, ◌==◌, ◌||◌, ◌∙◌, ◌∷◌, ◌≡◌, among-front, ap, append-nil, append_assoc}
+use Rattle.grs_world.proofs.Common.{askers, Bool, cleared, cond, Deck, drop, false, filter, has, has-without_other}
+use Rattle.grs_world.proofs.Common.{has-without_same, HistEntry, is_among, is_line_of, left_by, List, list_all}
+use Rattle.grs_world.proofs.Common.{list_any, map, no_truth, or_other, or_parts, refl, Req, Request, RingEntry}
+use Rattle.grs_world.proofs.Common.{same_task, same_task-exact, same_task-itself, stamped, subst, suc, sym, SysId, take}
+use Rattle.grs_world.proofs.Common.{TaskId, ToldBy, ToldLine, true, without, ℕ, ℕ_discrete}
+use Rattle.std.specs.Prelude.{not}
 use Rattle.std.proofs.lemmas.List.{take-append-drop}
-use Rattle.std.proofs.lemmas.Bool.{or_parts}
-use native.Mathlib.Decide.{ℕ_discrete}
-use Rattle.grs_base.specs.Same.{same_task}
-use Rattle.grs_base.specs.declared.resource.SysId.{SysId}
-use Rattle.grs_base.specs.declared.resource.TaskId.{TaskId}
-use Rattle.grs_base.proofs.SameLaws.{same_task-exact, same_task-itself}
-use Rattle.grs_wire.specs.Masks.{has, without, only}
-use Rattle.grs_wire.specs.declared.deck.Deck.{Deck}
-use Rattle.grs_wire.specs.declared.history.HistEntry.{HistEntry}
-use Rattle.grs_wire.specs.declared.medium.RingBody.TheVariants.{Request}
-use Rattle.grs_wire.specs.declared.medium.RingEntry.{RingEntry}
-use Rattle.grs_wire.specs.declared.request.Req.{Req}
-use Rattle.grs_wire.specs.declared.told.ToldLine.{ToldLine}
-use Rattle.grs_wire.specs.declared.told.ToldLine.TheVariants as lines
-use Rattle.grs_wire.proofs.MaskLaws.{has-without_same, has-without_other}
-use Rattle.rsa_message.specs.Message.{left_by, cleared, stamped}
+use Rattle.grs_wire.specs.Masks.{only}
 use Rattle.grs_world.specs.Laps.{OnlyLeft, LeftHome, answers}
-use Rattle.grs_known.proofs.system.Askers.{among-front}
 use Rattle.grs_known.proofs.lists.Facts.{all-more, list_any-push}
-use Rattle.grs_known.proofs.lists.Owners.{is_among}
-use Rattle.grs_known.proofs.system.Says.{ToldBy, Clears, askers, is_line_of}
+use Rattle.grs_known.proofs.system.Says.{Clears}
+use Rattle.grs_wire.specs.declared.told.ToldLine.TheVariants as lines
 use Rattle.grs_known.proofs.system.Says as says
-use Rattle.grs_known.proofs.lists.Truths.{no_truth, or_other}
 
 -- ---- the lines told
 -- On the way from T0 to T a system told these lines, and who is told an answer has none of these requests.

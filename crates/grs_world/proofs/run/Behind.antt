@@ -1,23 +1,12 @@
 -- No entry of a task stands behind the removal of its system, where the history is legal.
-use Rattle.std.proofs.Common.{◌≡◌, Bool, true, false, cond, List, [], ◌∷◌, ◌++◌, Option, Some, None, refl, sym, ◌∙◌}
-use Rattle.std.proofs.Common.{subst, append-nil, append_assoc}
-use Rattle.std.specs.Prelude.{◌==◌, IsSomeAnd}
-use Rattle.std.specs.List.{list_any}
-use Rattle.std.proofs.lemmas.Bool.{eq-eqb, or_left, or_right}
-use Rattle.std.proofs.lemmas.List.Folds.{list_any-append}
-use Rattle.grs_base.specs.declared.resource.TaskId.{TaskId}
-use Rattle.grs_base.proofs.SameLaws.{same_task-exact}
-use Rattle.grs_legal.specs.Asks.{lines_of}
-use Rattle.grs_legal.specs.Legal.{IsLegal, Legal, LegalFrom, MayAsk, MayStand, entries_of}
-use Rattle.grs_legal.specs.declared.meaning.Meaning.{Meaning}
-use Rattle.grs_wire.specs.History.{is_by, removes}
-use Rattle.grs_wire.specs.declared.deck.Deck.{Deck}
-use Rattle.grs_wire.specs.declared.deck.Event.{Event}
-use Rattle.grs_wire.specs.declared.history.HistEntry.{HistEntry}
+use Rattle.grs_world.proofs.Common.{[], ◌++◌, ◌==◌, ◌∙◌, ◌∷◌, ◌≡◌, append-nil, append_assoc, Bool, cond, Deck, eq-eqb}
+use Rattle.grs_world.proofs.Common.{Event, false, hist, HistEntry, is_by, LegalFrom, lines_of, List, list_any}
+use Rattle.grs_world.proofs.Common.{list_any-append, Meaning, no_truth, None, Option, or_left, or_right, refl, removes}
+use Rattle.grs_world.proofs.Common.{same_task-exact, Some, subst, sym, TaskId, true}
+use Rattle.std.specs.Prelude.{IsSomeAnd}
+use Rattle.grs_legal.specs.Legal.{IsLegal, Legal, MayAsk, MayStand, entries_of}
 use Rattle.grs_wire.specs.declared.history.HistEntry.TheVariants.{Enq, Deq, Release, Look, Remove}
-use Rattle.grs_known.proofs.lists.Truths.{no_truth}
 use Rattle.grs_world.specs.Removing.{NoneFollows}
-use Rattle.grs_world.specs.World.{hist}
 
 -- what a task asks stands behind no removal of its system
 live_by : (deck : Deck) (u : TaskId) (P : List HistEntry) (h : HistEntry) → MayAsk deck u P h

@@ -1,47 +1,27 @@
 -- What came of an event of a live system, in either mode and whatever the run: one type, with the choice, what was
 -- replied, and the medium and the system afterwards. Who goes by its cases opens neither what a choice is prepared to
 -- ask nor the medium's table; `Chosen` does so once.
-use Rattle.std.proofs.Common.{◌≡◌, ℕ, Bool, true, false, List, ◌∷◌, length, take, Some, None, refl, sym, ◌∙◌}
-use Rattle.std.specs.Prelude.{◌≢◌, ◌==◌}
-use Rattle.grs_base.specs.Limits.{most_additions}
-use Rattle.grs_base.specs.declared.resource.Res.{Res}
-use Rattle.grs_base.specs.declared.resource.SysId.{SysId}
-use Rattle.grs_base.specs.declared.resource.TaskId.{TaskId}
-use Rattle.grs_medium.specs.Apply.{is_live, without_in_star, without_system, reply_to}
-use Rattle.grs_medium.specs.Inboxes.{with_mail, without_first}
-use Rattle.grs_medium.specs.Medium.{MediumState, awake, inbox, live}
-use Rattle.grs_node.specs.Names.{names_of}
-use Rattle.grs_node.specs.Node.{NodeState, changed as changed_now, desk_told, may_go, may_send, next_order, only}
-use Rattle.grs_node.specs.Node.{own_words, prepare, purged, put_in, read_entries, stale, switched, take_mail}
-use Rattle.grs_node.specs.Node.{task_step, with_star}
-use Rattle.grs_node.specs.Star.{StarPart, answer_for, begun, decide_own, entry_for, first_held, fixing_none, gathers}
-use Rattle.grs_node.specs.Star.{left_at, may_leave, owed_to, rank_of, request_of, settled_first, to_tell}
-use Rattle.grs_node.specs.Star.{told_by, with_interest}
-use Rattle.grs_node.specs.declared.prepared.Prepared.{Prepared}
-use Rattle.grs_node.specs.declared.prepared.Prepared.TheVariants.{Call, Nothing, Quiet}
-use Rattle.grs_wire.specs.LockWords.{leave_reply}
-use Rattle.grs_wire.specs.Unseen.{unseen}
-use Rattle.grs_wire.specs.declared.deck.Choice.{Choice}
+use Rattle.grs_world.proofs.Common.{◌==◌, ◌∙◌, ◌∷◌, ◌≡◌, answer_for, Asked, awake, begun, Bool, Call, Choice, closed_by}
+use Rattle.grs_world.proofs.Common.{decide_own, Deck, desk_told, entry_for, false, first_held, first_number}
+use Rattle.grs_world.proofs.Common.{fixing_none, gathers, has, inbox, leave_reply, left_at, left_words, length}
+use Rattle.grs_world.proofs.Common.{lines_of, List, live, Mail, manager_at, may_go, may_send, MediumState}
+use Rattle.grs_world.proofs.Common.{most_additions, names_of, next_order, NodeState, None, Nothing, only, owed_to}
+use Rattle.grs_world.proofs.Common.{owing, own_words, part_of, prepare, Prepared, purged, put_in, Quiet, rank_of}
+use Rattle.grs_world.proofs.Common.{read_entries, refl, Reply, reply_to, Req, request_of, Res, Some, stale, stands_at}
+use Rattle.grs_world.proofs.Common.{StarPart, state_of, submitted_words, switched, sym, SysId, take, take_mail}
+use Rattle.grs_world.proofs.Common.{task_step, TaskId, to_tell, true, turned_closed, turned_open, Turnout, unseen}
+use Rattle.grs_world.proofs.Common.{with_interest, with_mail, with_phase, with_star, without_first, without_in_star}
+use Rattle.grs_world.proofs.Common.{without_system, word_at, ℕ}
+use Rattle.std.specs.Prelude.{◌≢◌}
+use Rattle.grs_medium.specs.Apply.{is_live}
+use Rattle.grs_node.specs.Node.{changed as changed_now}
+use Rattle.grs_node.specs.Star.{may_leave, settled_first, told_by}
 use Rattle.grs_wire.specs.declared.deck.Choice.TheVariants as choices
-use Rattle.grs_wire.specs.declared.deck.Deck.{Deck}
 use Rattle.grs_wire.specs.declared.deck.Order.TheVariants as orders
-use Rattle.grs_wire.specs.declared.medium.Mail.{Mail}
 use Rattle.grs_wire.specs.declared.medium.Mail.TheVariants as mails
-use Rattle.grs_wire.specs.declared.medium.Reply.{Reply}
 use Rattle.grs_wire.specs.declared.medium.Reply.TheVariants as replies
-use Rattle.grs_wire.specs.declared.request.Req.{Req}
 use Rattle.grs_wire.specs.declared.told.Said.TheVariants as saids
-use Rattle.lock_structure.specs.Laws.{manager_at}
-use Rattle.lock_structure.specs.Words.{left_words, submitted_words, word_at}
-use Rattle.star_client.specs.Owes.{owing}
-use Rattle.system_purge.specs.Gather.{part_of}
-use Rattle.grs_wire.specs.Masks.{has}
-use Rattle.rsa_message.specs.Message.{closed_by, first_number, stands_at, turned_closed, turned_open}
-use Rattle.task_state.specs.View.{state_of, with_phase}
-use Rattle.task_state.specs.declared.state.Asked.{Asked}
 use Rattle.task_state.specs.declared.state.Phase.TheVariants as phases
-use Rattle.grs_world.specs.World.{Turnout}
-use Rattle.grs_legal.specs.Asks.{lines_of}
 
 -- ---- What an event was: nothing was done, or something without a call, or a call was made and replied to.
 pub data Result : Type 0 where

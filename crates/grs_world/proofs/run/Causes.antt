@@ -1,37 +1,24 @@
 -- The causes of the answers that have to do with removals.
-use Rattle.std.proofs.Common.{◌≡◌, ◌<◌, ℕ, Bool, true, false, cond, not, ◌&&◌, List, Option, Some, None, refl, ap, sym}
-use Rattle.std.proofs.Common.{◌∙◌, subst, arith, length}
-use Rattle.std.specs.Prelude.{◌==◌, nat_lt, slice_get}
-use Rattle.std.specs.List.{list_any}
-use Rattle.std.proofs.lemmas.Bool.{and_parts, eq-eqb, eqb-false, eqb-true, lt-ltb, ne_eqb, not-true}
-use Rattle.std.proofs.lemmas.Option.{same_Some, slice_get_within}
-use Rattle.grs_base.specs.declared.resource.SysId.{SysId}
-use Rattle.grs_medium.specs.Apply.{is_live as is_live_at, reply_to}
+use Rattle.grs_world.proofs.Common.{◌&&◌, ◌<◌, ◌==◌, ◌∙◌, ◌≡◌, Act, and_parts, ap, arith, Bool, Call, call_at, call_in}
+use Rattle.grs_world.proofs.Common.{chosen, cond, counted, Deck, eq-eqb, eqb-false, eqb-true, Event, false, happens}
+use Rattle.grs_world.proofs.Common.{happens_at, has, hist, is_live, length, List, list_any, lt-ltb, nat_lt, ne_eqb}
+use Rattle.grs_world.proofs.Common.{next_order, no_truth, NodeState, None, not, not-true, Nothing, Option, Order}
+use Rattle.grs_world.proofs.Common.{OrdersFit, placed, prepare, refl, removes, Reply, reply_by, reply_of, reply_to, run}
+use Rattle.grs_world.proofs.Common.{same_Some, slice_get, slice_get_within, Some, subst, sym, SysId, systems_of, true}
+use Rattle.grs_world.proofs.Common.{World, ℕ}
+use Rattle.grs_medium.specs.Apply.{is_live as is_live_at}
 use Rattle.grs_medium.specs.Causes.{is_heard, is_removed, is_uninformed, purges_nobody}
-use Rattle.grs_medium.specs.Medium.{systems_of}
 use Rattle.grs_medium.proofs.CauseLaws.{no_such_comes, removed_comes, stale_comes}
-use Rattle.grs_node.specs.Node.{NodeState, next_order, prepare, purge_call}
-use Rattle.grs_node.specs.declared.prepared.Prepared.TheVariants.{Call, Nothing}
-use Rattle.grs_wire.specs.History.{removes}
-use Rattle.grs_wire.specs.Masks.{has}
-use Rattle.grs_wire.specs.declared.deck.Choice.TheVariants as choices
-use Rattle.grs_wire.specs.declared.deck.Deck.{Deck}
-use Rattle.grs_wire.specs.declared.deck.Event.{Event}
-use Rattle.grs_wire.specs.declared.deck.Order.{Order}
-use Rattle.grs_wire.specs.declared.deck.Order.TheVariants as orders
-use Rattle.grs_wire.specs.declared.medium.Act.{Act}
-use Rattle.grs_wire.specs.declared.medium.Act.TheVariants as acts
+use Rattle.grs_node.specs.Node.{purge_call}
 use Rattle.grs_wire.specs.declared.medium.Call.{Call as MediumCall}
-use Rattle.grs_wire.specs.declared.medium.Reply.{Reply}
-use Rattle.grs_wire.specs.declared.medium.Reply.TheVariants as replies
-use Rattle.grs_known.proofs.known.Histories.{OrdersFit}
-use Rattle.grs_known.proofs.lists.Truths.{no_truth}
-use Rattle.grs_world.specs.Removing.{AnswersHaveCauses, call_at, call_in, call_of, reply_by, reply_of}
-use Rattle.grs_world.specs.Running.{is_live}
-use Rattle.grs_world.specs.World.{World, chosen, counted, happens, happens_at, hist, placed, run}
+use Rattle.grs_world.specs.Removing.{AnswersHaveCauses, call_of}
 use Rattle.grs_world.proofs.run.Laps.{goes_on}
 use Rattle.grs_world.proofs.run.Purging.{target-fits}
 use Rattle.grs_world.proofs.run.Removals.{removed_in_history}
+use Rattle.grs_wire.specs.declared.deck.Choice.TheVariants as choices
+use Rattle.grs_wire.specs.declared.deck.Order.TheVariants as orders
+use Rattle.grs_wire.specs.declared.medium.Act.TheVariants as acts
+use Rattle.grs_wire.specs.declared.medium.Reply.TheVariants as replies
 
 -- what is so of a truth by its parts
 not_false : (b : Bool) → not b ≡ true → b ≡ false

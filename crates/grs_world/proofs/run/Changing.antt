@@ -1,30 +1,18 @@
 -- The change to star mode fixes nothing: neither a Switch, nor an event by which its system changes.
-use Rattle.std.proofs.Common.{◌≡◌, ◌⊎◌, inl, inr, Bool, true, false, ◌||◌, List, [], ◌++◌, length, take, Option, Some}
-use Rattle.std.proofs.Common.{None, is_some, refl, ap, sym, ◌∙◌, append-nil}
-use Rattle.std.specs.Prelude.{is_none, slice_get}
-use Rattle.std.proofs.lemmas.Bool.{and_parts}
-use Rattle.grs_base.specs.Limits.{most_additions}
-use Rattle.grs_base.specs.declared.resource.SysId.{SysId}
-use Rattle.grs_legal.specs.Asks.{lines_of}
-use Rattle.grs_medium.specs.Medium.{MediumState}
-use Rattle.grs_node.proofs.Keeping.{stays-task, stays-turned}
-use Rattle.grs_node.specs.Node.{NodeState, Step, desk_told, purged}
+use Rattle.grs_world.proofs.Common.{[], ◌++◌, ◌||◌, ◌∙◌, ◌≡◌, ◌⊎◌, and_parts, ap, append-nil, Bool, Choice, Deck}
+use Rattle.grs_world.proofs.Common.{desk_told, Event, false, first_world, fixed_by, happens, inl, inr, is_none, length}
+use Rattle.grs_world.proofs.Common.{lines_of, List, MediumState, most_additions, NodeState, None, Option, placed}
+use Rattle.grs_world.proofs.Common.{purged, refl, run, slice_get, slice_get-set, Some, StarPart, stays-task}
+use Rattle.grs_world.proofs.Common.{stays-turned, Step, sym, SysId, take, true, Turnout, unseen, World}
+use Rattle.std.proofs.Common.{is_some}
 use Rattle.grs_world.proofs.run.InRing.{purged-ring, removed_by}
-use Rattle.grs_node.specs.Star.{StarPart}
-use Rattle.grs_wire.specs.Unseen.{unseen}
-use Rattle.grs_wire.specs.declared.deck.Choice.{Choice}
-use Rattle.grs_wire.specs.declared.deck.Choice.TheVariants as choices
-use Rattle.grs_wire.specs.declared.deck.Deck.{Deck}
-use Rattle.grs_wire.specs.declared.deck.Event.{Event}
-use Rattle.grs_known.proofs.lists.Facts.{slice_get-set}
 use Rattle.grs_world.specs.Changing.{ChangesFixNothing, has_moved, is_switch}
-use Rattle.grs_world.specs.World.{Turnout, World, first_world, fixed_by, happens, placed, run}
 use Rattle.grs_world.proofs.run.Each.{run-push}
 use Rattle.grs_world.proofs.run.Came.{Acts, Came, acted, already, began, changed, decided, informed, last_turn, left}
-use Rattle.grs_world.proofs.run.Came.{no_part, no_such, nothing, parted, removes_one, removes_star, sent, settled}
-use Rattle.grs_world.proofs.run.Came.{told}
+use Rattle.grs_world.proofs.run.Came.{no_part, no_such, nothing, parted, removes_one, removes_star, sent, settled, told}
 use Rattle.grs_world.proofs.run.Came.{took, turn, went_on, Result}
 use Rattle.grs_world.proofs.run.Chosen.{each_came}
+use Rattle.grs_wire.specs.declared.deck.Choice.TheVariants as choices
 
 module _ (deck : Deck) (m : MediumState) (s : SysId) (n : NodeState) where
   -- a Switch, in either mode

@@ -1,69 +1,46 @@
 -- What comes of each choice of a live system (`Came`), by what it is prepared to ask and by the row of the medium's
 -- table that answers it.
-use Rattle.std.proofs.Common.{◌≡◌, ℕ, Bool, true, false, cond, List, [], ◌∷◌, length, take, Option, Some, None, refl}
-use Rattle.std.proofs.Common.{ap, sym, ◌∙◌, subst}
-use Rattle.std.specs.Prelude.{slice_get, slice_set, nat_lt, not, ◌&&◌, ◌==◌}
-use Rattle.std.proofs.Math.Bool.{and-false}
+use Rattle.grs_world.proofs.Common.{[], ◌==◌, ◌∙◌, ◌∷◌, ◌≡◌, Act, and-false, and_from, answer_for, ap, Asked, awake}
+use Rattle.grs_world.proofs.Common.{begun, Bool, by_test, Call, call_at, call_in, carry_out, Choice, chosen, cond}
+use Rattle.grs_world.proofs.Common.{counted, decide_own, Deck, entry_for, eqb-true, Event, false, finish, finish_call}
+use Rattle.grs_world.proofs.Common.{finish_quiet, finish_star, first_held, first_number, fixing_none, gathers, happens}
+use Rattle.grs_world.proofs.Common.{has, inbox, interest, is_manager, is_pending, is_purged, leave_changes, leave_reply}
+use Rattle.grs_world.proofs.Common.{leave_row, left_word, left_words, length, List, live, lock_word, lt-ltb, Mail}
+use Rattle.grs_world.proofs.Common.{mail_row, manager, manager_at, may_go, may_send, medium_at_end, MediumState}
+use Rattle.grs_world.proofs.Common.{Message, most_additions, names_of, nat_lt, next_order, NodeState, None, Nothing}
+use Rattle.grs_world.proofs.Common.{only, Option, Order, owed_to, own_words, part_of, placed, prepare, Prepared}
+use Rattle.grs_world.proofs.Common.{prepared_by, purge_row, Quiet, rank_of, refl, removes_in_star, Reply, reply_by}
+use Rattle.grs_world.proofs.Common.{reply_of, Req, request_of, Res, rest_after_turn, rest_row, route, row, slice_get}
+use Rattle.grs_world.proofs.Common.{slice_get_within, slice_set, Some, stands_at, star_call, StarPart, state_of}
+use Rattle.grs_world.proofs.Common.{submit_row, submitted_words, subst, switch_row, sym, SysId, take, take_row, TaskId}
+use Rattle.grs_world.proofs.Common.{to_tell, true, true≢false, turn_reply, turn_row, turned, turned_closed, turned_open}
+use Rattle.grs_world.proofs.Common.{Turnout, unseen, with_mail, with_star, without, without_first, without_in_star}
+use Rattle.grs_world.proofs.Common.{without_system, without_target, word_at, World, ℕ}
+use Rattle.std.specs.Prelude.{not, ◌&&◌}
 use Rattle.std.proofs.lemmas.List.{set-get_or}
-use Rattle.std.proofs.lemmas.Bool.{and_from, eqb-true, lt-ltb, true≢false}
-use Rattle.std.proofs.lemmas.Option.{slice_get_within}
-use Rattle.grs_base.specs.Limits.{most_additions}
-use Rattle.grs_base.specs.declared.resource.Res.{Res}
-use Rattle.grs_base.specs.declared.resource.SysId.{SysId}
-use Rattle.grs_base.specs.declared.resource.TaskId.{TaskId}
-use Rattle.grs_medium.specs.Apply.{is_live, is_noticed, joined, leave_row, mail_row, notice_reply, purge_row, rest_row}
-use Rattle.grs_medium.specs.Apply.{resting, row, submit_on, submit_row, switch_ring, switch_row, take_from, take_row}
-use Rattle.grs_medium.specs.Apply.{turn_row, without_in_star, without_system, without_target}
-use Rattle.grs_medium.specs.Inboxes.{with_mail, without_first}
-use Rattle.grs_medium.specs.Medium.{MediumState, all_rest, awake, inbox, live, medium_at_end}
+use Rattle.grs_medium.specs.Apply.{is_live, is_noticed, joined, notice_reply, resting, submit_on, switch_ring}
+use Rattle.grs_medium.specs.Apply.{take_from}
+use Rattle.grs_medium.specs.Medium.{all_rest}
 use Rattle.grs_node.proofs.InRing.{closed-turned, open-turned}
-use Rattle.grs_node.specs.Node.{NodeState, finish, finish_call, finish_quiet, finish_star, is_pending, may_go, may_send}
-use Rattle.grs_node.specs.Node.{next_order, only, own_words, prepare, prepared_by, purge_call, star_call}
-use Rattle.grs_node.specs.Node.{star_need, star_step, switch_call, turn_call, turned as node_turned, with_star}
-use Rattle.grs_node.specs.Star.{StarPart, answer_for, begin_at, begun, decide_own, entry_asked, entry_for, first_held}
-use Rattle.grs_node.specs.Star.{fixing_none, may_leave, rank_of, request_of, send_of, send_to}
-use Rattle.grs_node.specs.Star.{sent_to, settle_by, settled_by, tell_by, to_tell, told_by}
-use Rattle.grs_node.specs.declared.prepared.Prepared.{Prepared}
-use Rattle.grs_node.specs.declared.prepared.Prepared.TheVariants.{Call, Nothing, Quiet}
-use Rattle.grs_node.specs.Names.{names_of}
-use Rattle.grs_node.specs.Star.{gathers, owed_to, part_by}
+use Rattle.grs_node.specs.Node.{purge_call, star_need, star_step, switch_call, turn_call, turned as node_turned}
+use Rattle.grs_node.specs.Star.{begin_at, entry_asked, may_leave, send_of, send_to, sent_to, settle_by, settled_by}
+use Rattle.grs_node.specs.Star.{tell_by, told_by, part_by}
 use Rattle.grs_node.specs.declared.star.Need.{Need}
 use Rattle.grs_node.specs.declared.star.Need.TheVariants.{Asks, Idle}
-use Rattle.grs_wire.proofs.WantLaws.{by_test}
-use Rattle.grs_wire.specs.LockWords.{epoch, interest, is_kept, is_manager, leave_changes, leave_reply, left_word}
-use Rattle.grs_wire.specs.LockWords.{lock_word, manager}
-use Rattle.grs_wire.specs.Masks.{has, without}
-use Rattle.grs_wire.specs.Unseen.{unseen}
-use Rattle.grs_wire.specs.declared.deck.Choice.{Choice}
-use Rattle.grs_wire.specs.declared.deck.Choice.TheVariants as choices
-use Rattle.grs_wire.specs.declared.deck.Deck.{Deck}
-use Rattle.grs_wire.specs.declared.deck.Event.{Event}
-use Rattle.grs_wire.specs.declared.deck.Order.{Order}
-use Rattle.grs_wire.specs.declared.deck.Order.TheVariants as orders
-use Rattle.grs_wire.specs.declared.medium.Act.{Act}
-use Rattle.grs_wire.specs.declared.medium.Act.TheVariants as acts
-use Rattle.grs_wire.specs.declared.medium.Mail.{Mail}
-use Rattle.grs_wire.specs.declared.medium.Mail.TheVariants as mails
-use Rattle.grs_wire.specs.declared.medium.Reply.{Reply}
-use Rattle.grs_wire.specs.declared.medium.Reply.TheVariants as replies
-use Rattle.grs_wire.specs.declared.request.Req.{Req}
-use Rattle.lock_structure.specs.Laws.{manager_at}
-use Rattle.lock_structure.specs.Words.{left_words, route, route_by, submitted_words, word_at}
-use Rattle.lock_structure.specs.declared.word.Route.TheVariants as routes
-use Rattle.rsa_message.specs.Message.{Message, first_number, rest_after_turn, stands_at, turn_reply, turned}
-use Rattle.rsa_message.specs.Message.{turned_closed, turned_open}
-use Rattle.system_purge.specs.Gather.{part_of}
-use Rattle.task_state.specs.View.{state_of}
-use Rattle.task_state.specs.declared.state.Asked.{Asked}
-use Rattle.grs_world.specs.InStar.{is_purged, removes_in_star}
-use Rattle.grs_world.specs.Removing.{call_at, call_in, reply_by, reply_of}
+use Rattle.grs_wire.specs.LockWords.{epoch, is_kept}
+use Rattle.lock_structure.specs.Words.{route_by}
 use Rattle.grs_world.specs.Running.{is_live as is_live_in}
-use Rattle.grs_world.specs.World.{Turnout, World, carry_out, chosen, counted, happens, placed}
 use Rattle.grs_world.proofs.run.Each.{each_heard, each_live}
-use Rattle.grs_world.proofs.run.Came.{Acts, Came, ChoiceRemovesNone, IsToSend, Result, acted, already, began}
-use Rattle.grs_world.proofs.run.Came.{by_itself, changed, decided, parted}
-use Rattle.grs_world.proofs.run.Came.{informed, is_silent, last_turn, left, no_such, nothing, replied, removes_star}
-use Rattle.grs_world.proofs.run.Came.{removes_one, result_of, sent, settled, skipped, told, took, turn, went_on}
+use Rattle.grs_world.proofs.run.Came.{Acts, Came, ChoiceRemovesNone, IsToSend, Result, acted, already, began, by_itself}
+use Rattle.grs_world.proofs.run.Came.{changed, decided, parted, informed, is_silent, last_turn, left, no_such, nothing}
+use Rattle.grs_world.proofs.run.Came.{replied, removes_star, removes_one, result_of, sent, settled, skipped, told, took}
+use Rattle.grs_world.proofs.run.Came.{turn, went_on}
+use Rattle.grs_wire.specs.declared.deck.Choice.TheVariants as choices
+use Rattle.grs_wire.specs.declared.deck.Order.TheVariants as orders
+use Rattle.grs_wire.specs.declared.medium.Act.TheVariants as acts
+use Rattle.grs_wire.specs.declared.medium.Mail.TheVariants as mails
+use Rattle.grs_wire.specs.declared.medium.Reply.TheVariants as replies
+use Rattle.lock_structure.specs.declared.word.Route.TheVariants as routes
 
 module _ (deck : Deck) (m : MediumState) (s : SysId) (n : NodeState) (alive : has m.removed s.0 ≡ false) where
   abbrev Comes : Choice → Result → Turnout → Type 0

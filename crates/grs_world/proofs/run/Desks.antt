@@ -1,39 +1,23 @@
 -- What an event tells at a desk, and what all lines told at desks so far say.
-use Rattle.std.proofs.Common.{◌≡◌, [], ◌+◌, ◌++◌, ◌-◌, ◌<◌, ◌≤◌, ◌⊎◌, inl, inr, Bool, List, Option, Some, ap, arith}
-use Rattle.std.proofs.Common.{drop, false, length}
-use Rattle.std.proofs.Common.{not, refl, subst, sym, true, ◌||◌, ℕ, ◌∙◌, ◌∷◌, ◌≢◌, None}
-use Rattle.std.specs.Prelude.{◌&&◌, ◌==◌, nat_lt, slice_get}
-use Rattle.std.proofs.lemmas.Bool.{and_from, and_parts, eq-eqb, eqb-false, lt-ltb, ltb-true, ne_eqb, or_left, or_right}
-use Rattle.std.proofs.Math.Seq.{drop-append_seam}
-use Rattle.std.specs.List.{list_all, list_any}
-use Rattle.std.proofs.lemmas.List.Folds.{list_all-append, list_any-append}
-use Rattle.std.specs.Option.{option_map}
-use Rattle.std.proofs.Math.Bool.{or-false, or-true}
-use Rattle.grs_known.proofs.known.Histories.{OrdersFit}
+use Rattle.grs_world.proofs.Common.{[], ◌++◌, ◌+◌, ◌-◌, ◌<◌, ◌==◌, ◌||◌, ◌∙◌, ◌∷◌, ◌≡◌, ◌≢◌, ◌≤◌, ◌⊎◌, and_from}
+use Rattle.grs_world.proofs.Common.{and_parts, ap, arith, Bool, counted, Deck, drop, drop-append_seam, eq-eqb}
+use Rattle.grs_world.proofs.Common.{eqb-false, Event, false, Fixed, fixed_by, HistEntry, inl, inr, is_line_of, length}
+use Rattle.grs_world.proofs.Common.{List, list_all, list_all-append, list_any, list_any-append, lt-ltb, ltb-true}
+use Rattle.grs_world.proofs.Common.{Moment, nat_lt, ne_eqb, next_order, NodeState, None, not, Option, option_map}
+use Rattle.grs_world.proofs.Common.{or-false, or_left, or_right, Order, OrdersFit, placed, Purged, refl, removes, Said}
+use Rattle.grs_world.proofs.Common.{slice_get, Some, subst, sym, SysId, Told, told_by, told_in, ToldLine, ToldNews}
+use Rattle.grs_world.proofs.Common.{true, Turnout, World, ℕ}
+use Rattle.std.specs.Prelude.{◌&&◌}
+use Rattle.std.proofs.Math.Bool.{or-true}
 use Rattle.grs_world.proofs.run.Runs.{AllBy, GoodTold, Tells, at_desk, by_node, to_tasks}
-use Rattle.grs_world.specs.Agree.{DeskAgrees, HasCause, Moment, purges, is_desk_before, order_in, order_of, tells_star}
+use Rattle.grs_world.specs.Agree.{DeskAgrees, HasCause, purges, is_desk_before, order_in, order_of, tells_star}
 use Rattle.grs_world.specs.Agree.{was_star}
 use Rattle.grs_world.specs.Passed.{is_desk_line}
-use Rattle.grs_world.specs.World.{Turnout, World, counted, placed, told_by, fixed_by}
-use Rattle.grs_node.specs.Log.{told_in}
-use Rattle.grs_wire.specs.declared.deck.Deck.{Deck}
 use Rattle.grs_wire.specs.declared.deck.Desk.{Desk as DeskLine}
-use Rattle.grs_wire.specs.declared.deck.Event.{Event}
-use Rattle.grs_wire.specs.History.{removes}
-use Rattle.grs_wire.specs.declared.history.HistEntry.{HistEntry}
-use Rattle.grs_wire.specs.declared.request.Fixed.{Fixed}
-use Rattle.grs_wire.specs.declared.request.Fixed.TheVariants.{Purged}
-use Rattle.grs_wire.specs.declared.told.Said.{Said}
-use Rattle.grs_wire.specs.declared.told.Told.{Told}
-use Rattle.grs_wire.specs.declared.told.ToldLine.{ToldLine}
+use Rattle.grs_node.specs.Node.{desk_of}
 use Rattle.grs_wire.specs.declared.told.Said.TheVariants as saids
-use Rattle.grs_node.specs.Node.{NodeState, desk_of, next_order}
-use Rattle.grs_base.specs.declared.resource.SysId.{SysId}
-use Rattle.grs_wire.specs.declared.deck.Order.{Order}
 use Rattle.grs_wire.specs.declared.deck.Order.TheVariants as orders
 use Rattle.grs_wire.specs.declared.told.ToldLine.TheVariants as lines
-use Rattle.grs_known.proofs.told.News.{ToldNews}
-use Rattle.grs_known.proofs.system.Says.{is_line_of}
 
 -- What an event of a system tells that fixed this, by the system before and after it and by the mode of the medium:
 -- lines of its tasks, which agree with the history H; or a line of its desk that orders the change to star mode, or the

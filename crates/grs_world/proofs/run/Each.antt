@@ -1,20 +1,10 @@
 -- The cases of a call and of an event, each once, and every list of events.
-use Rattle.std.proofs.Common.{◌≡◌, false, List, [], ◌∷◌, ◌++◌, Option, Some, None, refl, sym, subst, append-nil}
-use Rattle.std.proofs.Common.{append_assoc}
-use Rattle.std.specs.Prelude.{slice_get, ◌==◌}
-use Rattle.grs_base.specs.declared.resource.SysId.{SysId}
-use Rattle.grs_medium.specs.Apply.{row, apply}
-use Rattle.grs_medium.specs.Medium.{MediumState}
-use Rattle.grs_node.specs.Node.{NodeState}
-use Rattle.grs_wire.specs.Masks.{has}
-use Rattle.grs_wire.specs.declared.deck.Deck.{Deck}
-use Rattle.grs_wire.specs.declared.deck.Event.{Event}
+use Rattle.grs_world.proofs.Common.{[], ◌++◌, ◌==◌, ◌∷◌, ◌≡◌, append-nil, append_assoc, apply, by_test, chosen, counted}
+use Rattle.grs_world.proofs.Common.{Deck, Event, false, first_world, happens, happens_at, has, List, MediumState}
+use Rattle.grs_world.proofs.Common.{no_truth, NodeState, None, Option, placed, refl, Reply, row, run, run_from}
+use Rattle.grs_world.proofs.Common.{slice_get, Some, subst, sym, SysId, World}
 use Rattle.grs_wire.specs.declared.medium.Call.{Call as CallOfMedium}
-use Rattle.grs_wire.specs.declared.medium.Reply.{Reply}
 use Rattle.grs_wire.specs.declared.medium.Reply.TheVariants as replies
-use Rattle.grs_wire.proofs.WantLaws.{by_test}
-use Rattle.grs_known.proofs.lists.Truths.{no_truth}
-use Rattle.grs_world.specs.World.{World, first_world, chosen, placed, counted, happens_at, happens, run_from, run}
 
 -- What holds of each answer to a call, with the medium that it leaves, holds of the call.
 pub each_answer : (m : MediumState) (c : SysId) (call : CallOfMedium) (P : Reply × MediumState → Type 0)

@@ -1,55 +1,32 @@
 -- What an event fixes, by its choice, the reply to its call and its task's line. It needs nothing of the run.
-use Rattle.std.proofs.Common.{◌≡◌, ℕ, Bool, true, false, cond, List, [], ◌∷◌, map, take, Option, Some, None, refl, ap}
-use Rattle.std.proofs.Common.{sym, ◌∙◌, append-nil}
-use Rattle.std.specs.Prelude.{◌+◌, ◌++◌, is_some, length, nat_le, slice_get}
-use Rattle.std.proofs.lemmas.Bool.{and_parts}
-use Rattle.grs_base.specs.declared.resource.SysId.{SysId}
-use Rattle.grs_base.specs.declared.resource.TaskId.{TaskId}
-use Rattle.grs_legal.specs.Asks.{lines_of}
-use Rattle.grs_legal.specs.declared.meaning.Display.{Display}
-use Rattle.grs_legal.specs.declared.meaning.Meaning.{Meaning}
-use Rattle.grs_legal.specs.declared.meaning.Meaning.TheVariants as lines
-use Rattle.grs_medium.specs.Medium.{MediumState}
+use Rattle.grs_world.proofs.Common.{[], ◌∙◌, ◌∷◌, ◌≡◌, and_parts, ap, append-nil, ask, Bool, by_test, Call, Choice}
+use Rattle.grs_world.proofs.Common.{chosen, code_in, cond, counted, decide, decide_own, Deck, Display, end_step, Event}
+use Rattle.grs_world.proofs.Common.{false, first_world, Fixed, fixed_by, fixing_none, happens, happens_at, has}
+use Rattle.grs_world.proofs.Common.{is_for_all, is_for_deck, is_of_deck, is_some, is_task, lines_of, List, LocalLook}
+use Rattle.grs_world.proofs.Common.{look_home, Mail, map, may_go, Meaning, MediumState, most_additions, nat_le}
+use Rattle.grs_world.proofs.Common.{NodeState, None, Nothing, Option, Phase, phase_step, placed, post, prepare}
+use Rattle.grs_world.proofs.Common.{Prepared, purged, put_in, Quiet, read_entries, read_entry, ready_step, Rec, refl}
+use Rattle.grs_world.proofs.Common.{res_wanted, RingBody, RingEntry, run, show, slice_get, Some, StarPart, StarStep}
+use Rattle.grs_world.proofs.Common.{state_of, Step, sym, SysId, take, take-none, take_line, take_mail, task_step}
+use Rattle.grs_world.proofs.Common.{TaskId, TasksView, took_mail, true, Turnout, unseen, Want, with_line, with_phase}
+use Rattle.grs_world.proofs.Common.{with_tasks, World, ℕ}
+use Rattle.std.specs.Prelude.{◌+◌, ◌++◌, length}
 use Rattle.grs_node.proofs.ReplyFits.{by-reply}
-use Rattle.grs_node.specs.Node.{NodeState, Step, ask, decide, end_step, is_for_deck, is_of_deck, look_home, may_go}
-use Rattle.grs_node.specs.Node.{phase_step, post, prepare, purged, put_in, read_entries, read_entry, ready_step, show}
-use Rattle.grs_node.specs.Node.{take_line, take_mail, task_step, took_mail, with_tasks}
-use Rattle.grs_node.specs.Star.{StarPart, StarStep, decide_own, fixing_none}
-use Rattle.grs_node.specs.declared.prepared.Prepared.{Prepared}
-use Rattle.grs_node.specs.declared.prepared.Prepared.TheVariants.{Quiet, Call, Nothing}
-use Rattle.grs_wire.specs.Masks.{has}
-use Rattle.grs_wire.specs.Wants.{res_wanted, is_for_all}
-use Rattle.grs_wire.specs.declared.deck.Choice.{Choice}
-use Rattle.grs_wire.specs.declared.deck.Deck.{Deck}
-use Rattle.grs_wire.specs.declared.deck.Event.{Event}
-use Rattle.grs_wire.specs.declared.medium.Mail.{Mail}
-use Rattle.grs_wire.specs.declared.medium.Mail.TheVariants as mails
-use Rattle.grs_wire.specs.declared.medium.RingBody.{RingBody}
-use Rattle.grs_wire.specs.declared.medium.RingBody.TheVariants as bodies
-use Rattle.grs_wire.specs.declared.medium.RingEntry.{RingEntry}
-use Rattle.grs_wire.specs.declared.request.Fixed.{Fixed}
-use Rattle.grs_wire.specs.declared.request.Fixed.TheVariants.{Asked, LocalLook}
-use Rattle.grs_wire.specs.declared.request.Want.{Want}
-use Rattle.grs_wire.specs.declared.request.Want.TheVariants as wants
-use Rattle.grs_wire.proofs.WantLaws.{by_test}
+use Rattle.grs_wire.specs.declared.request.Fixed.TheVariants.{Asked}
 use Rattle.task_state.proofs.ViewLaws.{state_of-same}
-use Rattle.task_state.specs.View.{TasksView, code_in, is_task, state_of, with_line, with_phase}
-use Rattle.task_state.specs.declared.state.Phase.{Phase}
-use Rattle.task_state.specs.declared.state.Phase.TheVariants as phases
-use Rattle.task_state.specs.declared.state.Rec.{Rec}
 use Rattle.grs_world.specs.Fixing.{EventFixes, acting, asks_for, at_once, fixed_alone, fixed_at_end, fixed_by_event}
 use Rattle.grs_world.specs.Fixing.{fixed_by_line, fixed_by_reply, fixed_by_task, fixed_in_phase, fixed_more}
 use Rattle.grs_world.specs.Fixing.{fixed_when_ready, held_first, one_request}
-use Rattle.grs_world.specs.World.{World, chosen, counted, first_world, fixed_by, happens, happens_at, placed, run}
-use Rattle.grs_world.specs.World.{Turnout}
 use Rattle.grs_world.proofs.run.Each.{run-push}
 use Rattle.grs_world.proofs.run.Came.{Acts, Came, Result, acted, already, began, by_itself, changed, decided, informed}
 use Rattle.grs_world.proofs.run.Came.{is_silent, last_turn, left, no_such, nothing, parted, removes_one, removes_star}
 use Rattle.grs_world.proofs.run.Came.{replied, result_of, sent, settled, skipped, told, took, turn, went_on}
-use Rattle.grs_base.specs.Limits.{most_additions}
-use Rattle.grs_wire.specs.Unseen.{unseen}
-use Rattle.grs_known.proofs.lists.Facts.{take-none}
 use Rattle.grs_world.proofs.run.Chosen.{came}
+use Rattle.grs_legal.specs.declared.meaning.Meaning.TheVariants as lines
+use Rattle.grs_wire.specs.declared.medium.Mail.TheVariants as mails
+use Rattle.grs_wire.specs.declared.medium.RingBody.TheVariants as bodies
+use Rattle.grs_wire.specs.declared.request.Want.TheVariants as wants
+use Rattle.task_state.specs.declared.state.Phase.TheVariants as phases
 
 -- ---- a task goes on
 by_ask : (n : NodeState) (t : TaskId) (w : Want) (unit : Option ℕ) → (ask n t w unit).fixed ≡ at_once t w

@@ -1,28 +1,20 @@
 -- Each system's table is that of a front of the history, as it is counted by what was fixed.
-use Rattle.std.proofs.Common.{◌≡◌, ◌-◌, not, cond, Bool, true, false, ℕ, zero, suc, List, [], ◌∷◌, ◌++◌, length, take}
-use Rattle.std.proofs.Common.{Option, Some, None, refl, ap, sym, ◌∙◌, subst, arith, append-nil, ne_eqb, append_assoc}
-use Rattle.std.specs.Prelude.{slice_get, unwrap_or, ◌==◌, is_none, nat_lt}
+use Rattle.grs_world.proofs.Common.{[], ◌++◌, ◌-◌, ◌==◌, ◌∙◌, ◌∷◌, ◌≡◌, after_fixed, and_parts, ap, append-nil}
+use Rattle.grs_world.proofs.Common.{append_assoc, arith, Bodies, Bool, cond, Deck, Event, false, first_number, FitsStar}
+use Rattle.grs_world.proofs.Common.{Fixed, fixed_entries, goes_round, has, is_live, is_none, IsHistory, items}
+use Rattle.grs_world.proofs.Common.{items-append, items_are_history, items_from, length, List, lists, live, lives}
+use Rattle.grs_world.proofs.Common.{may_be_star, nat_lt, NodeState, None, NoneInStar, not, not-true, Option, refl}
+use Rattle.grs_world.proofs.Common.{replay, RingEntry, rounds, run, RunItem, slice_get, Some, StarPart, State, subst}
+use Rattle.grs_world.proofs.Common.{suc, sym, SysId, table-is, take, true, unseen, unwrap_or, World, zero, ℕ}
+use Rattle.std.proofs.Common.{ne_eqb}
 use Rattle.std.proofs.Math.Seq.{take-append_seam}
-use Rattle.grs_base.specs.State.{State}
-use Rattle.grs_base.specs.declared.resource.SysId.{SysId}
-use Rattle.grs_node.specs.Node.{NodeState}
-use Rattle.grs_wire.specs.History.{replay, fixed_entries, after_fixed, answered}
-use Rattle.grs_wire.specs.declared.deck.Deck.{Deck}
-use Rattle.grs_wire.specs.declared.deck.Event.{Event}
-use Rattle.grs_wire.specs.declared.medium.RingEntry.{RingEntry}
-use Rattle.grs_wire.specs.declared.request.Fixed.{Fixed}
-use Rattle.grs_medium.specs.Medium.{live}
-use Rattle.rsa_message.specs.Message.{first_number}
-use Rattle.grs_wire.specs.Unseen.{unseen}
-use Rattle.grs_known.specs.Items.{RunItem, goes_round, rounds, lists, AllCount, items_from, items}
+use Rattle.grs_wire.specs.History.{answered}
+use Rattle.grs_known.specs.Items.{AllCount}
 use Rattle.grs_known.specs.Parts.{systems_part}
-use Rattle.grs_known.proofs.known.Histories.{items-append, count-front, IsHistory}
-use Rattle.grs_known.proofs.known.ItemLaws.{items_are_history, lists_are_replayed}
-use Rattle.grs_known.proofs.ring.Reading.{table-is}
-use Rattle.grs_world.specs.InStar.{NoneInStar}
+use Rattle.grs_known.proofs.known.Histories.{count-front}
+use Rattle.grs_known.proofs.known.ItemLaws.{lists_are_replayed}
 use Rattle.grs_world.specs.Tables.{before_number, processed, TablesAreFronts}
-use Rattle.grs_world.specs.World.{World, run}
-use Rattle.rsa_message.proofs.Stands.{Bodies, waits_live, first_number-seen}
+use Rattle.rsa_message.proofs.Stands.{waits_live, first_number-seen}
 use Rattle.grs_world.proofs.run.Growing.{fixeds}
 use Rattle.grs_world.proofs.run.InRing.{live-is}
 use Rattle.grs_world.proofs.run.Messages.{length-fixeds, given-due}
@@ -30,11 +22,6 @@ use Rattle.grs_world.proofs.run.Runs.{seen_at, GoodMessage}
 use Rattle.grs_world.proofs.move.Changing.{IsChanging, Shown, has_changed, waits_yet}
 use Rattle.grs_world.proofs.move.Moved.{alive}
 use Rattle.grs_world.proofs.move.Sound.{GoodRun, every_run, in_ring, in_star}
-use Rattle.grs_world.specs.Decks.{FitsStar, may_be_star}
-use Rattle.grs_world.specs.Running.{is_live}
-use Rattle.grs_node.specs.Star.{StarPart}
-use Rattle.grs_wire.specs.Masks.{has, lives}
-use Rattle.std.proofs.lemmas.Bool.{and_parts, not-true}
 use Rattle.grs_world.proofs.run.Site.{at_site}
 
 -- ---- fronts by number

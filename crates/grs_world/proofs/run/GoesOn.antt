@@ -1,20 +1,11 @@
 -- The message waits for no removed system.
-use Rattle.std.proofs.Common.{◌≡◌, ◌<◌, ℕ, zero, suc, Bool, true, List, [], ◌∷◌, length, ap, sym, ◌∙◌, arith}
-use Rattle.std.specs.Prelude.{Contains, slice_index_or}
-use Rattle.std.specs.List.{list_any}
-use Rattle.std.proofs.lemmas.Bool.{or_left, or_right}
-use Rattle.std.proofs.lemmas.List.{length-set}
-use Rattle.grs_base.specs.declared.resource.SysId.{SysId}
+use Rattle.grs_world.proofs.Common.{[], ◌<◌, ◌∙◌, ◌∷◌, ◌≡◌, any_unseen, ap, arith, Bool, chosen, Deck, Event}
+use Rattle.grs_world.proofs.Common.{first_world, has, is_live, is_unseen, length, length-set, List, list_any, lives}
+use Rattle.grs_world.proofs.Common.{or_left, or_right, placed, RingEntry, run, slice_index_or, suc, sym, SysId, true}
+use Rattle.grs_world.proofs.Common.{zero, ℕ}
+use Rattle.std.specs.Prelude.{Contains}
 use Rattle.grs_medium.specs.Apply.{is_live as medium_is_live}
-use Rattle.grs_wire.specs.Masks.{has, lives}
-use Rattle.grs_wire.specs.Unseen.{is_unseen}
-use Rattle.grs_wire.specs.declared.deck.Deck.{Deck}
-use Rattle.grs_wire.specs.declared.deck.Event.{Event}
-use Rattle.grs_wire.specs.declared.medium.RingEntry.{RingEntry}
-use Rattle.rsa_message.specs.Message.{any_unseen}
 use Rattle.grs_world.specs.Removing.{MessageGoesOn}
-use Rattle.grs_world.specs.Running.{is_live}
-use Rattle.grs_world.specs.World.{chosen, first_world, placed, run}
 use Rattle.grs_world.proofs.run.Each.{each_event, each_run}
 use Rattle.grs_world.proofs.run.InRing.{count_first}
 use Rattle.grs_world.proofs.run.Laps.{goes_on}

@@ -1,30 +1,14 @@
 -- What an event of a system fixes, behind the items of the run: the history goes on, and the other systems stand as
 -- they did.
-use Rattle.std.proofs.Common.{◌≡◌, ◌≢◌, cond, Bool, true, false, ℕ, List, [], ◌∷◌, ◌++◌, map, refl, ap, sym, ◌∙◌, subst}
-use Rattle.std.proofs.Common.{append-nil, append_assoc}
-use Rattle.std.specs.Prelude.{◌==◌}
-use Rattle.std.specs.List.{list_all}
-use Rattle.std.proofs.lemmas.Bool.{and_parts, eqb-true, eqb-false, or_parts}
-use Rattle.std.proofs.lemmas.List.Elements.{filter-append}
-use Rattle.std.proofs.lemmas.List.{map-append}
-use Rattle.grs_base.specs.Same.{same_task}
-use Rattle.grs_base.specs.declared.resource.SysId.{SysId}
-use Rattle.grs_base.specs.declared.resource.TaskId.{TaskId}
-use Rattle.grs_base.proofs.SameLaws.{same_task-exact}
-use Rattle.grs_node.specs.Node.{NodeState}
-use Rattle.grs_wire.specs.declared.deck.Deck.{Deck}
-use Rattle.grs_wire.specs.declared.request.Fixed.{Fixed}
+use Rattle.grs_world.proofs.Common.{[], ◌++◌, ◌==◌, ◌∙◌, ◌∷◌, ◌≡◌, ◌≢◌, a_look, a_removal, AllAsk, an_ask, and_parts}
+use Rattle.grs_world.proofs.Common.{ap, append-nil, append_assoc, askers, AsksOrRemoves, Bool, cond, Deck, eqb-false}
+use Rattle.grs_world.proofs.Common.{eqb-true, false, false_by, filter-append, filter-cons_left, Fixed, fixed_by}
+use Rattle.grs_world.proofs.Common.{goes_round, is_among, is_of, IsAsk, IsHistory, items, items-append, List, list_all}
+use Rattle.grs_world.proofs.Common.{made_item, map, map-append, mine, no_truth, NodeState, or_parts, own_asked}
+use Rattle.grs_world.proofs.Common.{own_requests, refl, Req, rounds, RunItem, same_task, same_task-exact, subst, sym}
+use Rattle.grs_world.proofs.Common.{SysId, TaskId, true, ℕ}
 use Rattle.grs_wire.specs.declared.request.Fixed.TheVariants.{Asked}
-use Rattle.grs_wire.specs.declared.request.Req.{Req}
-use Rattle.grs_known.specs.Items.{RunItem, is_of, goes_round, rounds, mine, items}
-use Rattle.grs_known.proofs.known.Histories.{IsAsk, AsksOrRemoves, an_ask, a_look, a_removal, AllAsk, IsHistory}
-use Rattle.grs_known.proofs.known.Histories.{made_item, items-append}
-use Rattle.grs_known.proofs.lists.Facts.{filter-cons_left}
-use Rattle.grs_known.proofs.lists.Owners.{is_among}
-use Rattle.grs_known.proofs.lists.Truths.{false_by, no_truth}
-use Rattle.grs_world.specs.World.{fixed_by}
 use Rattle.grs_world.proofs.system.AtNode.{Seen, MayFix, own_ask, own_look, fix-history, seen-fixed}
-use Rattle.grs_known.proofs.system.Says.{askers, own_asked, own_requests}
 
 -- what was fixed, without its entries
 abbrev pub fixeds : List RunItem → List Fixed

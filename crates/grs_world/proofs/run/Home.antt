@@ -1,33 +1,19 @@
 -- What holds of all that stands in the message, whichever systems are removed.
-use Rattle.std.proofs.Common.{◌≡◌, cond, Bool, true, false, ℕ, zero, suc, List, [], ◌∷◌, ◌++◌, length, map, take, Some}
-use Rattle.std.proofs.Common.{refl, sym, subst}
-use Rattle.std.specs.Prelude.{filter, slice_get, not, ◌==◌}
-use Rattle.std.specs.List.{list_all}
-use Rattle.std.proofs.lemmas.Bool.{and_parts, eqb-true}
-use Rattle.grs_base.specs.declared.resource.SysId.{SysId}
-use Rattle.grs_medium.specs.Medium.{live}
-use Rattle.grs_node.specs.Node.{NodeState}
-use Rattle.grs_base.specs.Limits.{most_additions}
-use Rattle.grs_wire.specs.Masks.{has, only}
-use Rattle.grs_wire.specs.declared.deck.Deck.{Deck}
-use Rattle.grs_wire.specs.declared.deck.Event.{Event}
-use Rattle.grs_wire.specs.declared.medium.RingBody.{RingBody}
-use Rattle.grs_wire.specs.declared.medium.RingBody.TheVariants.{Request, Remove}
-use Rattle.grs_wire.specs.declared.medium.RingEntry.{RingEntry}
-use Rattle.grs_wire.specs.declared.request.Req.{Req}
-use Rattle.grs_wire.proofs.WantLaws.{by_test}
-use Rattle.rsa_message.specs.Message.{Message, stands_at, opened, never_opened, left_by, cleared, dropped, stamped}
-use Rattle.rsa_message.specs.Message.{closed_by, departed, turned, turned_closed}
-use Rattle.grs_known.proofs.lists.Facts.{all-behind, take-none}
-use Rattle.grs_world.specs.World.{World, Turnout, placed, happens, run, first_world}
+use Rattle.grs_world.proofs.Common.{[], ◌++◌, ◌==◌, ◌∷◌, ◌≡◌, all-behind, and_parts, Bool, by_test, cleared, closed_by}
+use Rattle.grs_world.proofs.Common.{cond, Deck, departed, dropped, eqb-true, Event, false, filter, first_world}
+use Rattle.grs_world.proofs.Common.{FitsStar, happens, has, is_home_at, left_by, length, List, list_all, live, map}
+use Rattle.grs_world.proofs.Common.{may_be_star, Message, most_additions, never_opened, NodeState, opened, own_requests}
+use Rattle.grs_world.proofs.Common.{placed, refl, Remove, Req, Request, RingBody, RingEntry, run, slice_get, Some}
+use Rattle.grs_world.proofs.Common.{stamped, stands_at, subst, suc, sym, SysId, take, take-none, true, turned}
+use Rattle.grs_world.proofs.Common.{turned_closed, Turnout, World, zero, ℕ}
+use Rattle.std.specs.Prelude.{not}
+use Rattle.grs_wire.specs.Masks.{only}
 use Rattle.grs_world.proofs.run.Each.{each_run}
 use Rattle.grs_world.proofs.run.InRing.{CameInRing, IsRing, begins_ring, changed, each_in_ring, each_in_star, informed}
 use Rattle.grs_world.proofs.run.InRing.{is_ring, live-there, no_such, nothing, removes_one, turn, went_on}
 use Rattle.grs_world.proofs.run.Laps.{goes_on, turned_shut}
 use Rattle.grs_world.proofs.move.Sound.{ring_good}
-use Rattle.grs_world.specs.Decks.{FitsStar, may_be_star}
 use Rattle.grs_world.proofs.run.Runs.{GoodWorld}
-use Rattle.grs_known.proofs.system.Says.{is_home_at, own_requests}
 
 -- ---- what stands in the message
 -- A request of the message is of a task of the system that put it in.

@@ -1,46 +1,27 @@
 -- A run of a deck in ring mode, as long as nobody has changed the mode: no system has a part in star mode, and the
 -- message is open. Systems may be removed.
-use Rattle.std.proofs.Common.{◌≡◌, ◌+◌, ℕ, zero, suc, Bool, false, cond, List, [], ◌∷◌, take, Some, None, refl, ap, ◌∙◌}
-use Rattle.std.proofs.Common.{subst, length, sym, true, arith, ◌<◌, ◌^◌}
-use Rattle.std.specs.Prelude.{slice_get, nat_lt, replicate}
-use Rattle.grs_base.specs.declared.resource.SysId.{SysId}
-use Rattle.grs_medium.specs.Apply.{is_live, without_system}
-use Rattle.grs_medium.specs.Medium.{MediumState, awake, live}
-use Rattle.grs_node.specs.Removal.{members, without_those}
-use Rattle.grs_node.specs.Node.{known_from, losing, losing_in, stale}
-use Rattle.grs_node.specs.Node.{NodeState, Step, first_node, may_go, next_order, own_words, desk_told, purged, put_in}
-use Rattle.grs_node.specs.Node.{read_entries, switched, only, task_step}
-use Rattle.grs_base.specs.Limits.{most_additions}
-use Rattle.grs_node.specs.Star.{first_part}
-use Rattle.grs_wire.specs.declared.deck.Choice.{Choice}
-use Rattle.grs_wire.specs.declared.request.Req.{Req}
-use Rattle.grs_wire.specs.declared.deck.Deck.{Deck}
-use Rattle.grs_wire.specs.declared.deck.Event.{Event}
-use Rattle.grs_wire.specs.declared.deck.SystemDef.{SystemDef}
-use Rattle.grs_world.specs.World.{World, first_nodes, first_world, placed, happens, run, Turnout, counted}
+use Rattle.grs_world.proofs.Common.{[], ◌+◌, ◌<◌, ◌∙◌, ◌∷◌, ◌≡◌, and_parts, ap, arith, awake, Bool, by_test, Choice}
+use Rattle.grs_world.proofs.Common.{closed_by, cond, counted, Deck, departed, desk_told, dropped, Event, false}
+use Rattle.grs_world.proofs.Common.{first_node, first_nodes, first_number, first_part, first_world, happens, has}
+use Rattle.grs_world.proofs.Common.{has-live, known_from, length, length-set, lines_of, List, live, lives, losing}
+use Rattle.grs_world.proofs.Common.{losing_in, lt-ltb, ltb-true, may_go, MediumState, members, Message, most_additions}
+use Rattle.grs_world.proofs.Common.{nat_lt, never_opened, next_order, no_truth, NodeState, None, only, opened}
+use Rattle.grs_world.proofs.Common.{own_words, placed, Purged, purged, put_in, read_entries, refl, replicate, Req, run}
+use Rattle.grs_world.proofs.Common.{same_Some, slice_get, slice_get_within, Some, stale, stands_at, stays-task}
+use Rattle.grs_world.proofs.Common.{stays-turned, Step, subst, suc, switched, sym, SysId, SystemDef, take, task_step}
+use Rattle.grs_world.proofs.Common.{TaskId, true, turned, turned_closed, turned_open, Turnout, unseen, with_also}
+use Rattle.grs_world.proofs.Common.{without_system, without_those, World, zero, ℕ}
+use Rattle.std.proofs.Common.{◌^◌}
+use Rattle.grs_medium.specs.Apply.{is_live}
 use Rattle.grs_world.proofs.run.Runs.{by_node}
 use Rattle.grs_world.proofs.run.Each.{each_run}
-use Rattle.grs_world.proofs.run.Came as any
-use Rattle.grs_medium.proofs.LiveLaws.{has-live}
-use Rattle.std.proofs.lemmas.Bool.{lt-ltb, and_parts, ltb-true}
-use Rattle.std.proofs.lemmas.List.{length-set}
-use Rattle.std.proofs.lemmas.Option.{same_Some, slice_get_within}
-use Rattle.grs_wire.specs.declared.deck.Order.TheVariants as orders
-use Rattle.grs_wire.proofs.WantLaws.{by_test}
-use Rattle.grs_wire.specs.Masks.{has, lives, with_also}
-use Rattle.grs_wire.specs.declared.deck.Choice.TheVariants as choices
-use Rattle.grs_node.proofs.Keeping.{stays-task, stays-turned}
-use Rattle.grs_base.specs.declared.resource.TaskId.{TaskId}
-use Rattle.grs_wire.specs.declared.request.Fixed.TheVariants.{Purged}
-use Rattle.grs_wire.specs.declared.told.Said.TheVariants as saids
-use Rattle.rsa_message.specs.Message.{closed_by, dropped, first_number, stands_at, never_opened, turned, turned_closed}
-use Rattle.rsa_message.specs.Message.{turned_open, Message, departed, opened}
-use Rattle.grs_wire.specs.Unseen.{unseen}
-use Rattle.grs_legal.specs.Asks.{lines_of}
 use Rattle.grs_world.proofs.run.Came.{Came, acts-keep, no_part, Result}
-use Rattle.grs_known.proofs.lists.Truths.{no_truth}
 use Rattle.grs_world.proofs.run.Chosen.{each_came}
 use Rattle.std.proofs.lemmas.Nat.{or_lt, pow_below, pow_pos}
+use Rattle.grs_world.proofs.run.Came as any
+use Rattle.grs_wire.specs.declared.deck.Order.TheVariants as orders
+use Rattle.grs_wire.specs.declared.deck.Choice.TheVariants as choices
+use Rattle.grs_wire.specs.declared.told.Said.TheVariants as saids
 
 -- What holds of the medium and each system then.
 pub record IsRing (deck : Deck) (w : World) : Type 0 where

@@ -1,24 +1,10 @@
 -- What the systems keep is the history's state.
-use Rattle.std.proofs.Common.{◌≡◌, Bool, true, false, List, Option, Some, None, refl, ap, sym, ◌∙◌, arith}
-use Rattle.std.specs.Prelude.{slice_get}
-use Rattle.grs_base.specs.State.{list_of, is_systems}
-use Rattle.grs_base.specs.declared.resource.Res.{Res}
-use Rattle.grs_base.specs.declared.resource.SysId.{SysId}
-use Rattle.grs_node.specs.Node.{NodeState, read_entries}
-use Rattle.grs_wire.specs.History.{replay}
-use Rattle.grs_wire.specs.declared.deck.Deck.{Deck}
-use Rattle.grs_wire.specs.declared.deck.Event.{Event}
-use Rattle.grs_wire.specs.Masks.{has}
-use Rattle.grs_wire.specs.Unseen.{unseen}
-use Rattle.grs_known.specs.Items.{rounds, lists, items}
-use Rattle.grs_known.proofs.known.Histories.{replayed}
-use Rattle.grs_known.proofs.known.ItemLaws.{items_are_history}
+use Rattle.grs_world.proofs.Common.{◌∙◌, ◌≡◌, ap, arith, Bool, Deck, Event, false, has, is_live, is_systems, items}
+use Rattle.grs_world.proofs.Common.{items_are_history, List, list_of, lists, NodeState, None, Option, places}
+use Rattle.grs_world.proofs.Common.{read_entries, refl, replay, replayed, Res, rounds, run, slice_get, slice_get-past}
+use Rattle.grs_world.proofs.Common.{Some, sym, SysId, table-is, true, unseen, World}
 use Rattle.grs_known.proofs.ring.Parts.{list_of-systems}
-use Rattle.grs_known.proofs.ring.Reading.{table-is}
-use Rattle.grs_known.proofs.lists.Facts.{slice_get-past}
-use Rattle.grs_world.specs.Kept.{places, in_table, kept_in}
-use Rattle.grs_world.specs.Running.{is_live}
-use Rattle.grs_world.specs.World.{World, run}
+use Rattle.grs_world.specs.Kept.{in_table, kept_in}
 use Rattle.grs_medium.specs.Medium.{live as live_of}
 use Rattle.grs_world.proofs.run.InRing.{IsRing, live-is}
 use Rattle.grs_world.proofs.run.Messages.{given-later}

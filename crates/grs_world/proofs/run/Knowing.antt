@@ -1,28 +1,12 @@
 -- Whom a live system knows to be removed was removed.
-use Rattle.std.proofs.Common.{◌≡◌, ℕ, Bool, true, false, cond, List, [], ◌∷◌, length, take, Option, Some, None, refl}
-use Rattle.std.proofs.Common.{ap, sym, ◌∙◌}
-use Rattle.std.specs.Prelude.{slice_get, is_none}
-use native.Mathlib.Decide.{ℕ_discrete}
-use Rattle.grs_base.specs.Limits.{most_additions}
-use Rattle.grs_base.specs.declared.resource.SysId.{SysId}
-use Rattle.grs_legal.specs.Asks.{lines_of}
-use Rattle.grs_medium.specs.Medium.{MediumState}
-use Rattle.grs_node.specs.Node.{NodeState, changed as changed_now, change_to_star, desk_told, first_node, known_from}
-use Rattle.grs_node.specs.Node.{losing, losing_in, purged, read_entries, stale, switched}
-use Rattle.grs_node.specs.Removal.{members}
-use Rattle.grs_node.specs.Star.{StarPart}
-use Rattle.grs_node.proofs.Keeping.{stays-entries, stays-task, stays-turned}
-use Rattle.grs_wire.proofs.MaskLaws.{has-with_other, has-with_same, has-zero}
-use Rattle.grs_wire.proofs.WantLaws.{by_test}
-use Rattle.grs_wire.specs.Masks.{has, with_also}
-use Rattle.grs_wire.specs.Unseen.{unseen}
-use Rattle.grs_wire.specs.declared.deck.Choice.{Choice}
-use Rattle.grs_wire.specs.declared.deck.Choice.TheVariants as choices
-use Rattle.grs_wire.specs.declared.deck.Deck.{Deck}
-use Rattle.grs_wire.specs.declared.deck.Event.{Event}
-use Rattle.grs_wire.specs.declared.told.Said.TheVariants as saids
-use Rattle.grs_known.proofs.lists.Truths.{no_truth}
-use Rattle.grs_world.specs.World.{Turnout, World, first_world, placed, run}
+use Rattle.grs_world.proofs.Common.{[], ◌∙◌, ◌∷◌, ◌≡◌, ap, Bool, by_test, change_to_star, Choice, cond, Deck, desk_told}
+use Rattle.grs_world.proofs.Common.{Event, false, first_node, first_world, has, has-with_other, has-with_same, has-zero}
+use Rattle.grs_world.proofs.Common.{is_none, known_from, length, lines_of, List, losing, losing_in, MediumState}
+use Rattle.grs_world.proofs.Common.{members, most_additions, no_truth, NodeState, None, Option, placed, purged}
+use Rattle.grs_world.proofs.Common.{read_entries, refl, run, slice_get, Some, stale, StarPart, stays-task, stays-turned}
+use Rattle.grs_world.proofs.Common.{switched, sym, SysId, take, true, Turnout, unseen, with_also, World, ℕ, ℕ_discrete}
+use Rattle.grs_node.specs.Node.{changed as changed_now}
+use Rattle.grs_node.proofs.Keeping.{stays-entries}
 use Rattle.grs_world.proofs.run.Came.{Came, Result, acted, acts-keep, already, changed, informed, last_turn, no_such}
 use Rattle.grs_world.proofs.run.Came.{nothing, removes_one, removes_star, turn, went_on, Acts, began, decided, left}
 use Rattle.grs_world.proofs.run.Came.{parted, sent, settled, told, took}
@@ -30,6 +14,8 @@ use Rattle.grs_world.proofs.run.Chosen.{each_came}
 use Rattle.grs_world.proofs.run.Each.{each_run}
 use Rattle.grs_world.proofs.run.Runs.{by_node}
 use Rattle.grs_world.proofs.run.Sound.{first_of}
+use Rattle.grs_wire.specs.declared.deck.Choice.TheVariants as choices
+use Rattle.grs_wire.specs.declared.told.Said.TheVariants as saids
 
 abbrev pub KnowsRemoved : MediumState → NodeState → Type 0
 KnowsRemoved m n = (u : ℕ) → has n.known u ≡ true → has m.removed u ≡ true

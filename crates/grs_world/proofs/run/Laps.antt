@@ -1,58 +1,39 @@
 -- A request comes back last: the message goes round in each world that a run reaches, so what an event gives a system
 -- of its own is left to it alone.
-use Rattle.std.proofs.Common.{ℕ, ◌≡◌, ◌<◌, not, Bool, true, false, cond, ◌&&◌, List, [], ◌∷◌, ◌++◌, length, Option}
-use Rattle.std.proofs.Common.{Some, None, refl, sym, ap, subst, arith, ◌∙◌}
-use Rattle.std.specs.Prelude.{◌≢◌, slice_get, take, nat_lt}
-use Rattle.std.proofs.lemmas.Bool.{and_parts, and_right, ltb-true}
-use Rattle.grs_base.specs.declared.resource.SysId.{SysId}
-use Rattle.grs_wire.specs.Masks.{has, others, with_also}
-use Rattle.grs_wire.proofs.MaskLaws.{has-with_same, has-with_other}
-use Rattle.grs_wire.specs.declared.deck.Deck.{Deck}
-use Rattle.grs_wire.specs.declared.deck.Event.{Event}
-use Rattle.grs_wire.specs.declared.medium.Act.{Act}
+use Rattle.grs_world.proofs.Common.{[], ◌&&◌, ◌++◌, ◌<◌, ◌∙◌, ◌∷◌, ◌≡◌, Act, and_parts, and_right, any_unseen, ap}
+use Rattle.grs_world.proofs.Common.{arith, Bool, by_test, Call, Choice, closed_by, cond, Deck, departed, dropped, Event}
+use Rattle.grs_world.proofs.Common.{false, first_medium, first_number, first_world, happens, has, has-live}
+use Rattle.grs_world.proofs.Common.{has-with_other, has-with_same, inbox, interest, leave_reply, leave_row, length}
+use Rattle.grs_world.proofs.Common.{List, live, ltb-true, Mail, mail_row, medium_at_end, MediumState, Message}
+use Rattle.grs_world.proofs.Common.{most_additions, nat_lt, never_opened, no_truth, NodeState, None, not, Nothing}
+use Rattle.grs_world.proofs.Common.{opened, Option, placed, prepare, Prepared, purge_row, Quiet, refl, Reply, Req}
+use Rattle.grs_world.proofs.Common.{Request, rest_row, RingEntry, route, row, run, slice_get, Some, stands_at}
+use Rattle.grs_world.proofs.Common.{submit_row, subst, switch_row, sym, SysId, take_row, true, turn_reply, turn_row}
+use Rattle.grs_world.proofs.Common.{turned, turned_closed, turned_open, Turnout, unseen, WaitsForLive, with_also}
+use Rattle.grs_world.proofs.Common.{without_system, without_target, World, ℕ}
+use Rattle.std.specs.Prelude.{◌≢◌, take}
+use Rattle.grs_wire.specs.Masks.{others}
 use Rattle.grs_wire.specs.declared.medium.Act.TheVariants.{Turn, Rest, Switch, Submit, Take, Settle, Tell, Leave, Purge}
-use Rattle.grs_wire.specs.declared.medium.Reply.TheVariants.{Turned, NotYours, Resting, Over, Already, Kept}
-use Rattle.grs_wire.specs.declared.medium.Reply.TheVariants.{Left, NoSuch, Purged, Yours, Old}
-use Rattle.grs_wire.specs.declared.medium.RingBody.TheVariants.{Request}
-use Rattle.grs_wire.specs.declared.medium.RingEntry.{RingEntry}
-use Rattle.grs_wire.specs.declared.request.Req.{Req}
-use Rattle.grs_wire.proofs.WantLaws.{by_test}
-use Rattle.rsa_message.specs.Message.{Message, stands_at, opened, never_opened, turn_reply, turned, turned_open}
-use Rattle.rsa_message.specs.Message.{turned_closed, any_unseen, closed_by, departed, dropped, first_number}
-use Rattle.grs_wire.specs.Unseen.{unseen}
+use Rattle.grs_wire.specs.declared.medium.Reply.TheVariants.{Turned, NotYours, Resting, Over, Already, Kept, Left}
+use Rattle.grs_wire.specs.declared.medium.Reply.TheVariants.{NoSuch, Purged, Yours, Old}
 use Rattle.rsa_message.proofs.OrderLaws.{stands_at-exact}
-use Rattle.grs_medium.specs.Medium.{MediumState, first_medium, live, all_rest, medium_at_end, inbox, word}
-use Rattle.grs_medium.specs.Apply.{turn_row, resting, rest_row, row, is_live, is_noticed, leave_row, mail_row, manages}
-use Rattle.grs_medium.specs.Apply.{notice_reply, purge_row, submit_on}
-use Rattle.grs_medium.specs.Apply.{submit_row, switch_ring, switch_row, take_from, take_row, without_system}
-use Rattle.grs_medium.specs.Apply.{without_target}
-use Rattle.grs_node.specs.Node.{NodeState, prepare}
-use Rattle.grs_base.specs.Limits.{most_additions}
+use Rattle.grs_medium.specs.Medium.{all_rest, word}
+use Rattle.grs_medium.specs.Apply.{resting, is_live, is_noticed, manages, notice_reply, submit_on, switch_ring}
+use Rattle.grs_medium.specs.Apply.{take_from}
 use Rattle.grs_world.proofs.run.Each.{each_answer, each_run}
 use Rattle.grs_world.specs.Laps.{OnlyLeft, ComesBackLast, given_by, given_when, given_at, ProcessedLast}
-use Rattle.grs_world.specs.World.{World, first_world, placed, happens, run, Turnout}
 use Rattle.grs_world.proofs.message.LapsMessage.{Round, left_at_home, last_at_home, unseen_awaited, closed_round}
 use Rattle.grs_world.proofs.message.LapsMessage.{closed_turn, departed_round, dropped_round, none_unseen, open_round}
 use Rattle.grs_medium.proofs.GoesOn.{masks_of}
-use Rattle.grs_medium.proofs.LiveLaws.{has-live}
-use Rattle.grs_medium.specs.GoesOn.{WaitsForLive}
 use Rattle.grs_world.proofs.run.Waits.{run_waits}
-use Rattle.grs_wire.specs.declared.medium.Mail.{Mail}
-use Rattle.grs_wire.specs.declared.medium.Reply.{Reply}
-use Rattle.grs_wire.specs.LockWords.{interest, is_kept, leave_reply}
-use Rattle.lock_structure.specs.Words.{route}
+use Rattle.grs_wire.specs.LockWords.{is_kept}
 use Rattle.lock_structure.specs.declared.word.Route.{Route}
-use Rattle.lock_structure.specs.declared.word.Route.TheVariants as routes
-use Rattle.grs_node.specs.declared.prepared.Prepared.{Prepared}
-use Rattle.grs_node.specs.declared.prepared.Prepared.TheVariants.{Call, Nothing, Quiet}
-use Rattle.grs_world.proofs.run.InRing.{CameInRing, IsRing, changed, each_in_ring, informed, is_ring}
-use Rattle.grs_world.proofs.run.InRing.{live-there}
+use Rattle.grs_world.proofs.run.InRing.{CameInRing, IsRing, changed, each_in_ring, informed, is_ring, live-there}
 use Rattle.grs_world.proofs.run.InRing.{no_such, nothing, removes_one, star-stays, turn, went_on}
-use Rattle.grs_world.proofs.run.Came as any
 use Rattle.grs_world.proofs.run.Came.{Came, Result, acts-keep}
 use Rattle.grs_world.proofs.run.Chosen.{each_came}
-use Rattle.grs_known.proofs.lists.Truths.{no_truth}
-use Rattle.grs_wire.specs.declared.deck.Choice.{Choice}
+use Rattle.lock_structure.specs.declared.word.Route.TheVariants as routes
+use Rattle.grs_world.proofs.run.Came as any
 
 -- This holds of the medium in a run of so many systems.
 pub record Goes (count : ℕ) (m : MediumState) : Type 0 where

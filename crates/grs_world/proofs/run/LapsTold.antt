@@ -1,67 +1,38 @@
 -- An answer is told last: by an event that tells a task an answer, every other system has processed its requests, and
 -- the event puts no request of that task in.
-use Rattle.std.proofs.Common.{◌≡◌, ◌+◌, cond, Bool, true, false, ◌||◌, ℕ, List, [], ◌∷◌, ◌++◌, length, take, drop, Some}
-use Rattle.std.proofs.Common.{None, refl, ap, sym, ◌∙◌, subst, append-nil, arith}
-use Rattle.std.specs.Prelude.{slice_get, ◌==◌, nat_lt}
-use Rattle.std.specs.List.{list_all, list_any}
-use Rattle.std.proofs.lemmas.Bool.{and_parts, eqb-true, eq-eqb, lt-ltb, or_left, or_right}
-use Rattle.std.proofs.Math.Seq.{drop-append_seam}
-use Rattle.std.proofs.lemmas.List.Elements.{filter-append}
-use Rattle.grs_base.specs.Same.{same_task}
-use Rattle.grs_base.specs.declared.resource.SysId.{SysId}
-use Rattle.grs_base.specs.declared.resource.TaskId.{TaskId}
-use Rattle.grs_base.proofs.SameLaws.{same_task-exact, same_task-itself}
-use Rattle.grs_node.specs.Node.{NodeState, Step, put_in, read_entries}
-use Rattle.grs_base.specs.Limits.{most_additions}
-use Rattle.grs_wire.specs.Masks.{has}
-use Rattle.grs_wire.specs.declared.deck.Deck.{Deck}
-use Rattle.grs_wire.specs.declared.deck.Event.{Event}
-use Rattle.grs_wire.specs.declared.history.HistEntry.{HistEntry}
-use Rattle.grs_wire.specs.declared.medium.RingBody.{RingBody}
-use Rattle.grs_wire.specs.declared.medium.RingBody.TheVariants.{Request}
-use Rattle.grs_wire.specs.declared.medium.RingEntry.{RingEntry}
-use Rattle.grs_wire.specs.declared.request.Fixed.{Fixed}
-use Rattle.grs_wire.specs.declared.request.Fixed.TheVariants.{Asked, LocalLook, Purged}
-use Rattle.grs_wire.specs.declared.request.Req.{Req}
-use Rattle.grs_wire.specs.declared.told.ToldLine.{ToldLine}
-use Rattle.grs_wire.specs.declared.told.ToldLine.TheVariants as lines
-use Rattle.grs_medium.specs.Medium.{live, MediumState}
-use Rattle.rsa_message.specs.Message.{Message, departed, stands_at}
-use Rattle.grs_wire.specs.Unseen.{is_unseen, unseen}
+use Rattle.grs_world.proofs.Common.{[], ◌++◌, ◌+◌, ◌==◌, ◌||◌, ◌∙◌, ◌∷◌, ◌≡◌, among-front, and_parts, ap, append-nil}
+use Rattle.grs_world.proofs.Common.{arith, askers, Bodies, Bool, Choice, cond, counted, Deck, departed, drop}
+use Rattle.grs_world.proofs.Common.{drop-append_seam, entries_some, eq-eqb, eqb-true, Event, false, filter-append}
+use Rattle.grs_world.proofs.Common.{filter-cons_kept, first_world, FitsStar, Fixed, fixed_by, happens, has, has-live}
+use Rattle.grs_world.proofs.Common.{HistEntry, history, is_among, is_line_of, is_unseen, IsHistory, items, length, List}
+use Rattle.grs_world.proofs.Common.{list_all, list_any, live, LocalLook, lt-ltb, may_be_star, MediumState, Message}
+use Rattle.grs_world.proofs.Common.{most_additions, nat_lt, no_truth, NodeState, None, or_left, or_other, or_right}
+use Rattle.grs_world.proofs.Common.{own_asked, own_requests, placed, Purged, put_in, read_entries, refl, Req, Request}
+use Rattle.grs_world.proofs.Common.{RingBody, RingEntry, run, RunItem, Said, same_task, same_task-exact}
+use Rattle.grs_world.proofs.Common.{same_task-itself, slice_get, slice_get_within, Some, stands_at, StarPart, Step}
+use Rattle.grs_world.proofs.Common.{subst, sym, SysId, take, TaskId, Told, told, told_by, ToldBy, ToldLine, ToldNews}
+use Rattle.grs_world.proofs.Common.{true, Turnout, unseen, World, ℕ}
+use Rattle.grs_wire.specs.declared.request.Fixed.TheVariants.{Asked}
 use Rattle.rsa_message.proofs.OrderLaws.{stands_at-exact}
-use Rattle.grs_known.specs.Items.{RunItem, items, history}
-use Rattle.grs_known.proofs.lists.Facts.{filter-cons_kept}
-use Rattle.grs_known.proofs.lists.Owners.{is_among}
-use Rattle.grs_known.proofs.lists.Truths.{no_truth, or_other}
 use Rattle.grs_world.specs.Laps.{LeftHome, answers, AnsweredLast}
-use Rattle.grs_world.specs.World.{World, Turnout, told_by, placed, happens, run, told, first_world, counted, fixed_by}
 use Rattle.grs_world.proofs.message.LapsMessage.{EndsAtHome, AllEndAtHome, left_at_home}
-use Rattle.rsa_message.proofs.Stands.{Bodies, body_of}
-use Rattle.rsa_message.proofs.Stands as stands
+use Rattle.rsa_message.proofs.Stands.{body_of}
 use Rattle.grs_world.proofs.run.Answered.{Answered, answered-by, left_turned, left_behind}
 use Rattle.grs_world.proofs.run.Growing.{fixeds}
 use Rattle.grs_world.proofs.run.Laps.{goes}
 use Rattle.grs_world.proofs.run.Messages.{given-later}
-use Rattle.grs_known.proofs.told.News.{told-fewer, ToldNews}
+use Rattle.grs_known.proofs.told.News.{told-fewer}
 use Rattle.grs_world.proofs.run.Outcomes.{turn_told}
 use Rattle.grs_world.proofs.run.Runs.{GoodWorld}
 use Rattle.grs_world.proofs.run.Each.{run-push}
-use Rattle.grs_known.proofs.system.Askers.{among-front, askers-append}
-use Rattle.grs_world.proofs.system.AtNode.{QuietStep, keeps, fixes}
+use Rattle.grs_known.proofs.system.Askers.{askers-append}
+use Rattle.grs_world.proofs.system.AtNode.{QuietStep, keeps, fixes, Seen}
 use Rattle.grs_world.proofs.system.Quiet.{quiet}
-use Rattle.grs_known.proofs.system.Says.{ToldBy, askers, own_asked, own_requests, is_line_of}
 use Rattle.grs_world.proofs.run.Home.{IsHome, AllHome, all_home}
 use Rattle.grs_world.proofs.run.Desks.{EventTells, tells_already, tells_done, tells_no_such, tells_removed, tells_tasks}
 use Rattle.grs_world.proofs.move.Begin.{switched-moved}
 use Rattle.grs_world.proofs.move.Decks.{order-may}
 use Rattle.grs_world.proofs.system.Desks.{desk-told}
-use Rattle.grs_world.specs.Decks.{FitsStar, may_be_star}
-use Rattle.grs_wire.proofs.DeckLaws.{entries_some}
-use Rattle.grs_wire.specs.declared.told.Said.{Said}
-use Rattle.grs_wire.specs.declared.told.Said.TheVariants as saids
-use Rattle.grs_wire.specs.declared.told.Told.{Told}
-use Rattle.std.proofs.lemmas.Option.{slice_get_within}
-use Rattle.grs_world.proofs.run.Came as any
 use Rattle.grs_world.proofs.run.Came.{Came, Result, acts-keep, no_part}
 use Rattle.grs_world.proofs.run.Chosen.{each_came}
 use Rattle.grs_world.proofs.run.GoesOn.{as_many}
@@ -72,14 +43,13 @@ use Rattle.grs_world.proofs.run.OwnLines.{TellsOwn, is_own, tells_own}
 use Rattle.grs_world.proofs.gather.Unchanged.{Meets, by_itself, has_changed, meets_run}
 use Rattle.grs_world.proofs.move.Sound.{ring_good}
 use Rattle.grs_world.proofs.at_rest.Homes.{homes_run}
-use Rattle.grs_medium.proofs.LiveLaws.{has-live}
-use Rattle.grs_node.specs.Star.{StarPart}
-use Rattle.grs_wire.specs.declared.deck.Choice.{Choice}
-use Rattle.grs_known.proofs.known.Histories.{IsHistory}
-use Rattle.grs_world.proofs.system.AtNode.{Seen}
 use Rattle.grs_world.proofs.run.Knowing.{known_run}
 use Rattle.grs_world.proofs.run.Removals.{taken_out}
 use Rattle.grs_world.proofs.run.Sound.{removed-told}
+use Rattle.grs_wire.specs.declared.told.ToldLine.TheVariants as lines
+use Rattle.rsa_message.proofs.Stands as stands
+use Rattle.grs_wire.specs.declared.told.Said.TheVariants as saids
+use Rattle.grs_world.proofs.run.Came as any
 
 -- ---- the entries of the message, one of them
 home_of : (before behind : List RingEntry) (e : RingEntry) → AllHome (before ++ e ∷ behind) → IsHome e.from e.body

@@ -1,37 +1,20 @@
 -- What stays so of a system's tasks and of its part when it loses removed systems, takes a notice, or a part of an
 -- entry: what each step of these keeps.
-use Rattle.std.proofs.Common.{◌≡◌, ℕ, zero, suc, ◌&&◌, List, [], ◌∷◌, ◌++◌, length, Option, Some, None}
-use Rattle.std.proofs.Common.{ap, ◌∙◌, append_assoc}
-use Rattle.std.specs.Prelude.{◌==◌}
+use Rattle.grs_world.proofs.Common.{[], ◌&&◌, ◌++◌, ◌==◌, ◌∙◌, ◌∷◌, ◌≡◌, ap, append_assoc, by_test, C00, Deck, has}
+use Rattle.grs_world.proofs.Common.{is_held_for, is_leaving, is_news, is_task, length, List, lose, lose_all, lose_each}
+use Rattle.grs_world.proofs.Common.{losing, losing_in, move_each, move_entry, Moved, names_of, NodeState, None, Option}
+use Rattle.grs_world.proofs.Common.{PartRec, passes_wait, Phase, Rec, record_of, Res, sent_again, Some, Standing}
+use Rattle.grs_world.proofs.Common.{standing, StarPart, state_of, suc, SysId, take_up, take_up_all, take_up_below}
+use Rattle.grs_world.proofs.Common.{TaskId, TasksView, tell_control, tell_each, tell_line, tell_untold, telling}
+use Rattle.grs_world.proofs.Common.{told-state, told-telling, ToldLine, with_phase, with_role, with_told, zero, ℕ}
 use Rattle.contention_mgr.specs.Installs.{own_owners}
 use Rattle.contention_mgr.specs.Loses.{gained}
-use Rattle.grs_base.specs.declared.resource.Res.{Res}
-use Rattle.grs_base.specs.declared.resource.SysId.{SysId}
-use Rattle.grs_base.specs.declared.resource.TaskId.{TaskId}
-use Rattle.grs_node.specs.Names.{names_of}
-use Rattle.grs_node.specs.Node.{NodeState, losing, losing_in}
-use Rattle.grs_node.specs.Removal.{Standing, installing, is_news, lose, lose_all, lose_each, move_each, move_entry}
-use Rattle.grs_node.specs.Removal.{sent_again, standing, take_up, take_up_all, take_up_below, took_notice, took_part}
-use Rattle.grs_node.specs.Removal.{with_role}
-use Rattle.grs_node.specs.Star.{StarPart}
-use Rattle.grs_wire.specs.Masks.{has}
-use Rattle.grs_wire.specs.declared.deck.Deck.{Deck}
-use Rattle.grs_wire.specs.declared.gather.Moved.{Moved}
-use Rattle.grs_wire.specs.declared.gather.PartRec.{PartRec}
-use Rattle.grs_wire.specs.declared.told.ToldLine.{ToldLine}
+use Rattle.grs_node.specs.Removal.{installing, took_notice, took_part}
+use Rattle.system_purge.specs.Gathers.{is_complete, with_part_at}
+use Rattle.task_state.specs.Replies.{is_held}
 use Rattle.grs_wire.specs.declared.told.ToldLine.TheVariants as lines
 use Rattle.grs_wire.specs.declared.told.Verb.TheVariants as verbs
-use Rattle.grs_base.specs.declared.decision.Code.TheVariants.{C00}
-use Rattle.grs_wire.proofs.WantLaws.{by_test}
-use Rattle.system_purge.specs.Gathers.{is_complete, with_part_at}
-use Rattle.system_purge.specs.Purge.{tell_each}
-use Rattle.task_state.proofs.ViewLaws.{told-state, told-telling}
-use Rattle.task_state.specs.Replies.{is_held, is_held_for, is_leaving, passes_wait, tell_control, tell_line}
-use Rattle.task_state.specs.Replies.{tell_untold}
-use Rattle.task_state.specs.View.{TasksView, is_task, record_of, state_of, telling, with_phase, with_told}
-use Rattle.task_state.specs.declared.state.Phase.{Phase}
 use Rattle.task_state.specs.declared.state.Phase.TheVariants as phases
-use Rattle.task_state.specs.declared.state.Rec.{Rec}
 
 -- ---- the tasks of a system with its part
 module _ (P : Standing → Type 0) (up : (names : List TaskId) (x : Standing) (e : ℕ) → P x → P (take_up names x e)) where

@@ -1,26 +1,15 @@
 -- What a call leaves of what the message has to hold.
-use Rattle.std.proofs.Common.{◌≡◌, ◌≢◌, ◌≤◌, ◌<◌, ◌+◌, ◌-◌, cond, Bool, true, false, eqb, leb, ◌&&◌, ℕ, suc, List, []}
-use Rattle.std.proofs.Common.{◌∷◌, ◌++◌, length, map, drop, refl, ap, sym, ◌∙◌, subst, arith, append-nil, length-append}
-use Rattle.std.proofs.lemmas.Bool.{eqb-true}
-use Rattle.std.proofs.Math.Seq.{drop-append_seam}
-use Rattle.std.proofs.lemmas.List.{map-append}
-use Rattle.grs_base.specs.declared.resource.SysId.{SysId}
-use Rattle.grs_medium.specs.Medium.{MediumState, live}
-use Rattle.grs_wire.specs.Masks.{has}
-use Rattle.grs_wire.specs.declared.medium.RingEntry.{RingEntry}
-use Rattle.grs_wire.specs.declared.request.Fixed.{Fixed}
-use Rattle.grs_wire.specs.declared.medium.RingBody.TheVariants.{Remove}
-use Rattle.grs_wire.specs.declared.request.Fixed.TheVariants.{Asked, Purged}
-use Rattle.grs_wire.specs.declared.request.Req.{Req}
-use Rattle.rsa_message.specs.Message.{Message, turned_open, cleared, dropped, stamped}
-use Rattle.grs_wire.specs.Unseen.{unseen}
+use Rattle.grs_world.proofs.Common.{[], ◌&&◌, ◌++◌, ◌+◌, ◌-◌, ◌<◌, ◌∙◌, ◌∷◌, ◌≡◌, ◌≢◌, ◌≤◌, ap, append-nil, arith}
+use Rattle.grs_world.proofs.Common.{Bodies, Bool, cleared, cond, drop, drop-append_seam, dropped, eqb-true, false}
+use Rattle.grs_world.proofs.Common.{Fixed, has, length, length-append, List, live, map, map-append, MediumState}
+use Rattle.grs_world.proofs.Common.{Message, Purged, put_at, put_here, put_other, refl, Remove, Req, RingEntry, rounds}
+use Rattle.grs_world.proofs.Common.{RunItem, stamped, subst, suc, sym, SysId, true, turned_open, unseen, ℕ}
+use Rattle.std.proofs.Common.{eqb, leb}
+use Rattle.grs_wire.specs.declared.request.Fixed.TheVariants.{Asked}
 use Rattle.grs_world.proofs.run.Runs.{GoodMessage, seen_at, message_log}
-use Rattle.rsa_message.proofs.Stands.{Stands, none, gone, kept, Bodies, Stands-cleared, Stands-append}
-use Rattle.rsa_message.proofs.Stands.{Stands-stamped, unseen-drop, waits_for, waits_new, waits_seen, waits_live}
+use Rattle.rsa_message.proofs.Stands.{Stands, none, gone, kept, Stands-cleared, Stands-append, Stands-stamped}
+use Rattle.rsa_message.proofs.Stands.{unseen-drop, waits_for, waits_new, waits_seen, waits_live}
 use Rattle.grs_world.proofs.run.Growing.{fixeds}
-use Rattle.grs_known.specs.Items.{RunItem, rounds}
-use Rattle.grs_known.specs.Parts.{put_at}
-use Rattle.grs_known.proofs.lists.Placed.{put_here, put_other}
 
 Stands-same : (U V : ℕ → ℕ → Bool) → ((j s : ℕ) → U j s ≡ V j s) → {k : ℕ} {qs : List Fixed} {es : List RingEntry}
     → Stands U k qs es → Stands V k qs es

@@ -1,19 +1,11 @@
 -- Each told line is of an event, and of that event's system.
-use Rattle.std.proofs.Common.{◌≡◌, ◌+◌, ◌-◌, true, ℕ, List, [], ◌∷◌, ◌++◌, length, Option, Some, None, refl, ap, sym}
-use Rattle.std.proofs.Common.{◌∙◌, subst, arith, length-append}
-use Rattle.std.specs.Prelude.{slice_get, nat_lt}
-use Rattle.std.specs.List.{list_all}
-use Rattle.std.proofs.lemmas.Bool.{and_parts, eq-eqb, lt-ltb, and_from}
-use Rattle.std.proofs.lemmas.List.Folds.{list_all-append}
-use Rattle.grs_node.specs.Node.{NodeState}
-use Rattle.grs_wire.specs.declared.deck.Deck.{Deck}
-use Rattle.grs_wire.specs.declared.deck.Event.{Event}
-use Rattle.grs_wire.specs.declared.told.Told.{Told}
-use Rattle.grs_wire.specs.declared.told.ToldLine.{ToldLine}
+use Rattle.grs_world.proofs.Common.{[], ◌++◌, ◌+◌, ◌-◌, ◌∙◌, ◌∷◌, ◌≡◌, all-kept, and_from, and_parts, ap, arith, chosen}
+use Rattle.grs_world.proofs.Common.{counted, Deck, eq-eqb, Event, first_world, happens, length, length-append, List}
+use Rattle.grs_world.proofs.Common.{list_all, list_all-append, lt-ltb, nat_lt, NodeState, None, Option, placed, refl}
+use Rattle.grs_world.proofs.Common.{run, slice_get, Some, subst, sym, Told, told_by, told_in, ToldLine, true, Turnout}
+use Rattle.grs_world.proofs.Common.{World, ℕ}
 use Rattle.grs_world.specs.Agree.{is_event_of, is_of_event}
-use Rattle.grs_world.specs.World.{World, Turnout, told_by, chosen, counted, placed, happens, run, first_world}
-use Rattle.grs_node.specs.Log.{told_in}
-use Rattle.grs_known.proofs.lists.Facts.{all-kept, slice_get-append, slice_get-end}
+use Rattle.grs_known.proofs.lists.Facts.{slice_get-append, slice_get-end}
 use Rattle.grs_world.proofs.run.Each.{each_event, each_run}
 
 -- A line of an event is one of it behind further events too.

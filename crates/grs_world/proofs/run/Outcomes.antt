@@ -1,24 +1,15 @@
 -- What an event of one system adds to the run, and where the system stands afterwards.
-use Rattle.std.proofs.Common.{◌≡◌, ℕ, List, [], ◌∷◌, ◌++◌, map, take, drop, refl, ap, sym, ◌∙◌, subst, append-nil}
-use Rattle.std.proofs.Common.{append_assoc, take-append-drop}
-use Rattle.std.specs.List.{list_all}
-use Rattle.grs_base.specs.declared.resource.SysId.{SysId}
-use Rattle.grs_node.specs.Node.{NodeState, Step, read_entries, put_in}
-use Rattle.grs_wire.specs.declared.deck.Deck.{Deck}
-use Rattle.grs_wire.specs.declared.medium.RingEntry.{RingEntry}
-use Rattle.grs_wire.specs.declared.request.Fixed.{Fixed}
+use Rattle.grs_world.proofs.Common.{[], ◌++◌, ◌∙◌, ◌∷◌, ◌≡◌, all-behind, AllAsk, ap, append-nil, append_assoc}
+use Rattle.grs_world.proofs.Common.{asks-behind, Bodies, Deck, drop, filter-cons_left, Fixed, goes_round, history}
+use Rattle.grs_world.proofs.Common.{IsHistory, List, list_all, lists, made_item, map, NodeState, own_requests, put_in}
+use Rattle.grs_world.proofs.Common.{read_entries, refl, RingEntry, rounds, RunItem, Step, still-told, subst, sym, SysId}
+use Rattle.grs_world.proofs.Common.{take, take-append-drop, told-news, ToldBy, ToldNews, ℕ}
 use Rattle.grs_wire.specs.declared.request.Fixed.TheVariants.{Asked}
-use Rattle.grs_known.specs.Items.{RunItem, goes_round, rounds, lists, history}
-use Rattle.grs_known.proofs.known.Histories.{AllAsk, IsHistory, made_item, asks-behind}
-use Rattle.grs_known.proofs.lists.Facts.{all-behind, filter-cons_left}
-use Rattle.rsa_message.proofs.Stands.{Bodies}
 use Rattle.grs_world.proofs.run.Growing.{fixeds, Grows, same, more, grows-history, grows-rounds, asks-rounds}
-use Rattle.grs_known.proofs.told.News.{ToldNews, told-news, still-told}
 use Rattle.grs_world.proofs.run.Putting.{PutIn, put-all}
 use Rattle.grs_world.proofs.run.Reading.{read_all, read-entries, all-rounds, ReadTo, reading}
 use Rattle.grs_world.proofs.system.AtNode.{Seen, QuietStep, keeps, fixes}
 use Rattle.grs_world.proofs.system.Puts.{put, put_told}
-use Rattle.grs_known.proofs.system.Says.{own_requests, ToldBy}
 
 -- What an event of a system comes to: what it fixed, of which this went with the message; where the system stands; and
 -- what was told.

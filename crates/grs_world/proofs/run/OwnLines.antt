@@ -1,89 +1,48 @@
 -- What a system tells its tasks in an event it tells tasks of its own, whatever the event is and whatever the medium
 -- replies. It needs nothing of the run.
-use Rattle.std.proofs.Common.{◌≡◌, ◌+◌, ℕ, zero, suc, Bool, true, false, cond, ◌&&◌, List, [], ◌∷◌, ◌++◌, length, take}
-use Rattle.std.proofs.Common.{Option, Some, None, refl, ap, sym, ◌∙◌, append-nil, append_assoc}
-use Rattle.std.specs.Prelude.{◌==◌, filter, is_none, nat_lt, slice_get}
-use Rattle.std.specs.List.{list_all}
-use Rattle.std.proofs.lemmas.Bool.{and_parts, eq-eqb, eqb-true}
-use Rattle.freed_owners.specs.Freed.{freed}
-use Rattle.grs_base.specs.Limits.{most_additions}
-use Rattle.grs_base.specs.Rows.{rows_of}
-use Rattle.grs_base.specs.declared.decision.Code.{Code}
-use Rattle.grs_base.specs.declared.decision.Code.TheVariants.{C00, C08, Wait}
-use Rattle.grs_base.specs.declared.resource.Ctl.{Ctl}
-use Rattle.grs_base.specs.declared.resource.Elem.{Elem}
-use Rattle.grs_base.specs.declared.resource.Res.{Res}
-use Rattle.grs_base.specs.declared.resource.Ret.{Ret}
-use Rattle.grs_base.specs.declared.resource.Row.{Row}
-use Rattle.grs_base.specs.declared.resource.SysId.{SysId}
-use Rattle.grs_base.specs.declared.resource.TaskId.{TaskId}
-use Rattle.grs_legal.specs.Asks.{lines_of}
-use Rattle.grs_legal.specs.declared.meaning.Display.{Display}
-use Rattle.grs_legal.specs.declared.meaning.Meaning.{Meaning}
-use Rattle.grs_legal.specs.declared.meaning.Meaning.TheVariants as lines
-use Rattle.grs_medium.specs.Medium.{MediumState}
-use Rattle.grs_node.specs.Change.{one_by_one, with_first_look, with_list_ranks, with_rank_by, with_ranks}
-use Rattle.grs_node.specs.Names.{names_of}
-use Rattle.grs_node.specs.Node.{NodeState, Step, all_sent, ask, change_to_star, decide, desk_told, end_step}
-use Rattle.grs_node.specs.Node.{is_for_deck, changed as changed_now, is_item_of, is_of_deck, known_from, losing}
-use Rattle.grs_node.specs.Node.{may_send, phase_step, look_around, look_home, post, purged, put_in, read_entries}
-use Rattle.grs_node.specs.Node.{read_entry, ready_step, show, stale, switched, take_line, take_mail, task_step}
-use Rattle.grs_node.specs.Node.{took_mail, wait, with_side, with_tasks}
-use Rattle.grs_node.specs.Removal.{members, sent_again, standing, without_those}
-use Rattle.grs_node.specs.Star.{StarPart, answer_for, begun, decide_own, fixing_none, owners_by, rank_of, request_of}
-use Rattle.grs_wire.proofs.WantLaws.{by_test}
-use Rattle.grs_wire.specs.Masks.{with_also}
-use Rattle.grs_wire.specs.Unseen.{unseen}
-use Rattle.grs_wire.specs.Wants.{answer_to, new_owners, res_wanted, is_for_all}
-use Rattle.grs_wire.specs.declared.deck.Choice.{Choice}
-use Rattle.grs_wire.specs.declared.deck.Deck.{Deck}
-use Rattle.grs_wire.specs.declared.medium.Mail.{Mail}
-use Rattle.grs_wire.specs.declared.medium.Mail.TheVariants.{Request as RequestMail, Answered as AnsweredMail, Granted}
-use Rattle.grs_wire.specs.declared.medium.Mail.TheVariants.{Notice, Part}
-use Rattle.grs_wire.specs.declared.medium.RingBody.{RingBody}
-use Rattle.grs_wire.specs.declared.medium.RingBody.TheVariants.{Request, Remove}
-use Rattle.grs_wire.specs.declared.medium.RingEntry.{RingEntry}
-use Rattle.grs_wire.specs.declared.request.Answer.{Answer}
-use Rattle.grs_wire.specs.declared.request.Answer.TheVariants.{Coded, Rows}
-use Rattle.grs_wire.specs.declared.request.Req.{Req}
-use Rattle.grs_wire.specs.declared.request.Want.{Want}
-use Rattle.grs_wire.specs.declared.request.Want.TheVariants.{Enq, Deq, Release, Look}
-use Rattle.grs_wire.specs.declared.told.Said.{Said}
-use Rattle.grs_wire.specs.declared.told.Said.TheVariants as saids
-use Rattle.grs_wire.specs.declared.told.ToldLine.{ToldLine}
-use Rattle.grs_wire.specs.declared.told.ToldLine.TheVariants as told
+use Rattle.grs_world.proofs.Common.{[], ◌&&◌, ◌++◌, ◌+◌, ◌==◌, ◌∙◌, ◌∷◌, ◌≡◌, after_code, after_mail, all_sent}
+use Rattle.grs_world.proofs.Common.{and_parts, Answer, answer_for, answer_own, answer_to, answered, ap, append-nil}
+use Rattle.grs_world.proofs.Common.{append_assoc, ask, Asked, begun, Bool, by_test, C00, C08, change_to_star, Choice}
+use Rattle.grs_world.proofs.Common.{Code, cond, Ctl, decide, decide_own, Deck, Deq, desk_told, Display, Elem, end_step}
+use Rattle.grs_world.proofs.Common.{Enq, eq-eqb, eqb-true, false, filter, fixing_none, freed, goes_on_looking, Granted}
+use Rattle.grs_world.proofs.Common.{has_effect, is_for_all, is_for_deck, is_granted, is_held_for, is_item_of}
+use Rattle.grs_world.proofs.Common.{is_leaving, is_line_of, is_none, is_of_deck, is_sent, is_task, known_from, length}
+use Rattle.grs_world.proofs.Common.{lines_of, List, list_all, Look, look_around, look_home, looked, losing, Mail}
+use Rattle.grs_world.proofs.Common.{may_send, Meaning, MediumState, members, most_additions, names_of, nat_lt}
+use Rattle.grs_world.proofs.Common.{new_owners, NodeState, None, Notice, one_by_one, Option, owners_by, Part}
+use Rattle.grs_world.proofs.Common.{passes_wait, Phase, phase_step, post, process, process_entry, purged, put_in}
+use Rattle.grs_world.proofs.Common.{rank_of, ranked_by, RankedRow, read_entries, read_entry, ready_step, Rec, recalled}
+use Rattle.grs_world.proofs.Common.{record_enq, record_of, refl, Release, Remove, replied, Req, Request, request_of}
+use Rattle.grs_world.proofs.Common.{Res, res_wanted, Ret, RingBody, RingEntry, Row, Rows, rows_of, Said, sent_again}
+use Rattle.grs_world.proofs.Common.{show, Showing, side_of, slice_get, Some, stale, standing, StarPart, state_of, Step}
+use Rattle.grs_world.proofs.Common.{suc, switched, sym, SysId, take, take_line, take_mail, task_step, TaskId, TaskState}
+use Rattle.grs_world.proofs.Common.{TasksView, tell_all, tell_answer, tell_answer_any, tell_answer_any_ranked}
+use Rattle.grs_world.proofs.Common.{tell_answer_ranked, tell_code, tell_control, tell_freed, tell_line, tell_new}
+use Rattle.grs_world.proofs.Common.{tell_rows, tell_untold, telling, told-state, told-telling, ToldLine, took_mail}
+use Rattle.grs_world.proofs.Common.{true, Turnout, unrecorded, unseen, Wait, wait, Want, with_also, with_exclusive}
+use Rattle.grs_world.proofs.Common.{with_first_look, with_line, with_list_ranks, with_outstanding, with_phase}
+use Rattle.grs_world.proofs.Common.{with_rank, with_rank_by, with_rank_of, with_ranks, with_record, with_rows}
+use Rattle.grs_world.proofs.Common.{with_side, with_state, with_tasks, with_told, without_record, without_rows}
+use Rattle.grs_world.proofs.Common.{without_those, zero, ℕ}
+use Rattle.grs_node.specs.Node.{changed as changed_now}
+use Rattle.grs_wire.specs.declared.medium.Mail.TheVariants.{Request as RequestMail, Answered as AnsweredMail}
+use Rattle.grs_wire.specs.declared.request.Answer.TheVariants.{Coded}
 use Rattle.grs_wire.specs.declared.told.Verb.{Verb}
-use Rattle.grs_wire.specs.declared.told.Verb.TheVariants as verbs
-use Rattle.lock_structure.specs.RankedRows.{RankedRow}
-use Rattle.mode_migrate.specs.Migrate.{ranked_by}
-use Rattle.ring_mode.specs.Ring.{answer_own, is_asked, process, process_entry, side_of}
-use Rattle.star_client.specs.Client.{after_mail, has_effect, tell_answer_any_ranked, tell_answer_ranked, unrecorded}
-use Rattle.star_client.specs.Client.{with_rank_of}
-use Rattle.system_purge.specs.Purge.{tell_freed}
+use Rattle.ring_mode.specs.Ring.{is_asked}
 use Rattle.task_state.proofs.Stays.{system-state, system-telling}
-use Rattle.task_state.proofs.ViewLaws.{told-state, told-telling}
-use Rattle.task_state.specs.Replies.{after_code, answered, goes_on_looking, is_changed, is_granted, is_held}
-use Rattle.task_state.specs.Replies.{is_held_for, is_leaving, is_queued, looked, new_record, passes_wait, phase_after}
-use Rattle.task_state.specs.Replies.{recalled, record_enq, replied, tell_all, tell_answer, tell_answer_any, tell_code}
-use Rattle.task_state.specs.Replies.{tell_control, tell_line, tell_new, tell_rows, tell_untold}
-use Rattle.task_state.specs.View.{TasksView, is_sent, is_task, record_of, state_of, telling, with_exclusive, with_line}
-use Rattle.task_state.specs.View.{with_outstanding, with_phase, with_rank, with_record, with_rows, with_state}
-use Rattle.task_state.specs.View.{with_told, without_record, without_rows}
-use Rattle.task_state.specs.declared.state.Asked.{Asked}
-use Rattle.task_state.specs.declared.state.Phase.{Phase}
-use Rattle.task_state.specs.declared.state.Phase.TheVariants as phases
-use Rattle.task_state.specs.declared.state.Rec.{Rec}
-use Rattle.task_state.specs.declared.state.Showing.{Showing}
-use Rattle.task_state.specs.declared.state.TaskState.{TaskState}
+use Rattle.task_state.specs.Replies.{is_changed, is_held, is_queued, new_record, phase_after}
 use Rattle.grs_known.proofs.lists.Facts.{all-more}
-use Rattle.grs_known.proofs.system.Says.{is_line_of}
-use Rattle.grs_world.proofs.run.Came as any
 use Rattle.grs_world.proofs.run.Came.{Acts, Came, Result, acted, already, began, changed, decided, informed, last_turn}
 use Rattle.grs_world.proofs.run.Came.{left, no_such, parted, removes_one, removes_star, sent, settled, took, turn}
 use Rattle.grs_world.proofs.run.Came.{went_on}
 use Rattle.grs_world.proofs.run.Fixing.{may_go-task}
 use Rattle.grs_world.proofs.run.Lost.{tasks-lost, tasks-notice, tasks-part}
-use Rattle.grs_world.specs.World.{Turnout}
+use Rattle.grs_legal.specs.declared.meaning.Meaning.TheVariants as lines
+use Rattle.grs_wire.specs.declared.told.Said.TheVariants as saids
+use Rattle.grs_wire.specs.declared.told.ToldLine.TheVariants as told
+use Rattle.grs_wire.specs.declared.told.Verb.TheVariants as verbs
+use Rattle.task_state.specs.declared.state.Phase.TheVariants as phases
+use Rattle.grs_world.proofs.run.Came as any
 
 -- whether a line is told at the desk, or to a task of this system
 abbrev pub is_own : ℕ → ToldLine → Bool

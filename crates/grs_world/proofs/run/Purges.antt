@@ -1,45 +1,28 @@
 -- What an event removes: nobody, or the system that its choice names, where the medium answers so. It needs nothing of
 -- the run.
-use Rattle.std.proofs.Common.{◌≡◌, ℕ, true, false, cond, List, [], ◌∷◌, map, take, Option, Some, None, refl}
-use Rattle.std.proofs.Common.{ap, length, is_some, sym, subst}
-use Rattle.std.specs.List.{list_any}
-use Rattle.grs_base.specs.Limits.{most_additions}
-use Rattle.grs_base.specs.declared.resource.SysId.{SysId}
-use Rattle.grs_base.specs.declared.resource.TaskId.{TaskId}
-use Rattle.grs_legal.specs.Asks.{lines_of}
-use Rattle.grs_legal.specs.declared.meaning.Meaning.{Meaning}
-use Rattle.grs_legal.specs.declared.meaning.Meaning.TheVariants as lines
-use Rattle.grs_medium.specs.Apply.{is_live, without_in_star, without_system, without_target}
-use Rattle.grs_medium.specs.Medium.{MediumState}
-use Rattle.grs_node.specs.Node.{NodeState, has_most, next_order, purged, put_in, read_entries}
-use Rattle.grs_node.specs.Star.{StarPart, decide_own, request_of}
-use Rattle.grs_wire.specs.Unseen.{unseen}
-use Rattle.grs_wire.specs.Wants.{res_wanted, is_for_all}
-use Rattle.grs_wire.specs.declared.deck.Choice.{Choice}
-use Rattle.grs_wire.specs.declared.deck.Choice.TheVariants as choices
-use Rattle.grs_wire.specs.declared.deck.Deck.{Deck}
-use Rattle.grs_wire.specs.declared.deck.Order.TheVariants as orders
-use Rattle.grs_wire.specs.declared.request.Fixed.{Fixed}
-use Rattle.grs_wire.specs.declared.request.Fixed.TheVariants.{Asked, LocalLook}
-use Rattle.grs_wire.specs.declared.request.Req.{Req}
-use Rattle.grs_wire.specs.declared.request.Want.{Want}
-use Rattle.grs_wire.specs.declared.request.Want.TheVariants as wants
-use Rattle.task_state.specs.View.{state_of}
-use Rattle.task_state.specs.declared.state.Phase.{Phase}
-use Rattle.task_state.specs.declared.state.Phase.TheVariants as phases
-use Rattle.task_state.specs.declared.state.Rec.{Rec}
+use Rattle.grs_world.proofs.Common.{[], ◌∷◌, ◌≡◌, ap, by_test, Choice, chosen, cond, decide_own, Deck, false, Fixed}
+use Rattle.grs_world.proofs.Common.{has, has_most, is_for_all, length, lines_of, List, list_any, LocalLook, map}
+use Rattle.grs_world.proofs.Common.{Meaning, MediumState, most_additions, next_order, NodeState, None, Option, Phase}
+use Rattle.grs_world.proofs.Common.{purged, put_in, read_entries, Rec, refl, Req, request_of, res_wanted, Some}
+use Rattle.grs_world.proofs.Common.{StarPart, state_of, subst, sym, SysId, take, TaskId, true, Turnout, unseen, Want}
+use Rattle.grs_world.proofs.Common.{without_in_star, without_system, without_target, ℕ}
+use Rattle.std.proofs.Common.{is_some}
+use Rattle.grs_medium.specs.Apply.{is_live}
+use Rattle.grs_wire.specs.declared.request.Fixed.TheVariants.{Asked}
 use Rattle.grs_world.specs.Agree.{is_purge}
-use Rattle.grs_world.specs.World.{Turnout, chosen}
-use Rattle.grs_world.proofs.run.Came as any
 use Rattle.grs_world.proofs.run.Came.{Acts, Came, acted, acts-keep, already, began, changed, decided, informed}
 use Rattle.grs_world.proofs.run.Came.{last_turn, left, no_such, parted, removes_one, removes_star, sent, settled, told}
 use Rattle.grs_world.proofs.run.Came.{took, turn, went_on, Result}
-use Rattle.grs_wire.specs.Masks.{has}
 use Rattle.grs_world.specs.Fixing.{at_once, fixed_at_end, fixed_by_line, fixed_by_task, fixed_in_phase}
 use Rattle.grs_world.specs.Fixing.{fixed_when_ready}
 use Rattle.grs_world.proofs.run.Fixing.{by_task, fixed-mail, may_go-task}
-use Rattle.grs_wire.proofs.WantLaws.{by_test}
 use Rattle.grs_world.proofs.run.Chosen.{came}
+use Rattle.grs_legal.specs.declared.meaning.Meaning.TheVariants as lines
+use Rattle.grs_wire.specs.declared.deck.Choice.TheVariants as choices
+use Rattle.grs_wire.specs.declared.deck.Order.TheVariants as orders
+use Rattle.grs_wire.specs.declared.request.Want.TheVariants as wants
+use Rattle.task_state.specs.declared.state.Phase.TheVariants as phases
+use Rattle.grs_world.proofs.run.Came as any
 
 -- what was fixed removes nobody
 abbrev pub RemovesNone : List Fixed → Type 0

@@ -1,50 +1,31 @@
 -- The events that have to do with removals, in ring mode: a system is removed, there was none of its number, or a
 -- system is told which were removed.
-use Rattle.std.proofs.Common.{◌≡◌, ◌≢◌, ◌<◌, ◌++◌, ◌∷◌, ◌&&◌, ℕ, Bool, true, false, not, List, [], length, Option, Some}
-use Rattle.std.proofs.Common.{None, refl, ap, sym, ◌∙◌, subst, append-nil, append_assoc}
-use Rattle.std.specs.Prelude.{slice_get, nat_lt}
-use Rattle.std.specs.List.{list_any}
-use Rattle.std.specs.Option.{option_map}
-use Rattle.std.proofs.lemmas.Bool.{and_parts, and_right, eq-eqb, not-true}
-use Rattle.std.proofs.lemmas.List.{map-append}
-use Rattle.std.proofs.lemmas.List.Elements.{filter-append}
+use Rattle.grs_world.proofs.Common.{[], ◌&&◌, ◌++◌, ◌<◌, ◌∙◌, ◌∷◌, ◌≡◌, ◌≢◌, and_parts, and_right, ap, append-nil}
+use Rattle.grs_world.proofs.Common.{append_assoc, Bool, Deck, desk_told, dropped, eq-eqb, Event, false, filter-append}
+use Rattle.grs_world.proofs.Common.{fixed_by, goes_round, has, has-live, has-with_other, has-with_same, history}
+use Rattle.grs_world.proofs.Common.{IsHistory, items, items-append, items_are_history, length, List, list_any, live}
+use Rattle.grs_world.proofs.Common.{lives, made_item, map-append, MediumState, nat_lt, next_order, no_truth, NodeState}
+use Rattle.grs_world.proofs.Common.{None, not, not-true, only, Option, option_map, OrdersFit, own_requests, placed}
+use Rattle.grs_world.proofs.Common.{Purged, refl, removes, rounds, run, RunItem, Said, same_Some, slice_get, Some}
+use Rattle.grs_world.proofs.Common.{subst, sym, SysId, SystemDef, systems_of, true, Turnout, with_also, without_system}
+use Rattle.grs_world.proofs.Common.{World, ℕ}
 use Rattle.std.proofs.lemmas.Map.Keys.{any_passes_from_place}
-use Rattle.std.proofs.lemmas.Option.{same_Some}
-use Rattle.grs_base.specs.declared.resource.SysId.{SysId}
 use Rattle.grs_legal.specs.Legal.{MayRemove, commands_removal, is_removal_of}
-use Rattle.grs_medium.specs.Apply.{is_live, without_system}
-use Rattle.grs_medium.specs.Medium.{MediumState, live, systems_of}
+use Rattle.grs_medium.specs.Apply.{is_live}
 use Rattle.grs_node.proofs.Calls.{target-of}
 use Rattle.grs_node.proofs.StartFits.{orders-at}
-use Rattle.grs_node.specs.Node.{NodeState, desk_of, desk_told, next_order, only}
-use Rattle.grs_wire.specs.History.{removes}
-use Rattle.grs_wire.specs.Masks.{has, with_also, lives}
-use Rattle.grs_wire.specs.declared.deck.Choice.TheVariants as choices
-use Rattle.grs_wire.specs.declared.deck.Deck.{Deck}
+use Rattle.grs_node.specs.Node.{desk_of}
 use Rattle.grs_wire.specs.declared.deck.Desk.{Desk}
-use Rattle.grs_wire.specs.declared.deck.Event.{Event}
-use Rattle.grs_wire.specs.declared.deck.Order.TheVariants as orders
-use Rattle.grs_wire.specs.declared.deck.SystemDef.{SystemDef}
-use Rattle.grs_wire.specs.declared.request.Fixed.TheVariants.{Purged}
-use Rattle.grs_wire.specs.declared.told.Said.{Said}
-use Rattle.grs_wire.specs.declared.told.Said.TheVariants as saids
-use Rattle.grs_wire.proofs.MaskLaws.{has-with_same, has-with_other}
-use Rattle.rsa_message.specs.Message.{dropped}
-use Rattle.grs_known.specs.Items.{RunItem, goes_round, rounds, history, items}
-use Rattle.grs_known.proofs.known.Histories.{IsHistory, MayPurge, OrdersFit, follows-purge, items-append, made_item}
-use Rattle.grs_known.proofs.known.ItemLaws.{items_are_history}
-use Rattle.grs_known.proofs.lists.Truths.{no_truth}
-use Rattle.grs_known.proofs.system.Says.{own_requests}
-use Rattle.grs_world.specs.World.{World, Turnout, fixed_by, placed, run}
-use Rattle.grs_medium.proofs.LiveLaws.{has-live}
+use Rattle.grs_known.proofs.known.Histories.{MayPurge, follows-purge}
 use Rattle.grs_world.proofs.run.Growing.{fixeds, own_requests-append}
-use Rattle.grs_world.proofs.run.InRing.{removed_by}
-use Rattle.grs_world.proofs.run.InRing.{IsRing, live-there}
+use Rattle.grs_world.proofs.run.InRing.{removed_by, IsRing, live-there}
 use Rattle.grs_world.proofs.run.Messages.{message-removed}
 use Rattle.grs_world.proofs.run.Removals.{removed_in_history}
 use Rattle.grs_world.proofs.run.Runs.{GoodMessage, GoodTold, GoodWorld, by_node, message_log, seen_at}
 use Rattle.grs_world.proofs.system.AtNode.{Seen, seen-known, seen-removal}
 use Rattle.grs_world.proofs.system.Desks.{desk-seen}
+use Rattle.grs_wire.specs.declared.deck.Order.TheVariants as orders
+use Rattle.grs_wire.specs.declared.told.Said.TheVariants as saids
 
 -- ---- what a desk commands
 -- the target is another system that is there

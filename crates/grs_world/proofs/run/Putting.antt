@@ -1,25 +1,15 @@
 -- Requests of a system's outbox are put into the message.
-use Rattle.std.proofs.Common.{◌≡◌, cond, true, false, List, [], ◌∷◌, ◌++◌, map, refl, ap, sym, ◌∙◌, subst, append-nil}
-use Rattle.std.proofs.Common.{append_assoc}
-use Rattle.std.specs.List.{list_all}
-use Rattle.std.proofs.lemmas.Bool.{eq-eqb}
-use Rattle.std.proofs.lemmas.List.{map-append}
-use Rattle.grs_base.specs.declared.resource.SysId.{SysId}
-use Rattle.grs_node.specs.Node.{NodeState}
-use Rattle.grs_wire.specs.declared.deck.Deck.{Deck}
+use Rattle.grs_world.proofs.Common.{[], ◌++◌, ◌∙◌, ◌∷◌, ◌≡◌, all-behind, AllAsk, ap, append-nil, append_assoc, askers}
+use Rattle.grs_world.proofs.Common.{asks-behind, cond, Deck, eq-eqb, false, filter-cons_kept, goes_round, is_among}
+use Rattle.grs_world.proofs.Common.{IsHistory, List, list_all, made_item, map, map-append, mine, NodeState}
+use Rattle.grs_world.proofs.Common.{own_requests, refl, Req, rounds, RunItem, stand_apart, subst, sym, SysId, true}
 use Rattle.grs_wire.specs.declared.request.Fixed.TheVariants.{Asked}
-use Rattle.grs_wire.specs.declared.request.Req.{Req}
-use Rattle.grs_known.specs.Items.{RunItem, goes_round, rounds, mine}
-use Rattle.grs_known.proofs.known.Histories.{IsHistory, made_item, asks-behind, AllAsk}
-use Rattle.grs_known.proofs.lists.Facts.{all-behind, filter-cons_kept}
-use Rattle.grs_known.proofs.lists.Owners.{is_among}
 use Rattle.grs_world.proofs.run.Growing.{fixeds, Grows, same, more, grows-history, grows-rounds, own_requests-append}
 use Rattle.grs_world.proofs.run.Growing.{asks-rounds, idle-asks}
 use Rattle.grs_world.proofs.run.Reading.{all-rounds}
 use Rattle.grs_known.proofs.system.Askers.{apart-before, askers-append}
 use Rattle.grs_world.proofs.system.AtNode.{Seen, own_ask}
 use Rattle.grs_world.proofs.system.Puts.{MayPut, may_home, may_put, seen-put}
-use Rattle.grs_known.proofs.system.Says.{askers, stand_apart, own_requests}
 
 module _ (deck : Deck) (c : SysId) (P before later : List RunItem) (right : IsHistory deck P)
     (whole : rounds P ≡ before ++ later) (n : NodeState) where

@@ -1,34 +1,21 @@
 -- A system processes what the message gave it.
-use Rattle.std.proofs.Common.{◌≡◌, cond, Bool, true, false, ◌&&◌, ℕ, List, [], ◌∷◌, ◌++◌, Some, refl, ap, sym, ◌∙◌}
-use Rattle.std.proofs.Common.{subst, append-nil, append_assoc}
-use Rattle.std.specs.List.{list_all}
-use Rattle.std.proofs.lemmas.Bool.{and_parts}
-use Rattle.grs_base.specs.declared.resource.SysId.{SysId}
-use Rattle.grs_node.specs.Node.{NodeState, with_side, process_removal, read_entry, read_entries}
-use Rattle.grs_wire.specs.declared.deck.Deck.{Deck}
-use Rattle.grs_wire.specs.declared.medium.RingBody.{RingBody}
-use Rattle.grs_wire.specs.declared.medium.RingBody.TheVariants.{Request}
-use Rattle.grs_wire.specs.declared.medium.RingEntry.{RingEntry}
-use Rattle.grs_wire.specs.declared.request.Fixed.{Fixed}
-use Rattle.grs_wire.specs.declared.request.Fixed.TheVariants.{Asked, LocalLook, Purged}
-use Rattle.grs_wire.specs.Wants.{res_wanted, is_for_all}
-use Rattle.grs_wire.specs.declared.request.Req.{Req}
-use Rattle.grs_wire.specs.declared.request.Want.{Want}
-use Rattle.grs_wire.specs.declared.request.Want.TheVariants.{Enq, Deq, Release, Look}
-use Rattle.ring_mode.specs.Ring.{Side, process, process_entry}
-use Rattle.grs_known.specs.Items.{RunItem, wants_round, goes_round, rounds, history}
-use Rattle.grs_known.proofs.known.Histories.{IsAsk, AsksOrRemoves, an_ask, a_look, a_removal, AllAsk, IsHistory}
-use Rattle.grs_known.proofs.known.Histories.{asks-behind}
-use Rattle.grs_known.proofs.lists.Facts.{all-middle}
-use Rattle.grs_known.proofs.lists.Truths.{no_truth}
-use Rattle.rsa_message.proofs.Stands.{Bodies, none, more, body_of}
+use Rattle.grs_world.proofs.Common.{[], ◌&&◌, ◌++◌, ◌∙◌, ◌∷◌, ◌≡◌, a_look, a_removal, all-middle, AllAsk, an_ask}
+use Rattle.grs_world.proofs.Common.{and_parts, ap, append-nil, append_assoc, asks-behind, AsksOrRemoves, Bodies, Bool}
+use Rattle.grs_world.proofs.Common.{cond, Deck, Deq, Enq, false, Fixed, goes_round, history, is_for_all, IsAsk}
+use Rattle.grs_world.proofs.Common.{IsHistory, List, list_all, LocalLook, Look, no_truth, NodeState, own_asked}
+use Rattle.grs_world.proofs.Common.{own_requests, process, process_entry, Purged, read_entries, read_entry, refl}
+use Rattle.grs_world.proofs.Common.{Release, Req, Request, res_wanted, RingBody, RingEntry, rounds, RunItem, Some}
+use Rattle.grs_world.proofs.Common.{subst, sym, SysId, ToldBy, true, Want, wants_round, with_side, ℕ}
+use Rattle.grs_node.specs.Node.{process_removal}
+use Rattle.grs_wire.specs.declared.request.Fixed.TheVariants.{Asked}
+use Rattle.ring_mode.specs.Ring.{Side}
+use Rattle.rsa_message.proofs.Stands.{none, more, body_of}
 use Rattle.grs_world.proofs.run.Growing.{fixeds, asks-rounds}
 use Rattle.grs_known.proofs.told.News.{told-then, told-fewer}
 use Rattle.grs_known.proofs.system.Askers.{among-back}
 use Rattle.grs_world.proofs.system.AtNode.{Seen}
 use Rattle.grs_world.proofs.system.Processed.{after_read, Reads, read}
 use Rattle.grs_world.proofs.system.Removed.{Frees, read-removal}
-use Rattle.grs_known.proofs.system.Says.{own_asked, own_requests, ToldBy}
 use Rattle.grs_known.proofs.system.Says as told
 
 -- ---- what the node does

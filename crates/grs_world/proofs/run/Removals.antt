@@ -1,48 +1,30 @@
 -- Who is removed in a run is who was removed by what was fixed, and each removal is told by the event that fixes it.
-use Rattle.std.proofs.Common.{◌≡◌, ◌+◌, ◌-◌, ℕ, zero, suc, Bool, true, false, ◌&&◌, ◌||◌, List, [], ◌∷◌, ◌++◌, length}
-use Rattle.std.proofs.Common.{take, drop, Option, Some, None, refl, ap, sym, ◌∙◌, subst, append-nil, append_assoc}
-use Rattle.std.proofs.Common.{◌<◌, arith, length-append, not, take-append-drop}
-use Rattle.std.specs.Prelude.{◌==◌, nat_lt, slice_get}
-use Rattle.std.specs.List.{list_any}
-use Rattle.std.proofs.Math.Bool.{or-false}
-use Rattle.std.proofs.Math.Seq.{drop-append_seam}
-use Rattle.std.proofs.lemmas.Bool.{and_from, and_parts, eqb-true, eqb-false, eq-eqb, lt-ltb, or_left, or_right}
-use Rattle.std.proofs.lemmas.List.Folds.{list_any-append}
-use Rattle.std.proofs.lemmas.Option.{same_Some}
-use Rattle.grs_base.specs.State.{State}
-use Rattle.grs_base.specs.declared.resource.SysId.{SysId}
-use Rattle.grs_medium.specs.Apply.{is_live, without_in_star, without_system, without_target}
-use Rattle.grs_medium.specs.Medium.{MediumState}
-use Rattle.grs_wire.proofs.WantLaws.{by_test}
-use Rattle.grs_node.specs.Log.{told_in}
-use Rattle.grs_node.specs.Node.{NodeState, desk_told, next_order, purged}
-use Rattle.grs_wire.specs.History.{removes, fixed_entries, after_fixed, answered_from, answered}
-use Rattle.grs_wire.specs.Masks.{has, with_also}
-use Rattle.grs_wire.specs.declared.deck.Choice.TheVariants as choices
-use Rattle.grs_wire.specs.declared.deck.Deck.{Deck}
-use Rattle.grs_wire.specs.declared.deck.Event.{Event}
-use Rattle.grs_wire.specs.declared.deck.Order.TheVariants as orders
-use Rattle.grs_wire.specs.declared.request.Fixed.{Fixed}
-use Rattle.grs_wire.specs.declared.request.Fixed.TheVariants.{Asked, LocalLook, Purged}
-use Rattle.grs_wire.specs.declared.told.Said.TheVariants as saids
-use Rattle.grs_wire.specs.declared.told.Told.{Told}
-use Rattle.grs_wire.specs.declared.told.ToldLine.{ToldLine}
-use Rattle.grs_wire.specs.declared.told.ToldLine.TheVariants as lines
-use Rattle.grs_wire.proofs.MaskLaws.{has-zero, has-with_same, has-with_other}
+use Rattle.grs_world.proofs.Common.{[], ◌&&◌, ◌++◌, ◌+◌, ◌-◌, ◌<◌, ◌==◌, ◌||◌, ◌∙◌, ◌∷◌, ◌≡◌, after_fixed, and_from}
+use Rattle.grs_world.proofs.Common.{and_parts, ap, append-nil, append_assoc, arith, Bool, by_test, chosen, Deck}
+use Rattle.grs_world.proofs.Common.{desk_told, drop, drop-append_seam, eq-eqb, eqb-false, eqb-true, Event, false}
+use Rattle.grs_world.proofs.Common.{false_by, first_world, Fixed, fixed_by, fixed_entries, happens, has, has-with_other}
+use Rattle.grs_world.proofs.Common.{has-with_same, has-zero, history, items, items_are_history, length, length-append}
+use Rattle.grs_world.proofs.Common.{List, list_any, list_any-append, LocalLook, lt-ltb, MediumState, nat_lt, next_order}
+use Rattle.grs_world.proofs.Common.{no_truth, NodeState, None, not, Option, or-false, or_left, or_right, placed, Purged}
+use Rattle.grs_world.proofs.Common.{purged, refl, removes, run, run_from, same_Some, slice_get, Some, State, subst, suc}
+use Rattle.grs_world.proofs.Common.{sym, SysId, take, take-append-drop, Told, told_by, told_in, ToldLine, true, Turnout}
+use Rattle.grs_world.proofs.Common.{with_also, without_in_star, without_system, without_target, World, zero, ℕ}
+use Rattle.grs_medium.specs.Apply.{is_live}
+use Rattle.grs_wire.specs.History.{answered_from, answered}
+use Rattle.grs_wire.specs.declared.request.Fixed.TheVariants.{Asked}
 use Rattle.grs_known.proofs.known.Histories.{ask-keeps}
-use Rattle.grs_known.proofs.known.ItemLaws.{items_are_history}
-use Rattle.grs_known.proofs.lists.Truths.{false_by, no_truth}
-use Rattle.grs_known.specs.Items.{history, items}
 use Rattle.grs_world.specs.Agree.{is_purge, purges, is_removal, is_vary, order_of, fixed_in, RemovalsTold}
 use Rattle.grs_world.specs.Removing.{RemovedAreInHistory}
-use Rattle.grs_world.specs.World.{World, Turnout, chosen, placed, first_world, fixed_by, told_by, happens, run_from}
-use Rattle.grs_world.specs.World.{run}
 use Rattle.grs_world.proofs.run.Desks.{order-is}
 use Rattle.grs_world.proofs.run.Each.{each_event, each_live, each_run, run-push}
 use Rattle.grs_world.proofs.run.Laps.{goes_on}
 use Rattle.grs_world.proofs.run.Lost.{told-lost}
 use Rattle.grs_world.proofs.run.Purges.{Removes, RemovesNone, nobody, one, what_removes}
 use Rattle.grs_world.proofs.system.Desks.{desk-told}
+use Rattle.grs_wire.specs.declared.deck.Choice.TheVariants as choices
+use Rattle.grs_wire.specs.declared.deck.Order.TheVariants as orders
+use Rattle.grs_wire.specs.declared.told.Said.TheVariants as saids
+use Rattle.grs_wire.specs.declared.told.ToldLine.TheVariants as lines
 
 -- ---- what was fixed, and the history
 -- whether one of these removes a system

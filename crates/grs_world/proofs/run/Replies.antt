@@ -1,35 +1,20 @@
 -- When an event is answered what has to do with removals, and what a removal leaves of the history and of the lists.
-use Rattle.std.proofs.Common.{◌≡◌, ◌+◌, Bool, true, false, cond, not, List, [], ◌∷◌, ◌++◌, length, Option, Some, None}
-use Rattle.std.proofs.Common.{refl, ap, sym, ◌∙◌}
-use Rattle.std.specs.Prelude.{nat_lt, filter, slice_get}
-use Rattle.std.proofs.lemmas.Bool.{and_parts, ne_eqb, not-true}
-use Rattle.std.proofs.lemmas.Option.{same_Some}
-use Rattle.grs_base.specs.Lists.{owns}
-use Rattle.grs_base.specs.State.{State, list_of, is_of_other, is_systems, remove_state}
-use Rattle.grs_base.specs.declared.resource.SysId.{SysId}
-use Rattle.grs_medium.specs.Apply.{reply_to}
-use Rattle.grs_node.specs.Node.{NodeState, prepare}
-use Rattle.grs_node.specs.declared.prepared.Prepared.{Prepared}
-use Rattle.grs_node.specs.declared.prepared.Prepared.TheVariants.{Quiet, Call, Nothing}
-use Rattle.grs_wire.specs.History.{replay, answered}
-use Rattle.grs_wire.specs.Masks.{has}
-use Rattle.grs_wire.specs.declared.deck.Deck.{Deck}
-use Rattle.grs_wire.specs.declared.deck.Event.{Event}
+use Rattle.grs_world.proofs.Common.{[], ◌++◌, ◌+◌, ◌∙◌, ◌∷◌, ◌≡◌, and_parts, ap, Bool, Call, call_at, call_in, cond}
+use Rattle.grs_world.proofs.Common.{Deck, Event, false, filter, fixed_by, has, hist, history, is_live, is_systems}
+use Rattle.grs_world.proofs.Common.{items, items-append, items_are_history, items_from, length, List, list_of, lists}
+use Rattle.grs_world.proofs.Common.{nat_lt, ne_eqb, NodeState, None, not, not-true, Nothing, Option, owns, prepare}
+use Rattle.grs_world.proofs.Common.{Prepared, Purged, Quiet, refl, remove_state, replay, reply_by, reply_to, run}
+use Rattle.grs_world.proofs.Common.{same_Some, slice_get, Some, State, sym, SysId, true, World}
+use Rattle.grs_base.specs.State.{is_of_other}
+use Rattle.grs_wire.specs.History.{answered}
 use Rattle.grs_wire.specs.declared.history.HistEntry.TheVariants.{Remove}
-use Rattle.grs_wire.specs.declared.medium.Reply.TheVariants as replies
-use Rattle.grs_wire.specs.declared.request.Fixed.TheVariants.{Purged}
 use Rattle.grs_wire.proofs.HistoryLaws.{replay_from-append}
 use Rattle.grs_wire.proofs.RemoveLaws.{by_systems, list_of-remove, list_of-remove_other, owns-remove}
-use Rattle.grs_known.proofs.known.Histories.{items-append}
-use Rattle.grs_known.proofs.known.ItemLaws.{items_are_history}
 use Rattle.grs_known.proofs.known.Pasts.{history-append}
-use Rattle.grs_known.specs.Items.{history, items, items_from, lists}
-use Rattle.grs_world.specs.Removing.{IsAnswered, OthersStay, RemovalsAreEntries, RemovalsKeepOthers, call_at, call_in}
-use Rattle.grs_world.specs.Removing.{reply_by}
-use Rattle.grs_world.specs.Running.{is_live}
-use Rattle.grs_world.specs.World.{World, fixed_by, hist, run}
+use Rattle.grs_world.specs.Removing.{IsAnswered, OthersStay, RemovalsAreEntries, RemovalsKeepOthers}
 use Rattle.grs_world.specs.Fixing.{fixed_by_event, fixed_by_reply, fixed_more, when_purged}
 use Rattle.grs_world.proofs.run.Fixing.{event_fixes}
+use Rattle.grs_wire.specs.declared.medium.Reply.TheVariants as replies
 
 -- ---- an event that is answered that a system was removed
 module _ (deck : Deck) (es : List Event) (e : Event) (target : SysId)

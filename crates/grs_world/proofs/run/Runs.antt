@@ -1,45 +1,28 @@
 -- What holds of the world at every moment of a run, part by part, and how an event of a system keeps it.
-use Rattle.std.proofs.Common.{◌≡◌, ◌≢◌, ◌≤◌, ◌+◌, ◌-◌, Bool, true, false, eqb, ℕ, suc, List, [], ◌∷◌, ◌++◌, length}
-use Rattle.std.proofs.Common.{take, drop, Some, refl, ap, sym, ◌∙◌, subst, arith, append-nil, append_assoc}
-use Rattle.std.proofs.Common.{length-append}
-use Rattle.std.specs.Prelude.{filter, slice_get, set, ◌==◌}
-use Rattle.std.specs.List.{list_all}
-use Rattle.std.proofs.lemmas.Bool.{and_parts, eqb-true, eqb-false}
-use Rattle.std.proofs.Math.Seq.{drop-append_seam, take-append_seam, take-length}
-use Rattle.std.proofs.lemmas.List.Elements.{filter-append}
-use Rattle.std.proofs.lemmas.Option.{same_Some}
-use Rattle.std.proofs.lemmas.List.{take-append-le, map-append}
-use Rattle.grs_base.specs.declared.resource.SysId.{SysId}
-use Rattle.grs_base.specs.declared.resource.TaskId.{TaskId}
-use Rattle.grs_medium.specs.Medium.{MediumState, live}
-use Rattle.grs_node.specs.Node.{NodeState, Step}
+use Rattle.grs_world.proofs.Common.{[], ◌++◌, ◌+◌, ◌-◌, ◌==◌, ◌∙◌, ◌∷◌, ◌≡◌, ◌≢◌, ◌≤◌, and_parts, ap, append-nil}
+use Rattle.grs_world.proofs.Common.{append_assoc, arith, Bool, counted, Deck, drop, drop-append_seam, eqb-false}
+use Rattle.grs_world.proofs.Common.{eqb-true, Event, false, false_by, filter, filter-append, first_world, Fixed}
+use Rattle.grs_world.proofs.Common.{fixed_by, happens, has, hist, HistEntry, history, is_line_of, IsHistory, items}
+use Rattle.grs_world.proofs.Common.{items_are_history, length, length-append, lines_of_told, List, list_all, live}
+use Rattle.grs_world.proofs.Common.{map-append, MediumState, Moment, NodeState, OrdersFit, own_requests, placed, put_at}
+use Rattle.grs_world.proofs.Common.{refl, rounds, run, RunItem, Said, same_Some, set, slice_get, slice_get-set}
+use Rattle.grs_world.proofs.Common.{slice_get-set_other, Some, Step, subst, suc, sym, SysId, take, TaskId, Told}
+use Rattle.grs_world.proofs.Common.{told_by, ToldLine, ToldNews, true, Turnout, World, ℕ}
+use Rattle.std.proofs.Common.{eqb}
+use Rattle.std.proofs.Math.Seq.{take-append_seam, take-length}
+use Rattle.std.proofs.lemmas.List.{take-append-le}
 use Rattle.grs_wire.specs.History.{answered}
-use Rattle.grs_wire.specs.Masks.{has}
-use Rattle.grs_wire.specs.declared.deck.Deck.{Deck}
-use Rattle.grs_wire.specs.declared.deck.Event.{Event}
-use Rattle.grs_wire.specs.declared.request.Fixed.{Fixed}
-use Rattle.grs_wire.specs.declared.told.Told.{Told}
-use Rattle.grs_wire.specs.declared.told.ToldLine.{ToldLine}
-use Rattle.grs_wire.specs.declared.told.ToldLine.TheVariants as lines
-use Rattle.grs_known.specs.Items.{RunItem, rounds, history, items}
-use Rattle.grs_known.specs.Parts.{put_at}
-use Rattle.grs_known.proofs.known.Histories.{IsHistory, OrdersFit}
-use Rattle.grs_known.proofs.known.ItemLaws.{items_are_history}
-use Rattle.grs_known.proofs.lists.Facts.{slice_get-set, slice_get-set_other}
-use Rattle.grs_known.proofs.lists.Truths.{false_by}
 use Rattle.grs_known.proofs.lists.Placed.{put_each}
-use Rattle.grs_world.specs.Agree.{Agrees, AgreesBy, AllAgree, Moment, moment, lines_of_told, DeskAgrees}
-use Rattle.grs_world.specs.World.{World, Turnout, placed, counted, fixed_by, told_by, happens, run, hist, first_world}
+use Rattle.grs_world.specs.Agree.{Agrees, AgreesBy, AllAgree, moment, DeskAgrees}
 use Rattle.rsa_message.proofs.Stands.{Stands, waits_for}
 use Rattle.grs_world.proofs.run.Growing.{fixeds, grows-items, grows-history, grows-rounds, grows-seen, grows-requests}
 use Rattle.grs_world.proofs.run.Growing.{own_requests-append}
-use Rattle.grs_known.proofs.told.News.{LinesAgree, ToldNews}
+use Rattle.grs_known.proofs.told.News.{LinesAgree}
 use Rattle.grs_world.proofs.run.Outcomes.{Outcome}
 use Rattle.grs_world.proofs.run.Each.{run-push}
 use Rattle.grs_world.proofs.system.AtNode.{Seen}
-use Rattle.grs_known.proofs.system.Says.{AgreesBehind, is_line_of, own_requests}
-use Rattle.grs_wire.specs.declared.history.HistEntry.{HistEntry}
-use Rattle.grs_wire.specs.declared.told.Said.{Said}
+use Rattle.grs_known.proofs.system.Says.{AgreesBehind}
+use Rattle.grs_wire.specs.declared.told.ToldLine.TheVariants as lines
 
 -- ---- what was told
 lines_of_told-append : (xs ys : List Told) → lines_of_told (xs ++ ys) ≡ lines_of_told xs ++ lines_of_told ys

@@ -1,26 +1,14 @@
 -- A removed system tells nothing more.
-use Rattle.std.proofs.Common.{◌≡◌, ◌<◌, ◌+◌, ◌-◌, ℕ, Bool, true, false, not, ◌&&◌, List, [], ◌∷◌, ◌++◌, length}
-use Rattle.std.proofs.Common.{Option, Some, None, refl, ap, sym, ◌∙◌, arith, length-append}
-use Rattle.std.specs.Prelude.{slice_get, nat_lt}
-use Rattle.std.specs.List.{list_all, list_any}
-use Rattle.std.proofs.lemmas.Bool.{and_from, and_parts}
+use Rattle.grs_world.proofs.Common.{[], ◌&&◌, ◌++◌, ◌+◌, ◌-◌, ◌<◌, ◌∙◌, ◌∷◌, ◌≡◌, all-kept, and_from, and_parts, ap}
+use Rattle.grs_world.proofs.Common.{arith, Bool, chosen, counted, Deck, Event, false, first_world, happens, has, hist}
+use Rattle.grs_world.proofs.Common.{length, length-append, List, list_all, list_all-append, list_any, nat_lt, NodeState}
+use Rattle.grs_world.proofs.Common.{None, not, Option, placed, refl, removes, run, slice_get, slice_get_within, Some}
+use Rattle.grs_world.proofs.Common.{sym, Told, told_by, told_in, ToldLine, true, Turnout, World, ℕ}
 use Rattle.std.proofs.lemmas.List.{take-append-le, take_at}
-use Rattle.std.proofs.lemmas.List.Folds.{list_all-append}
-use Rattle.std.proofs.lemmas.Option.{slice_get_within}
-use Rattle.grs_node.specs.Log.{told_in}
-use Rattle.grs_node.specs.Node.{NodeState}
-use Rattle.grs_wire.specs.History.{removes}
-use Rattle.grs_wire.specs.Masks.{has}
-use Rattle.grs_wire.specs.declared.deck.Deck.{Deck}
-use Rattle.grs_wire.specs.declared.deck.Event.{Event}
-use Rattle.grs_wire.specs.declared.told.Told.{Told}
-use Rattle.grs_wire.specs.declared.told.ToldLine.{ToldLine}
-use Rattle.grs_known.proofs.lists.Facts.{all-kept}
 use Rattle.grs_world.proofs.run.Each.{each_live, each_run}
 use Rattle.grs_world.proofs.run.OfEvents.{of-last, of-longer}
 use Rattle.grs_world.proofs.run.Removals.{removed_in_history}
 use Rattle.grs_world.specs.Agree.{RemovedTellNothing, is_by_live, is_event_of, is_of_event}
-use Rattle.grs_world.specs.World.{Turnout, World, chosen, counted, first_world, happens, hist, placed, run, told_by}
 
 -- whether this is of one of these events, and of a system that was live then
 abbrev is_live_line : Deck → List Event → Told → Bool

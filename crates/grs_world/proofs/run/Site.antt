@@ -1,13 +1,8 @@
 -- A system's place in a run: it is there, and wasn't removed. What holds of each such system holds behind an event if
 -- it does of the event's own system, and of each other one that was there before.
-use Rattle.std.proofs.Common.{◌≡◌, ◌≢◌, ◌<◌, ℕ, Bool, false, List, length, Some, ◌∙◌}
-use Rattle.std.specs.Prelude.{slice_get}
-use Rattle.std.proofs.lemmas.Option.{slice_get_within}
-use Rattle.grs_base.specs.declared.resource.SysId.{SysId}
-use Rattle.grs_node.specs.Node.{NodeState}
-use Rattle.grs_wire.specs.Masks.{has}
-use Rattle.grs_known.proofs.lists.Facts.{slice_get-set, slice_get-set_other}
-use Rattle.grs_world.specs.World.{Turnout, World, placed}
+use Rattle.grs_world.proofs.Common.{◌<◌, ◌∙◌, ◌≡◌, ◌≢◌, false, has, length, List, NodeState, placed, slice_get}
+use Rattle.grs_world.proofs.Common.{slice_get-set, slice_get-set_other, slice_get_within, Some, SysId, Turnout, World}
+use Rattle.grs_world.proofs.Common.{ℕ}
 use Rattle.grs_world.proofs.run.Runs.{by_node}
 
 pub record IsThere (nodes : List NodeState) (removed : ℕ) (s : ℕ) (n : NodeState) : Type 0 where

@@ -1,37 +1,18 @@
 -- One event of a run in ring mode, and when a run is sound.
-use Rattle.std.proofs.Common.{◌≡◌, ◌<◌, ◌+◌, ◌-◌, Bool, true, false, ℕ, zero, suc, List, [], ◌∷◌, ◌++◌, length, map}
-use Rattle.std.proofs.Common.{take, ◌&&◌, Some, refl, ap, sym, ◌∙◌, subst, arith, append-nil}
-use Rattle.std.proofs.lemmas.Option.{same_Some}
-use Rattle.std.specs.Prelude.{slice_get, filter}
-use Rattle.std.specs.List.{list_any}
-use Rattle.grs_base.specs.declared.resource.SysId.{SysId}
-use Rattle.grs_base.specs.declared.resource.TaskId.{TaskId}
+use Rattle.grs_world.proofs.Common.{[], ◌++◌, ◌+◌, ◌-◌, ◌<◌, ◌∙◌, ◌∷◌, ◌≡◌, ap, append-nil, arith, Bodies, Bool}
+use Rattle.grs_world.proofs.Common.{counted, Deck, desk_told, Event, false, filter, first_medium, first_node}
+use Rattle.grs_world.proofs.Common.{first_nodes, first_world, Fixed, fixed_by, happens, has, history, is_line_of}
+use Rattle.grs_world.proofs.Common.{IsHistory, items, items_are_history, length, lines_of, List, list_any, live, map}
+use Rattle.grs_world.proofs.Common.{may_go, MediumState, most_additions, NodeState, only, OrdersFit, own_requests}
+use Rattle.grs_world.proofs.Common.{placed, Purged, put_at, put_in, read_entries, refl, removes, Req, rounds, run}
+use Rattle.grs_world.proofs.Common.{RunItem, Said, same_Some, slice_get, Some, stays-task, stays-turned, Step, subst}
+use Rattle.grs_world.proofs.Common.{suc, sym, SysId, SystemDef, take, task_step, TaskId, ToldNews, true, turned_open}
+use Rattle.grs_world.proofs.Common.{Turnout, unseen, World, zero, ℕ}
 use Rattle.grs_legal.specs.Legal.{Legal}
-use Rattle.grs_medium.specs.Medium.{MediumState, live, first_medium}
-use Rattle.grs_node.specs.Node.{NodeState, Step, desk_told, read_entries, put_in, may_go, first_node, only}
-use Rattle.grs_node.specs.Node.{task_step}
-use Rattle.grs_base.specs.Limits.{most_additions}
-use Rattle.grs_wire.specs.Masks.{has}
-use Rattle.grs_wire.specs.declared.deck.Deck.{Deck}
-use Rattle.grs_wire.specs.declared.deck.SystemDef.{SystemDef}
-use Rattle.grs_wire.specs.declared.deck.Event.{Event}
-use Rattle.grs_wire.specs.declared.deck.Choice.TheVariants as choices
-use Rattle.grs_wire.specs.declared.request.Fixed.TheVariants.{Asked, Purged}
-use Rattle.grs_wire.specs.History.{removes}
-use Rattle.grs_wire.specs.declared.told.Said.{Said}
-use Rattle.grs_wire.specs.declared.told.Said.TheVariants as saids
-use Rattle.grs_wire.specs.declared.told.ToldLine.TheVariants as lines
-use Rattle.grs_wire.specs.declared.request.Req.{Req}
-use Rattle.rsa_message.specs.Message.{turned_open}
-use Rattle.grs_wire.specs.Unseen.{unseen}
-use Rattle.grs_known.specs.Items.{RunItem, rounds, items, history}
-use Rattle.grs_known.specs.Parts.{put_at}
-use Rattle.grs_known.proofs.known.Histories.{IsHistory, OrdersFit}
-use Rattle.grs_known.proofs.known.ItemLaws.{items_are_history}
+use Rattle.grs_wire.specs.declared.request.Fixed.TheVariants.{Asked}
 use Rattle.grs_known.proofs.lists.Facts.{take-taken}
 use Rattle.grs_world.specs.Agree.{Sound}
-use Rattle.grs_world.specs.World.{World, Turnout, placed, counted, happens, run, first_nodes, first_world, fixed_by}
-use Rattle.rsa_message.proofs.Stands.{none, Bodies}
+use Rattle.rsa_message.proofs.Stands.{none}
 use Rattle.grs_world.proofs.run.Messages.{message-same, message-turned, given-later}
 use Rattle.grs_world.proofs.run.OfEvents.{told_of_events}
 use Rattle.grs_world.proofs.run.Outcomes.{Outcome, quiet_outcome, still_outcome, turn_outcome, puts}
@@ -44,16 +25,12 @@ use Rattle.grs_world.proofs.system.Begun.{first_seen}
 use Rattle.grs_world.proofs.system.Desks.{desk-told}
 use Rattle.grs_world.proofs.system.First.{first_told}
 use Rattle.grs_world.proofs.system.Quiet.{quiet}
-use Rattle.grs_known.proofs.system.Says.{own_requests, is_line_of}
-use Rattle.grs_legal.specs.Asks.{lines_of}
-use Rattle.grs_node.proofs.Keeping.{stays-task, stays-turned}
-use Rattle.grs_wire.specs.declared.request.Fixed.{Fixed}
-use Rattle.grs_world.proofs.run.InRing.{removed_by}
-use Rattle.grs_world.proofs.run.InRing.{CameInRing, IsRing, changed, informed, live-there, no_such, nothing}
+use Rattle.grs_world.proofs.run.InRing.{removed_by, CameInRing, IsRing, changed, informed, live-there, no_such, nothing}
 use Rattle.grs_world.proofs.run.InRing.{removes_one, turn, went_on}
 use Rattle.grs_world.proofs.run.Desks.{EventTells, tells_no_such, tells_removed, tells_tasks}
 use Rattle.grs_world.proofs.run.Growing.{fixeds, grows-items}
-use Rattle.grs_known.proofs.told.News.{ToldNews}
+use Rattle.grs_wire.specs.declared.told.Said.TheVariants as saids
+use Rattle.grs_wire.specs.declared.told.ToldLine.TheVariants as lines
 
 -- ---- what a desk is told of a removal
 pub desk-done : (n : NodeState) (said : Said) → (desk_told n said).done ≡ n.done + 1

@@ -1,13 +1,9 @@
 -- Runs that remove no system in star mode: so it is of each front of theirs, and of its next event; and of each run
 -- that is in ring mode.
-use Rattle.std.proofs.Common.{◌≡◌, ◌&&◌, Bool, true, false, cond, List, [], ◌∷◌, ◌++◌, refl, ap, ◌∙◌}
-use Rattle.grs_medium.specs.Medium.{MediumState}
-use Rattle.grs_wire.specs.declared.deck.Deck.{Deck}
-use Rattle.grs_wire.specs.declared.deck.Event.{Event}
-use Rattle.grs_known.proofs.lists.Truths.{no_truth}
-use Rattle.grs_world.specs.InStar.{NoneInStar, is_purged, removals_from, removes_in_star}
-use Rattle.grs_world.specs.Removing.{reply_of}
-use Rattle.grs_world.specs.World.{World, first_world, happens, run, run_from}
+use Rattle.grs_world.proofs.Common.{[], ◌&&◌, ◌++◌, ◌∙◌, ◌∷◌, ◌≡◌, ap, Bool, cond, Deck, Event, false, first_world}
+use Rattle.grs_world.proofs.Common.{happens, is_purged, List, MediumState, no_truth, NoneInStar, refl, removes_in_star}
+use Rattle.grs_world.proofs.Common.{reply_of, run, run_from, true, World}
+use Rattle.grs_world.specs.InStar.{removals_from}
 use Rattle.grs_world.proofs.run.Each.{each_run}
 use Rattle.grs_world.proofs.run.InRing.{star-stays}
 

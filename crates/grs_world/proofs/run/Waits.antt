@@ -1,17 +1,9 @@
 -- In each world that a run reaches the message waits for live systems alone.
-use Rattle.std.proofs.Common.{List, length, Option, Some, None}
-use Rattle.std.specs.Prelude.{slice_get}
+use Rattle.grs_world.proofs.Common.{by_test, Call, carry_out, chosen, counted, Deck, Event, first_world, happens}
+use Rattle.grs_world.proofs.Common.{happens_at, has, length, List, NodeState, None, Nothing, Option, placed, prepare}
+use Rattle.grs_world.proofs.Common.{Prepared, Quiet, run, slice_get, Some, WaitsForLive, World}
 use Rattle.grs_medium.proofs.GoesOn.{call_goes, start_waits}
-use Rattle.grs_medium.specs.GoesOn.{WaitsForLive}
-use Rattle.grs_node.specs.Node.{NodeState, prepare}
-use Rattle.grs_node.specs.declared.prepared.Prepared.{Prepared}
-use Rattle.grs_node.specs.declared.prepared.Prepared.TheVariants.{Call, Nothing, Quiet}
-use Rattle.grs_wire.proofs.WantLaws.{by_test}
-use Rattle.grs_wire.specs.Masks.{has}
-use Rattle.grs_wire.specs.declared.deck.Deck.{Deck}
-use Rattle.grs_wire.specs.declared.deck.Event.{Event}
 use Rattle.grs_world.proofs.run.Each.{each_run}
-use Rattle.grs_world.specs.World.{World, carry_out, chosen, counted, first_world, happens, happens_at, placed, run}
 
 -- an event keeps it, in whatever world
 pub event_waits : (deck : Deck) (w : World) (e : Event) → WaitsForLive w.medium → WaitsForLive (happens deck w e).medium

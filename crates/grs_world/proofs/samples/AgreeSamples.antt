@@ -1,35 +1,21 @@
 -- Worked lines, by which the definition of agreement is checked: what it accepts, and what it refuses.
-use Rattle.std.proofs.Common.{◌≡◌, ℕ, true, false, List, [], ◌∷◌, ◌++◌, map, refl, ap, arith}
-use Rattle.std.specs.Prelude.{◌==◌}
-use Rattle.grs_base.specs.declared.resource.Ctl.TheVariants.{E}
-use Rattle.grs_base.specs.declared.resource.Ret.TheVariants.{RetNone, RetEcb}
-use Rattle.grs_base.specs.declared.resource.SysId.{SysId}
-use Rattle.grs_base.specs.declared.decision.Code.TheVariants.{C00, C04, C08, Wait}
+use Rattle.grs_world.proofs.Common.{[], ◌++◌, ◌==◌, ◌∷◌, ◌≡◌, after_code, ap, arith, ask, C00, C04, C08, carry_out}
+use Rattle.grs_world.proofs.Common.{chosen, Coded, decide, Deck, Desk, E, end_step, Ended, Event, false, finish}
+use Rattle.grs_world.proofs.Common.{finish_quiet, first_node, first_world, Fixed, happens, happens_at, has, hist}
+use Rattle.grs_world.proofs.Common.{HistEntry, List, map, may_go, Moment, Order, passes_wait, phase_step, placed, post}
+use Rattle.grs_world.proofs.Common.{prepare, Purged, ready_step, record_enq, refl, replied, RetEcb, RetNone, StarDone}
+use Rattle.grs_world.proofs.Common.{state_of, SysId, SystemDef, take_line, tell_all, tell_code, tell_control, tell_line}
+use Rattle.grs_world.proofs.Common.{tell_new, tell_untold, telling, Told, told, ToldLine, true, VaryDone, Wait, wait}
+use Rattle.grs_world.proofs.Common.{with_exclusive, with_line, with_outstanding, with_phase, with_record, with_state}
+use Rattle.grs_world.proofs.Common.{with_told, without_record, ℕ}
 use Rattle.grs_base.specs.declared.line.Scope.TheVariants.{System}
-use Rattle.grs_node.specs.Node.{decide, post, ask, wait, take_line, end_step, ready_step, phase_step, may_go, prepare}
-use Rattle.grs_node.specs.Node.{finish_quiet, finish, first_node}
-use Rattle.grs_wire.specs.Masks.{has}
-use Rattle.grs_wire.specs.declared.deck.Deck.{Deck}
-use Rattle.grs_wire.specs.declared.deck.Event.{Event}
-use Rattle.grs_wire.specs.declared.deck.Order.{Order}
 use Rattle.grs_wire.specs.declared.deck.Order.TheVariants.{Star, Vary}
-use Rattle.grs_wire.specs.declared.deck.SystemDef.{SystemDef}
-use Rattle.grs_wire.specs.declared.history.HistEntry.{HistEntry}
 use Rattle.grs_wire.specs.declared.history.HistEntry.TheVariants.{Enq, Deq, Remove}
-use Rattle.grs_wire.specs.declared.request.Fixed.{Fixed}
-use Rattle.grs_wire.specs.declared.request.Fixed.TheVariants.{Purged}
-use Rattle.grs_wire.specs.declared.told.Told.{Told}
-use Rattle.grs_wire.specs.declared.told.ToldLine.{ToldLine}
-use Rattle.grs_wire.specs.declared.told.ToldLine.TheVariants.{Coded, Post, Ended, Desk}
-use Rattle.grs_wire.specs.declared.told.Said.TheVariants.{StarDone, StarAlready, VaryDone, VaryNoSuch}
-use Rattle.grs_wire.specs.declared.told.Verb.TheVariants as verbs
-use Rattle.task_state.specs.Replies.{tell_code, record_enq, after_code, replied, passes_wait, tell_line, tell_untold}
-use Rattle.task_state.specs.Replies.{tell_control, tell_all, tell_new}
-use Rattle.task_state.specs.View.{state_of, with_state, with_line, with_phase, with_outstanding, with_record}
-use Rattle.task_state.specs.View.{without_record, with_told, with_exclusive, telling}
-use Rattle.grs_world.specs.Agree.{Agrees, Moment, RemovalsTold, is_of_event}
-use Rattle.grs_world.specs.World.{first_world, carry_out, chosen, placed, happens_at, happens, hist, told}
+use Rattle.grs_wire.specs.declared.told.ToldLine.TheVariants.{Post}
+use Rattle.grs_wire.specs.declared.told.Said.TheVariants.{StarAlready, VaryNoSuch}
+use Rattle.grs_world.specs.Agree.{Agrees, RemovalsTold, is_of_event}
 use Rattle.grs_world.proofs.samples.Samples.{system, task_of, own, enq, deq, wait_for, deck_of, goes, at}
+use Rattle.grs_wire.specs.declared.told.Verb.TheVariants as verbs
 
 -- ---- a WAIT for an element that was queued anew
 -- The first task has a resource, gives it up, and asks for it once more, by ECB, while the second has it.

@@ -1,59 +1,39 @@
 -- Worked runs in which systems of a star are removed, by which the definitions are checked: who keeps which list, each
 -- history and each told line is what the rules of the service give by hand.
-use Rattle.std.proofs.Common.{◌≡◌, ℕ, zero, suc, Bool, true, false, List, [], ◌∷◌, ◌++◌, map, refl}
-use Rattle.std.specs.Prelude.{slice_get}
-use Rattle.std.specs.List.{list_all}
-use Rattle.std.specs.Option.{option_map_or}
-use Rattle.contention_mgr.specs.LoseLaws.{is_without}
-use Rattle.grs_base.specs.declared.decision.Code.TheVariants.{C00, C04, Wait}
-use Rattle.grs_base.specs.declared.line.Line.{Line}
-use Rattle.grs_base.specs.declared.line.Scope.TheVariants.{Systems}
-use Rattle.grs_base.specs.declared.resource.Ctl.{Ctl}
-use Rattle.grs_base.specs.declared.resource.Ctl.TheVariants.{E, S}
-use Rattle.grs_base.specs.declared.resource.Elem.{Elem}
-use Rattle.grs_base.specs.declared.resource.Ret.TheVariants.{RetNone, RetEcb, RetTest}
-use Rattle.grs_medium.specs.Apply.{row, apply, reply_to, submit_row, take_row, mail_row, leave_row, purge_row}
-use Rattle.grs_medium.specs.Apply.{turn_row, switch_row}
-use Rattle.grs_node.specs.Node.{NodeState, post, ask, take_line, end_step, ready_step, phase_step, may_go, may_send}
-use Rattle.grs_node.specs.Node.{star_call, prepare, finish_quiet, finish_star, finish_call, finish, first_node}
-use Rattle.grs_node.specs.Node.{took_mail, desk_told, purged, stale, losing, read_entries, all_sent, put_in, switched}
-use Rattle.grs_node.specs.Node.{change_to_star, turned as system_turned}
-use Rattle.grs_node.specs.Removal.{lose_each, members_below, move_each, take_up_below}
-use Rattle.grs_node.specs.Star.{StarPart, decide_own}
-use Rattle.grs_wire.specs.LockWords.{manager, lock_word, submitted, leave_reply, leave_changes, left_word}
-use Rattle.grs_wire.specs.Masks.{has, without, with_also}
-use Rattle.grs_wire.specs.Unseen.{unseen}
-use Rattle.grs_wire.specs.declared.deck.Choice.TheVariants as choices
-use Rattle.grs_wire.specs.declared.deck.Deck.{Deck}
+use Rattle.grs_world.proofs.Common.{[], ◌++◌, ◌∷◌, ◌≡◌, Act, after_code, after_mail, all_sent, answer_own, any_unseen}
+use Rattle.grs_world.proofs.Common.{apply, ask, Bool, C00, C04, carry_out, change_to_star, chosen, cleared, closed_by}
+use Rattle.grs_world.proofs.Common.{Coded, Ctl, decide_own, Deck, departed, desk_told, E, Elem, end_step, Event, false}
+use Rattle.grs_world.proofs.Common.{finish, finish_call, finish_quiet, finish_star, first_after, first_node}
+use Rattle.grs_world.proofs.Common.{first_world, happens, happens_at, has, hist, is_without, kept, leave_changes}
+use Rattle.grs_world.proofs.Common.{leave_reply, leave_row, left_word, Line, List, list_all, lock_word, lose_each}
+use Rattle.grs_world.proofs.Common.{losing, mail_row, manager, map, may_go, may_send, members_below, move_each}
+use Rattle.grs_world.proofs.Common.{NodeState, option_map_or, passes_wait, phase_step, placed, places, post, prepare}
+use Rattle.grs_world.proofs.Common.{process, process_entry, purge_row, purged, put_in, read_entries, ready_step}
+use Rattle.grs_world.proofs.Common.{recalled, record_enq, refl, replied, Reply, reply_to, rest_after_turn, RetEcb}
+use Rattle.grs_world.proofs.Common.{RetNone, route, row, run, S, slice_get, stale, stamped, star_call, StarDone}
+use Rattle.grs_world.proofs.Common.{StarPart, state_of, submit_row, submitted, suc, switch_row, switched, SystemDef}
+use Rattle.grs_world.proofs.Common.{Systems, take_line, take_row, take_up_below, tell_all, tell_answer, tell_answer_any}
+use Rattle.grs_world.proofs.Common.{tell_answer_ranked, tell_code, tell_control, tell_each, tell_line, tell_new}
+use Rattle.grs_world.proofs.Common.{tell_untold, telling, told, took_mail, true, turn_reply, turn_row, turned, unseen}
+use Rattle.grs_world.proofs.Common.{VaryDone, Wait, wakes, with_also, with_exclusive, with_line, with_outstanding}
+use Rattle.grs_world.proofs.Common.{with_phase, with_rank, with_record, with_state, with_told, without, without_record}
+use Rattle.grs_world.proofs.Common.{zero, ℕ}
+use Rattle.grs_base.specs.declared.resource.Ret.TheVariants.{RetTest}
+use Rattle.grs_node.specs.Node.{turned as system_turned}
 use Rattle.grs_wire.specs.declared.deck.Desk.{Desk}
-use Rattle.grs_wire.specs.declared.deck.Event.{Event}
-use Rattle.grs_wire.specs.declared.deck.Order.TheVariants as orders
-use Rattle.grs_wire.specs.declared.deck.SystemDef.{SystemDef}
 use Rattle.grs_wire.specs.declared.history.HistEntry.TheVariants.{Enq, Deq, Remove}
-use Rattle.grs_wire.specs.declared.medium.Act.{Act}
-use Rattle.grs_wire.specs.declared.medium.Act.TheVariants as acts
-use Rattle.grs_wire.specs.declared.medium.Reply.{Reply}
-use Rattle.grs_wire.specs.declared.medium.Reply.TheVariants as replies
-use Rattle.grs_wire.specs.declared.told.Said.TheVariants.{StarDone, VaryDone}
-use Rattle.grs_wire.specs.declared.told.ToldLine.TheVariants.{Coded, Desk as AtDesk}
-use Rattle.grs_wire.specs.declared.told.Verb.TheVariants as verbs
+use Rattle.grs_wire.specs.declared.told.ToldLine.TheVariants.{Desk as AtDesk}
 use Rattle.lock_structure.specs.Purge.{purged_word}
-use Rattle.lock_structure.specs.Words.{route}
-use Rattle.ring_mode.specs.Ring.{answer_own, process, process_entry}
-use Rattle.rsa_message.specs.Message.{any_unseen, cleared, closed_by, departed, first_after, rest_after_turn, stamped}
-use Rattle.rsa_message.specs.Message.{turn_reply, turned, wakes}
-use Rattle.star_client.specs.Client.{tell_answer_ranked, after_mail}
-use Rattle.system_purge.specs.Purge.{tell_each}
-use Rattle.task_state.specs.Replies.{tell_code, record_enq, after_code, replied, passes_wait, tell_line, tell_untold}
-use Rattle.task_state.specs.Replies.{tell_control, tell_all, tell_new, recalled, tell_answer, tell_answer_any}
-use Rattle.task_state.specs.View.{state_of, with_state, with_line, with_phase, with_outstanding, with_record}
-use Rattle.task_state.specs.View.{without_record, with_told, with_exclusive, with_rank, telling}
-use Rattle.grs_world.specs.Kept.{kept, managed_list, places}
-use Rattle.grs_world.specs.World.{first_world, carry_out, chosen, placed, happens_at, happens, run, hist, told}
+use Rattle.grs_world.specs.Kept.{managed_list}
 use Rattle.grs_world.proofs.samples.RemovalSamples.{purges}
 use Rattle.grs_world.proofs.samples.Samples.{system, task_of, shared, enq, deq, deck_of, goes, turn, at}
 use Rattle.grs_world.proofs.samples.StarSamples.{sends, settles, star_of, takes, tells}
 use Rattle.grs_world.proofs.samples.SwitchSamples.{switches}
+use Rattle.grs_wire.specs.declared.deck.Choice.TheVariants as choices
+use Rattle.grs_wire.specs.declared.deck.Order.TheVariants as orders
+use Rattle.grs_wire.specs.declared.medium.Act.TheVariants as acts
+use Rattle.grs_wire.specs.declared.medium.Reply.TheVariants as replies
+use Rattle.grs_wire.specs.declared.told.Verb.TheVariants as verbs
 
 abbrev pub parts : ℕ → Event
 parts s = record { system = system s; choice = choices.Part 0 }

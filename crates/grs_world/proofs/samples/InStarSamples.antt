@@ -1,36 +1,25 @@
 -- Which systems a run removes while the complex is in star mode, told by hand.
-use Rattle.std.proofs.Common.{◌≡◌, ℕ, true, false, List, [], ◌∷◌, ◌++◌, map, refl}
-use Rattle.grs_base.specs.declared.line.Line.{Line}
-use Rattle.grs_medium.specs.Apply.{rest_row, row, apply, purge_row, switch_row, turn_row}
-use Rattle.grs_node.specs.Node.{losing, stale}
-use Rattle.grs_node.specs.Removal.{lose_each, members_below, take_up_below}
-use Rattle.system_purge.specs.Purge.{tell_each, tell_freed}
-use Rattle.grs_medium.specs.Medium.{medium_at_end}
-use Rattle.grs_node.specs.Node.{prepare, finish_quiet, finish_star, finish_call, finish, first_node, read_entries}
-use Rattle.grs_node.specs.Node.{all_sent, change_to_star, desk_told, is_pending, purged, put_in, switched}
+use Rattle.grs_world.proofs.Common.{[], ◌++◌, ◌∷◌, ◌≡◌, all_sent, any_unseen, apply, at_rest, carry_out, change_to_star}
+use Rattle.grs_world.proofs.Common.{chosen, cleared, closed_by, Deck, departed, desk_told, dropped, Event, false}
+use Rattle.grs_world.proofs.Common.{finish, finish_call, finish_quiet, finish_star, first_after, first_node}
+use Rattle.grs_world.proofs.Common.{first_world, happens, happens_at, has, is_pending, Line, List, lock_word, lose_each}
+use Rattle.grs_world.proofs.Common.{losing, manager, map, medium_at_end, members_below, NoneInStar, placed, prepare}
+use Rattle.grs_world.proofs.Common.{process, process_entry, purge_row, purged, put_in, read_entries, refl}
+use Rattle.grs_world.proofs.Common.{removes_in_star, rest_after_turn, rest_row, row, run, stale, stamped, StarDone}
+use Rattle.grs_world.proofs.Common.{switch_row, switched, SystemDef, take_up_below, tell_each, tell_freed, telling}
+use Rattle.grs_world.proofs.Common.{told, true, turn_reply, turn_row, turned, unseen, VaryDone, wakes, with_also}
+use Rattle.grs_world.proofs.Common.{without, ℕ}
 use Rattle.grs_node.specs.Node.{turned as system_turned}
-use Rattle.task_state.specs.View.{telling}
-use Rattle.grs_wire.specs.LockWords.{manager, lock_word}
-use Rattle.grs_wire.specs.Masks.{has, without, with_also}
-use Rattle.grs_wire.specs.declared.deck.Deck.{Deck}
 use Rattle.grs_wire.specs.declared.deck.Desk.{Desk}
-use Rattle.grs_wire.specs.declared.deck.Event.{Event}
-use Rattle.grs_wire.specs.declared.deck.Order.TheVariants as orders
-use Rattle.grs_wire.specs.declared.deck.SystemDef.{SystemDef}
-use Rattle.grs_wire.specs.declared.told.Said.TheVariants.{StarAlready, StarDone, VaryDone, VaryNoSuch}
+use Rattle.grs_wire.specs.declared.told.Said.TheVariants.{StarAlready, VaryNoSuch}
 use Rattle.grs_wire.specs.declared.told.ToldLine.TheVariants.{Desk as AtDesk}
-use Rattle.grs_wire.specs.Unseen.{unseen}
-use Rattle.ring_mode.specs.Ring.{process, process_entry}
-use Rattle.rsa_message.specs.Message.{any_unseen, cleared, closed_by, departed, dropped, first_after, rest_after_turn}
-use Rattle.rsa_message.specs.Message.{stamped, turn_reply, turned, wakes}
 use Rattle.grs_world.specs.Decks.{may_remove}
-use Rattle.grs_world.specs.InStar.{NoneInStar, removals_in_star, removes_in_star}
-use Rattle.grs_world.specs.Running.{at_rest}
-use Rattle.grs_world.specs.World.{first_world, carry_out, chosen, placed, happens_at, happens, run, told}
+use Rattle.grs_world.specs.InStar.{removals_in_star}
 use Rattle.grs_world.proofs.samples.Samples.{at, deck_of, rest, system, turn}
 use Rattle.grs_world.proofs.samples.RemovalSamples.{purges}
 use Rattle.grs_world.proofs.samples.StarSamples.{star_of}
 use Rattle.grs_world.proofs.samples.SwitchSamples.{switches}
+use Rattle.grs_wire.specs.declared.deck.Order.TheVariants as orders
 
 -- Four systems without tasks; the desk of each has these commands.
 abbrev idle : List (List (List Line))

@@ -1,20 +1,11 @@
 -- Worked messages, by which the law that a request comes back last is checked.
-use Rattle.std.proofs.Common.{◌≡◌, ℕ, true, false, List, [], ◌∷◌, Some, refl, ap, ◌∙◌, arith}
-use Rattle.grs_base.specs.declared.resource.Ctl.TheVariants.{E}
-use Rattle.grs_base.specs.declared.resource.Ret.TheVariants.{RetNone}
+use Rattle.grs_world.proofs.Common.{[], ◌∙◌, ◌∷◌, ◌≡◌, any_unseen, ap, apply, arith, cleared, dropped, E, Enq, false}
+use Rattle.grs_world.proofs.Common.{first_after, first_medium, has, List, MediumState, Message, purge_row, refl, Remove}
+use Rattle.grs_world.proofs.Common.{Req, Request, rest_after_turn, RetNone, RingEntry, row, Some, stamped, SysId, true}
+use Rattle.grs_world.proofs.Common.{turn_reply, turn_row, turned, unseen, wakes, with_also, without, ℕ}
 use Rattle.grs_base.specs.declared.resource.Res.TheVariants.{Systems}
-use Rattle.grs_base.specs.declared.resource.SysId.{SysId}
 use Rattle.grs_wire.specs.declared.medium.Act.TheVariants.{Turn, Purge}
-use Rattle.grs_wire.specs.declared.medium.RingBody.TheVariants.{Request, Remove}
-use Rattle.grs_wire.specs.declared.medium.RingEntry.{RingEntry}
-use Rattle.grs_wire.specs.declared.request.Req.{Req}
-use Rattle.grs_wire.specs.declared.request.Want.TheVariants.{Enq}
-use Rattle.grs_wire.specs.Masks.{has, without, with_also}
-use Rattle.rsa_message.specs.Message.{Message, first_after, any_unseen, cleared, stamped, turn_reply, wakes}
-use Rattle.rsa_message.specs.Message.{rest_after_turn, turned, dropped}
-use Rattle.grs_wire.specs.Unseen.{unseen}
-use Rattle.grs_medium.specs.Apply.{turn_row, purge_row, row, apply, medium_after}
-use Rattle.grs_medium.specs.Medium.{MediumState, first_medium}
+use Rattle.grs_medium.specs.Apply.{medium_after}
 use Rattle.grs_world.specs.Laps.{LastAtHome}
 
 abbrev sys : ℕ → SysId

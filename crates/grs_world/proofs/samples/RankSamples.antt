@@ -1,45 +1,28 @@
 -- Worked runs by which ranks and orders are checked: which rank an element gets, that its record has the same, who is
 -- told first that it owns, and who manages an entry behind the change to star mode.
-use Rattle.std.proofs.Common.{◌≡◌, ℕ, true, false, List, [], ◌∷◌, ◌++◌, map, Option, Some, None, refl}
-use Rattle.std.specs.Prelude.{slice_get}
-use Rattle.contention_mgr.specs.Manager.{Managed, managed_at}
-use Rattle.grs_base.specs.declared.decision.Code.TheVariants.{Wait}
-use Rattle.grs_base.specs.declared.line.Scope.TheVariants.{Systems}
-use Rattle.grs_base.specs.declared.resource.Ctl.TheVariants.{E, S}
-use Rattle.grs_base.specs.declared.resource.Ret.TheVariants.{RetNone}
-use Rattle.grs_medium.specs.Apply.{row, apply, turn_row, switch_row, submit_row, take_row, mail_row}
-use Rattle.grs_medium.specs.Medium.{inbox}
-use Rattle.grs_node.specs.Node.{losing}
-use Rattle.grs_node.specs.Removal.{lose_each, members_below, take_up_below}
-use Rattle.grs_node.specs.Node.{NodeState, post, ask, take_line, end_step, ready_step, phase_step, may_go, may_send}
-use Rattle.grs_node.specs.Node.{star_call, prepare, finish_quiet, finish_star, finish_call, finish, first_node}
-use Rattle.grs_node.specs.Node.{read_entries, all_sent, put_in, switched, desk_told, change_to_star}
+use Rattle.grs_world.proofs.Common.{[], ◌++◌, ◌∷◌, ◌≡◌, after_code, after_mail, all_sent, answer_own, any_unseen, apply}
+use Rattle.grs_world.proofs.Common.{ask, carry_out, change_to_star, chosen, cleared, closed_by, decide_own, Deck}
+use Rattle.grs_world.proofs.Common.{desk_told, E, end_step, Event, false, finish, finish_call, finish_quiet}
+use Rattle.grs_world.proofs.Common.{finish_star, first_after, first_node, first_world, happens, happens_at, has, inbox}
+use Rattle.grs_world.proofs.Common.{List, lock_word, lose_each, losing, mail_row, Managed, managed_at, manager, map}
+use Rattle.grs_world.proofs.Common.{may_go, may_send, members_below, NodeState, None, Option, passes_wait, phase_step}
+use Rattle.grs_world.proofs.Common.{placed, post, prepare, process, process_entry, put_in, read_entries, ready_step}
+use Rattle.grs_world.proofs.Common.{recalled, record_enq, refl, replied, rest_after_turn, RetNone, route, row, run, S}
+use Rattle.grs_world.proofs.Common.{slice_get, Some, stamped, star_call, StarPart, state_of, submit_row, submitted}
+use Rattle.grs_world.proofs.Common.{switch_row, switched, SystemDef, Systems, take_line, take_row, take_up_below}
+use Rattle.grs_world.proofs.Common.{tell_all, tell_answer, tell_answer_any, tell_answer_ranked, tell_code, tell_control}
+use Rattle.grs_world.proofs.Common.{tell_line, tell_new, tell_untold, telling, took_mail, true, turn_reply, turn_row}
+use Rattle.grs_world.proofs.Common.{turned, unseen, Wait, wakes, with_also, with_exclusive, with_line, with_outstanding}
+use Rattle.grs_world.proofs.Common.{with_phase, with_rank, with_record, with_state, with_told, without, without_record}
+use Rattle.grs_world.proofs.Common.{World, ℕ}
 use Rattle.grs_node.specs.Node.{turned as system_turned}
-use Rattle.grs_node.specs.Star.{StarPart, decide_own}
-use Rattle.grs_node.specs.Node.{took_mail}
-use Rattle.grs_wire.specs.LockWords.{manager, lock_word, submitted}
-use Rattle.grs_wire.specs.Masks.{has, without, with_also}
-use Rattle.grs_wire.specs.Unseen.{unseen}
-use Rattle.grs_wire.specs.declared.deck.Deck.{Deck}
-use Rattle.grs_wire.specs.declared.deck.Event.{Event}
-use Rattle.grs_wire.specs.declared.deck.Order.TheVariants as orders
-use Rattle.grs_wire.specs.declared.deck.SystemDef.{SystemDef}
-use Rattle.grs_wire.specs.declared.medium.Mail.TheVariants as mails
-use Rattle.grs_wire.specs.declared.request.Answer.TheVariants as answers
-use Rattle.lock_structure.specs.Words.{route}
-use Rattle.ring_mode.specs.Ring.{answer_own, process, process_entry}
-use Rattle.rsa_message.specs.Message.{any_unseen, cleared, closed_by, first_after, rest_after_turn, stamped, turn_reply}
-use Rattle.rsa_message.specs.Message.{turned, wakes}
-use Rattle.star_client.specs.Client.{tell_answer_ranked, after_mail}
-use Rattle.task_state.specs.Replies.{after_code, passes_wait, recalled, record_enq, replied, tell_all, tell_answer}
-use Rattle.task_state.specs.Replies.{tell_answer_any, tell_code, tell_control, tell_line, tell_new, tell_untold}
-use Rattle.task_state.specs.View.{state_of, telling, with_exclusive, with_line, with_outstanding, with_phase, with_rank}
-use Rattle.task_state.specs.View.{with_record, with_state, with_told, without_record}
 use Rattle.grs_world.specs.Interest.{manages_at}
-use Rattle.grs_world.specs.World.{World, first_world, carry_out, chosen, placed, happens_at, happens, run}
 use Rattle.grs_world.proofs.samples.Samples.{system, task_of, shared, enq, deq, deck_of, goes, turn}
 use Rattle.grs_world.proofs.samples.StarSamples.{sends, settles, star_of, takes, tells}
 use Rattle.grs_world.proofs.samples.SwitchSamples.{switches}
+use Rattle.grs_wire.specs.declared.deck.Order.TheVariants as orders
+use Rattle.grs_wire.specs.declared.medium.Mail.TheVariants as mails
+use Rattle.grs_wire.specs.declared.request.Answer.TheVariants as answers
 
 -- the ranks of the records of each task of a system, and those of the elements of the only lock entry where it manages
 -- that

@@ -1,54 +1,31 @@
 -- A worked run in which a system of a ring is removed while it owns, has the message, and has a request in it, by which
 -- the definitions are checked: what is answered, fixed, told and kept is what the rules of the service give by hand.
-use Rattle.std.proofs.Common.{◌≡◌, ℕ, true, false, List, [], ◌∷◌, ◌++◌, Some, map, drop, refl, Bool}
-use Rattle.grs_base.specs.declared.decision.Code.TheVariants.{C00, Wait}
-use Rattle.grs_base.specs.declared.line.Scope.TheVariants.{Systems, System}
-use Rattle.grs_base.specs.declared.resource.Ctl.TheVariants.{E}
-use Rattle.grs_base.specs.declared.resource.Elem.{Elem}
-use Rattle.grs_base.specs.declared.resource.Ret.TheVariants.{RetNone}
-use Rattle.grs_medium.specs.Apply.{row, apply, turn_row, purge_row}
-use Rattle.grs_node.specs.Node.{losing, stale}
-use Rattle.grs_node.specs.Node.{post, ask, take_line, end_step, ready_step, phase_step, may_go, prepare, finish_quiet}
-use Rattle.grs_node.specs.Node.{finish_call, finish, first_node, read_entries, all_sent, put_in, desk_told, purged}
-use Rattle.grs_node.specs.Node.{turned as system_turned, decide, is_pending}
-use Rattle.grs_wire.specs.Masks.{has, without, with_also}
-use Rattle.grs_wire.specs.declared.deck.Deck.{Deck}
-use Rattle.grs_wire.specs.declared.deck.Event.{Event}
-use Rattle.grs_wire.specs.declared.deck.SystemDef.{SystemDef}
+use Rattle.grs_world.proofs.Common.{[], ◌++◌, ◌∷◌, ◌≡◌, after_code, all_sent, answer_own, any_unseen, apply, ask}
+use Rattle.grs_world.proofs.Common.{at_rest, Bool, C00, carry_out, chosen, cleared, Coded, decide, Deck, Desk}
+use Rattle.grs_world.proofs.Common.{desk_told, drop, dropped, E, Elem, end_step, Event, false, finish, finish_call}
+use Rattle.grs_world.proofs.Common.{finish_quiet, first_after, first_node, first_world, happens, happens_at, has, hist}
+use Rattle.grs_world.proofs.Common.{is_live, is_pending, kept, line_entries, lines_of, lines_of_told, List, list_any}
+use Rattle.grs_world.proofs.Common.{list_of, lists_after, losing, map, may_go, Meaning, medium_at_end, passes_wait}
+use Rattle.grs_world.proofs.Common.{phase_step, placed, places, post, prepare, process, process_entry, purge_row}
+use Rattle.grs_world.proofs.Common.{purged, put_in, read_entries, ready_step, recalled, record_enq, refl, replied}
+use Rattle.grs_world.proofs.Common.{reply_of, Res, rest_after_turn, RetNone, row, run, Some, stale, stamped, state_of}
+use Rattle.grs_world.proofs.Common.{SystemDef, Systems, take_line, TaskId, tell_all, tell_answer, tell_answer_any}
+use Rattle.grs_world.proofs.Common.{tell_code, tell_control, tell_freed, tell_line, tell_new, tell_untold, telling}
+use Rattle.grs_world.proofs.Common.{tells_control, told, true, turn_reply, turn_row, turned, unseen, unwrap_or}
+use Rattle.grs_world.proofs.Common.{VaryDone, Wait, wakes, with_also, with_exclusive, with_line, with_outstanding}
+use Rattle.grs_world.proofs.Common.{with_phase, with_record, with_state, with_told, without, without_record, ℕ}
+use Rattle.grs_base.specs.declared.line.Scope.TheVariants.{System}
+use Rattle.grs_node.specs.Node.{turned as system_turned}
+use Rattle.grs_wire.specs.declared.history.HistEntry.TheVariants.{Enq, Remove}
+use Rattle.grs_wire.specs.declared.told.Said.TheVariants.{VaryNoSuch}
+use Rattle.grs_world.specs.Running.{task_end}
+use Rattle.grs_world.proofs.samples.Samples.{system, task_of, shared, enq, deck_of, goes, turn, at, own}
+use Rattle.grs_world.specs.AtRest.{goes_on_with}
 use Rattle.grs_wire.specs.declared.deck.Choice.TheVariants as choices
 use Rattle.grs_wire.specs.declared.deck.Order.TheVariants as orders
-use Rattle.grs_wire.specs.declared.history.HistEntry.TheVariants.{Enq, Remove}
 use Rattle.grs_wire.specs.declared.medium.Reply.TheVariants as replies
 use Rattle.grs_wire.specs.declared.seen.TaskEnd.TheVariants as ends
-use Rattle.grs_wire.specs.declared.told.Said.TheVariants.{VaryDone, VaryNoSuch}
-use Rattle.grs_wire.specs.declared.told.ToldLine.TheVariants.{Coded, Desk}
 use Rattle.grs_wire.specs.declared.told.Verb.TheVariants as verbs
-use Rattle.ring_mode.specs.Ring.{answer_own, process, process_entry}
-use Rattle.rsa_message.specs.Message.{first_after, any_unseen, cleared, stamped, turn_reply, wakes, rest_after_turn}
-use Rattle.rsa_message.specs.Message.{dropped, turned}
-use Rattle.grs_wire.specs.Unseen.{unseen}
-use Rattle.system_purge.specs.Purge.{tell_freed}
-use Rattle.task_state.specs.Replies.{tell_code, record_enq, after_code, replied, passes_wait, tell_line, tell_untold}
-use Rattle.task_state.specs.Replies.{tell_control, tell_all, tell_new, recalled, tell_answer, tell_answer_any}
-use Rattle.task_state.specs.View.{state_of, with_state, with_line, with_phase, with_outstanding, with_record}
-use Rattle.task_state.specs.View.{without_record, with_told, with_exclusive, telling}
-use Rattle.grs_world.specs.Kept.{kept, places}
-use Rattle.grs_world.specs.Removing.{reply_of}
-use Rattle.grs_world.specs.Running.{is_live, task_end, at_rest}
-use Rattle.grs_world.specs.World.{first_world, carry_out, chosen, placed, happens_at, happens, run, hist, told}
-use Rattle.grs_world.proofs.samples.Samples.{system, task_of, shared, enq, deck_of, goes, turn, at, own}
-use Rattle.std.specs.Prelude.{unwrap_or}
-use Rattle.std.specs.List.{list_any}
-use Rattle.grs_base.specs.State.{list_of}
-use Rattle.grs_base.specs.declared.resource.Res.{Res}
-use Rattle.grs_base.specs.declared.resource.TaskId.{TaskId}
-use Rattle.grs_known.specs.Told.{tells_control}
-use Rattle.grs_legal.specs.Asks.{lines_of}
-use Rattle.grs_legal.specs.Legal.{line_entries}
-use Rattle.grs_legal.specs.declared.meaning.Meaning.{Meaning}
-use Rattle.grs_medium.specs.Medium.{medium_at_end}
-use Rattle.grs_world.specs.Agree.{lines_of_told}
-use Rattle.grs_world.specs.AtRest.{goes_on_with, lists_after}
 
 abbrev pub purges : ℕ → ℕ → Event
 purges s target = record { system = system s; choice = choices.Purge (system target) }

@@ -1,60 +1,39 @@
 -- Worked runs that end at rest, by which the definition of nothing lost is checked.
-use Rattle.std.proofs.Common.{◌≡◌, ◌≤◌, ℕ, true, false, List, [], ◌∷◌, ◌++◌, length, Some, refl, sym, subst, arith}
-use Rattle.std.specs.Prelude.{unwrap_or}
-use Rattle.std.specs.List.{count_by, list_any}
-use Rattle.grs_base.specs.Lists.{owns}
+use Rattle.grs_world.proofs.Common.{[], ◌++◌, ◌∷◌, ◌≡◌, ◌≤◌, after_code, all_sent, answer_own, any_unseen, apply, arith}
+use Rattle.grs_world.proofs.Common.{ask, at_rest, C00, C04, carry_out, chosen, cleared, decide, Deck, Display, E}
+use Rattle.grs_world.proofs.Common.{end_step, Ended, entry_of_line, Event, false, finish, finish_call, finish_quiet}
+use Rattle.grs_world.proofs.Common.{first_after, first_node, first_world, goes_on_looking, happens, happens_at, has}
+use Rattle.grs_world.proofs.Common.{hist, HistEntry, is_code_of, is_pending, length, Line, line_entries, lines_of}
+use Rattle.grs_world.proofs.Common.{lines_of_told, List, list_any, list_of, lists_after, may_go, Meaning, medium_at_end}
+use Rattle.grs_world.proofs.Common.{owns, passes_wait, phase_step, placed, post, prepare, process, process_entry}
+use Rattle.grs_world.proofs.Common.{put_in, read_entries, ready_step, recalled, record_enq, refl, replied, Res}
+use Rattle.grs_world.proofs.Common.{rest_after_turn, RetEcb, RetNone, row, run, show, slice_of, Some, stamped, state_of}
+use Rattle.grs_world.proofs.Common.{subst, sym, take_line, TaskId, tell_all, tell_answer, tell_answer_any, tell_code}
+use Rattle.grs_world.proofs.Common.{tell_control, tell_line, tell_new, tell_rows, tell_untold, telling, tells_control}
+use Rattle.grs_world.proofs.Common.{told, true, turn_reply, turn_row, turned, unseen, unwrap_or, Wait, wait, wakes}
+use Rattle.grs_world.proofs.Common.{with_also, with_exclusive, with_line, with_outstanding, with_phase, with_record}
+use Rattle.grs_world.proofs.Common.{with_rows, with_state, with_told, without, without_record, without_rows, ℕ}
+use Rattle.std.specs.List.{count_by}
 use Rattle.grs_base.specs.Rnl.{no_entries}
-use Rattle.grs_base.specs.State.{list_of}
-use Rattle.grs_base.specs.declared.decision.Code.TheVariants.{C00, C04, Wait}
 use Rattle.grs_base.specs.declared.look.Filter.TheVariants.{Named}
-use Rattle.grs_base.specs.Slices.{slice_of}
-use Rattle.grs_base.specs.declared.line.Line.{Line}
-use Rattle.grs_base.specs.declared.line.Line.TheVariants as lines
-use Rattle.grs_base.specs.declared.resource.Ctl.TheVariants.{E}
-use Rattle.grs_base.specs.declared.resource.Res.{Res}
-use Rattle.grs_base.specs.declared.resource.Res.TheVariants as kinds
 use Rattle.grs_base.specs.declared.line.Scope.TheVariants.{System}
-use Rattle.grs_base.specs.declared.resource.Ret.TheVariants.{RetNone, RetEcb}
-use Rattle.grs_base.specs.declared.resource.TaskId.{TaskId}
 use Rattle.grs_base.specs.declared.rnl.RnlType.TheVariants.{Specific}
 use Rattle.grs_base.specs.declared.rnl.RnlEntry.{RnlEntry}
-use Rattle.grs_base.specs.declared.rnl.Which.TheVariants as which
-use Rattle.grs_known.specs.Told.{entries_of_line, entry_of_line, is_code_of, tells_control}
-use Rattle.grs_legal.specs.Asks.{lines_of, looks_in}
-use Rattle.grs_legal.specs.declared.meaning.Display.{Display}
-use Rattle.grs_legal.specs.Legal.{line_entries}
-use Rattle.grs_legal.specs.declared.meaning.Meaning.{Meaning}
-use Rattle.grs_medium.specs.Apply.{turn_row, row, apply}
-use Rattle.grs_medium.specs.Medium.{medium_at_end}
-use Rattle.grs_node.specs.Node.{decide, post, ask, wait, take_line, end_step, ready_step, phase_step, is_pending}
-use Rattle.grs_node.specs.Node.{may_go, prepare, finish_quiet, finish, first_node, show, read_entries, all_sent, put_in}
-use Rattle.grs_node.specs.Node.{finish_call, turned as system_turned}
-use Rattle.grs_wire.specs.Masks.{has, without, with_also}
-use Rattle.grs_wire.specs.Unseen.{unseen}
-use Rattle.grs_wire.specs.declared.deck.Deck.{Deck}
-use Rattle.grs_wire.specs.declared.deck.Event.{Event}
-use Rattle.grs_wire.specs.declared.history.HistEntry.{HistEntry}
+use Rattle.grs_known.specs.Told.{entries_of_line}
+use Rattle.grs_legal.specs.Asks.{looks_in}
+use Rattle.grs_node.specs.Node.{turned as system_turned}
 use Rattle.grs_wire.specs.declared.history.HistEntry.TheVariants.{Enq}
 use Rattle.grs_wire.specs.declared.seen.TaskEnd.TheVariants.{Waits}
-use Rattle.grs_wire.specs.declared.told.ToldLine.TheVariants.{Ended, Shown}
-use Rattle.grs_wire.specs.declared.told.Verb.TheVariants as verbs
-use Rattle.task_state.specs.Replies.{tell_code, record_enq, after_code, replied, passes_wait, tell_line, tell_untold}
-use Rattle.task_state.specs.Replies.{tell_control, tell_all, tell_new, recalled, tell_answer, tell_answer_any}
-use Rattle.task_state.specs.Replies.{tell_rows}
-use Rattle.task_state.specs.Replies.{goes_on_looking}
-use Rattle.ring_mode.specs.Ring.{answer_own, process, process_entry}
-use Rattle.rsa_message.specs.Message.{first_after, any_unseen, cleared, stamped, turn_reply, wakes, rest_after_turn}
-use Rattle.rsa_message.specs.Message.{turned}
-use Rattle.task_state.specs.View.{state_of, with_state, with_line, with_phase, with_outstanding, with_record}
-use Rattle.task_state.specs.View.{without_record, with_told, with_exclusive, with_rows, without_rows, telling}
-use Rattle.grs_world.specs.Agree.{lines_of_told}
-use Rattle.grs_world.specs.AtRest.{DisplaysAreTold, first_uncoded, goes_on_with, is_coded, is_reserve, lists_after}
-use Rattle.grs_world.specs.AtRest.{unit_count}
+use Rattle.grs_wire.specs.declared.told.ToldLine.TheVariants.{Shown}
+use Rattle.grs_world.specs.AtRest.{DisplaysAreTold, first_uncoded, goes_on_with, is_coded, is_reserve, unit_count}
 use Rattle.grs_world.specs.Passed.{TellLines, state_in}
 use Rattle.grs_known.specs.Passed.{has_ended, lines_passed}
-use Rattle.grs_world.specs.Running.{at_rest, task_end, units_of}
-use Rattle.grs_world.specs.World.{first_world, carry_out, chosen, placed, happens_at, happens, run, hist, told}
+use Rattle.grs_world.specs.Running.{task_end, units_of}
 use Rattle.grs_world.proofs.samples.Samples.{system, task_of, own, enq, deq, wait_for, deck_of, goes, turn, at}
+use Rattle.grs_base.specs.declared.line.Line.TheVariants as lines
+use Rattle.grs_base.specs.declared.resource.Res.TheVariants as kinds
+use Rattle.grs_base.specs.declared.rnl.Which.TheVariants as which
+use Rattle.grs_wire.specs.declared.told.Verb.TheVariants as verbs
 
 -- two tasks, each of which reserves the volume that the other has reserved; both volumes are the system's own
 abbrev reserve : ℕ → ℕ → Line

@@ -1,51 +1,35 @@
 -- Worked runs, by which the definitions are checked: each history and each told line is what the rules of the
 -- service give by hand.
-use Rattle.std.proofs.Common.{◌≡◌, ℕ, Bool, true, false, List, [], ◌∷◌, ◌++◌, map, Some, None, refl}
-use Rattle.grs_base.specs.declared.resource.Ctl.{Ctl}
-use Rattle.grs_base.specs.declared.resource.Ctl.TheVariants.{E, S}
-use Rattle.grs_base.specs.declared.resource.Ret.{Ret}
-use Rattle.grs_base.specs.declared.resource.Ret.TheVariants.{RetNone, RetUse, RetHave, RetEcb}
-use Rattle.grs_base.specs.declared.resource.Res.{Res}
-use Rattle.grs_base.specs.declared.resource.Res.TheVariants as kinds
-use Rattle.grs_base.specs.declared.resource.SysId.{SysId}
-use Rattle.grs_base.specs.declared.resource.TaskId.{TaskId}
-use Rattle.grs_base.specs.declared.decision.Code.TheVariants.{C00, C04, C08, C14, Wait, End}
-use Rattle.grs_base.specs.declared.line.Line.{Line}
-use Rattle.grs_base.specs.declared.line.Line.TheVariants as lines
+use Rattle.grs_world.proofs.Common.{[], ◌++◌, ◌∷◌, ◌≡◌, after_code, all_sent, answer_own, any_unseen, apply, ask, Bool}
+use Rattle.grs_world.proofs.Common.{C00, C04, C08, C14, carry_out, chosen, cleared, Coded, Ctl, decide, Deck, E, End}
+use Rattle.grs_world.proofs.Common.{end_step, Ended, Event, false, finish, finish_call, finish_quiet, finish_star}
+use Rattle.grs_world.proofs.Common.{first_after, first_node, first_world, happens, happens_at, has, hist, is_pending}
+use Rattle.grs_world.proofs.Common.{Line, List, map, may_go, medium_at_end, None, passes_wait, phase_step, placed, post}
+use Rattle.grs_world.proofs.Common.{prepare, process, process_entry, put_in, read_entries, ready_step, Rec, recalled}
+use Rattle.grs_world.proofs.Common.{record_enq, refl, replied, Reply, reply_to, Res, rest_after_turn, rest_row, Ret}
+use Rattle.grs_world.proofs.Common.{RetEcb, RetNone, row, run, S, Some, stamped, state_of, SysId, Systems, take_line}
+use Rattle.grs_world.proofs.Common.{TaskId, tell_all, tell_answer, tell_answer_any, tell_code, tell_control, tell_line}
+use Rattle.grs_world.proofs.Common.{tell_new, tell_untold, telling, Told, told, ToldLine, true, turn_reply, turn_row}
+use Rattle.grs_world.proofs.Common.{turned, unseen, Wait, wait, wakes, with_also, with_exclusive, with_line}
+use Rattle.grs_world.proofs.Common.{with_outstanding, with_phase, with_record, with_state, with_told, without}
+use Rattle.grs_world.proofs.Common.{without_record, World, ℕ}
+use Rattle.grs_base.specs.declared.resource.Ret.TheVariants.{RetUse, RetHave}
 use Rattle.grs_base.specs.declared.line.Scope.{Scope}
-use Rattle.grs_base.specs.declared.line.Scope.TheVariants.{System, Systems}
+use Rattle.grs_base.specs.declared.line.Scope.TheVariants.{System}
 use Rattle.grs_base.specs.declared.rnl.Which.{Which}
-use Rattle.grs_base.specs.declared.rnl.Which.TheVariants as which
 use Rattle.grs_base.specs.declared.rnl.RnlType.TheVariants.{Specific}
 use Rattle.grs_base.specs.declared.rnl.RnlEntry.{RnlEntry}
 use Rattle.grs_base.specs.Rnl.{no_entries}
-use Rattle.grs_medium.specs.Apply.{turn_row, rest_row, row, apply, reply_to}
-use Rattle.grs_medium.specs.Medium.{medium_at_end}
-use Rattle.grs_node.specs.Node.{decide, post, ask, wait, take_line, end_step, ready_step, phase_step, is_pending}
-use Rattle.grs_node.specs.Node.{may_go, prepare, finish_quiet, read_entries, all_sent, put_in, finish_star, finish_call}
-use Rattle.grs_node.specs.Node.{finish, first_node, turned as system_turned}
-use Rattle.grs_wire.specs.Masks.{has, without, with_also}
-use Rattle.grs_wire.specs.declared.deck.Deck.{Deck}
-use Rattle.grs_wire.specs.declared.deck.Event.{Event}
-use Rattle.grs_wire.specs.declared.deck.Choice.TheVariants as choices
+use Rattle.grs_node.specs.Node.{turned as system_turned}
 use Rattle.grs_wire.specs.declared.history.HistEntry.TheVariants.{Enq, Deq, Release}
-use Rattle.grs_wire.specs.declared.medium.Act.TheVariants as acts
-use Rattle.grs_wire.specs.declared.medium.Reply.{Reply}
 use Rattle.grs_wire.specs.declared.medium.Reply.TheVariants.{Resting, Over}
-use Rattle.grs_wire.specs.declared.told.Told.{Told}
-use Rattle.grs_wire.specs.declared.told.ToldLine.{ToldLine}
-use Rattle.grs_wire.specs.declared.told.ToldLine.TheVariants.{Coded, Post, Ended}
+use Rattle.grs_wire.specs.declared.told.ToldLine.TheVariants.{Post}
+use Rattle.grs_base.specs.declared.resource.Res.TheVariants as kinds
+use Rattle.grs_base.specs.declared.line.Line.TheVariants as lines
+use Rattle.grs_base.specs.declared.rnl.Which.TheVariants as which
+use Rattle.grs_wire.specs.declared.deck.Choice.TheVariants as choices
+use Rattle.grs_wire.specs.declared.medium.Act.TheVariants as acts
 use Rattle.grs_wire.specs.declared.told.Verb.TheVariants as verbs
-use Rattle.ring_mode.specs.Ring.{answer_own, process, process_entry}
-use Rattle.rsa_message.specs.Message.{first_after, any_unseen, cleared, stamped, turn_reply, wakes, rest_after_turn}
-use Rattle.rsa_message.specs.Message.{turned}
-use Rattle.grs_wire.specs.Unseen.{unseen}
-use Rattle.task_state.specs.declared.state.Rec.{Rec}
-use Rattle.task_state.specs.Replies.{tell_code, record_enq, after_code, replied, passes_wait, tell_line, tell_untold}
-use Rattle.task_state.specs.Replies.{tell_control, tell_all, tell_new, recalled, tell_answer, tell_answer_any}
-use Rattle.task_state.specs.View.{state_of, with_state, with_line, with_phase, with_outstanding, with_record}
-use Rattle.task_state.specs.View.{without_record, with_told, with_exclusive, telling}
-use Rattle.grs_world.specs.World.{World, first_world, carry_out, chosen, placed, happens_at, happens, run, hist, told}
 
 abbrev pub system : ℕ → SysId
 system s = record { 0 = s }

@@ -1,42 +1,26 @@
 -- A worked run of a display in ring mode, by which the definitions are checked: the history and each told line are what
 -- the rules of the service give by hand.
-use Rattle.std.proofs.Common.{◌≡◌, List, [], ◌∷◌, ◌++◌, Some, refl, arith}
-use Rattle.grs_base.specs.Slices.{slice_of}
-use Rattle.grs_base.specs.declared.decision.Code.TheVariants.{C00}
-use Rattle.grs_base.specs.declared.line.Line.{Line}
+use Rattle.grs_world.proofs.Common.{[], ◌++◌, ◌∷◌, ◌≡◌, after_code, all_sent, answer_own, any_unseen, apply, arith, ask}
+use Rattle.grs_world.proofs.Common.{C00, carry_out, chosen, cleared, Coded, decide, Deck, E, Event, Filter, finish}
+use Rattle.grs_world.proofs.Common.{finish_call, finish_quiet, first_after, first_node, first_world, goes_on_looking}
+use Rattle.grs_world.proofs.Common.{happens, happens_at, has, hist, HistEntry, List, Local, may_go, Moment, passes_wait}
+use Rattle.grs_world.proofs.Common.{phase_step, Place, placed, post, prepare, process, process_entry, put_in}
+use Rattle.grs_world.proofs.Common.{read_entries, ready_step, recalled, record_enq, refl, replied, rest_after_turn}
+use Rattle.grs_world.proofs.Common.{RetNone, Row, row, S, show, Slice, slice_of, Some, stamped, state_of, Systems}
+use Rattle.grs_world.proofs.Common.{take_line, tell_all, tell_answer, tell_answer_any, tell_code, tell_control}
+use Rattle.grs_world.proofs.Common.{tell_line, tell_new, tell_rows, tell_untold, telling, Told, told, turn_reply}
+use Rattle.grs_world.proofs.Common.{turn_row, turned, unseen, wakes, with_also, with_exclusive, with_line}
+use Rattle.grs_world.proofs.Common.{with_outstanding, with_phase, with_record, with_rows, with_state, with_told}
+use Rattle.grs_world.proofs.Common.{without, without_record, without_rows}
 use Rattle.grs_base.specs.declared.line.Line.TheVariants.{DisplayRes}
-use Rattle.grs_base.specs.declared.line.Scope.TheVariants.{System, Systems}
-use Rattle.grs_base.specs.declared.look.Filter.{Filter}
+use Rattle.grs_base.specs.declared.line.Scope.TheVariants.{System}
 use Rattle.grs_base.specs.declared.look.Filter.TheVariants.{Named}
-use Rattle.grs_base.specs.declared.look.Place.{Place}
-use Rattle.grs_base.specs.declared.look.Place.TheVariants.{Local, Slice}
-use Rattle.grs_base.specs.declared.resource.Ctl.TheVariants.{E, S}
-use Rattle.grs_base.specs.declared.resource.Ret.TheVariants.{RetNone}
-use Rattle.grs_base.specs.declared.resource.Row.{Row}
-use Rattle.grs_medium.specs.Apply.{turn_row, row, apply}
-use Rattle.grs_node.specs.Node.{all_sent, ask, decide, finish, finish_call, finish_quiet, first_node, may_go}
-use Rattle.grs_node.specs.Node.{phase_step, post, prepare, put_in, read_entries, ready_step, show, take_line}
 use Rattle.grs_node.specs.Node.{turned as system_turned}
-use Rattle.grs_wire.specs.Masks.{has, without, with_also}
-use Rattle.grs_wire.specs.Unseen.{unseen}
-use Rattle.grs_wire.specs.declared.deck.Deck.{Deck}
-use Rattle.grs_wire.specs.declared.deck.Event.{Event}
-use Rattle.grs_wire.specs.declared.history.HistEntry.{HistEntry}
 use Rattle.grs_wire.specs.declared.history.HistEntry.TheVariants.{Enq, Look}
-use Rattle.grs_wire.specs.declared.told.Told.{Told}
-use Rattle.grs_wire.specs.declared.told.ToldLine.TheVariants.{Coded, Shown}
-use Rattle.grs_wire.specs.declared.told.Verb.TheVariants as verbs
-use Rattle.ring_mode.specs.Ring.{answer_own, process, process_entry}
-use Rattle.rsa_message.specs.Message.{any_unseen, cleared, first_after, rest_after_turn, stamped, turn_reply, turned}
-use Rattle.rsa_message.specs.Message.{wakes}
-use Rattle.task_state.specs.Replies.{after_code, goes_on_looking, passes_wait, recalled, record_enq, replied}
-use Rattle.task_state.specs.Replies.{tell_all, tell_answer, tell_answer_any, tell_code, tell_control, tell_line}
-use Rattle.task_state.specs.Replies.{tell_new, tell_rows, tell_untold}
-use Rattle.task_state.specs.View.{state_of, telling, with_exclusive, with_line, with_outstanding, with_phase}
-use Rattle.task_state.specs.View.{with_record, with_rows, with_state, with_told, without_record, without_rows}
-use Rattle.grs_world.specs.Agree.{Agrees, Moment}
-use Rattle.grs_world.specs.World.{carry_out, chosen, first_world, happens, happens_at, hist, placed, run, told}
+use Rattle.grs_wire.specs.declared.told.ToldLine.TheVariants.{Shown}
+use Rattle.grs_world.specs.Agree.{Agrees}
 use Rattle.grs_world.proofs.samples.Samples.{at, deck_of, enq, goes, own, shared, system, task_of, turn}
+use Rattle.grs_wire.specs.declared.told.Verb.TheVariants as verbs
 
 -- A task has (A, B) of the whole complex, and another of its system (A, B) of the system; then this one displays the
 -- name.

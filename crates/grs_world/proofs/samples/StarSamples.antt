@@ -1,47 +1,28 @@
 -- Worked runs in star mode, by which the definitions are checked: each history, each told line and each lock word is
 -- what the rules of the service give by hand.
-use Rattle.std.proofs.Common.{◌≡◌, ℕ, true, false, List, [], ◌∷◌, ◌++◌, map, drop, refl, Some}
-use Rattle.grs_base.specs.declared.decision.Code.TheVariants.{C00, C04, Wait}
-use Rattle.grs_base.specs.declared.line.Line.{Line}
-use Rattle.grs_base.specs.declared.line.Scope.TheVariants.{Systems}
-use Rattle.grs_base.specs.declared.resource.Ctl.{Ctl}
-use Rattle.grs_base.specs.declared.resource.Ctl.TheVariants.{E, S}
-use Rattle.grs_base.specs.declared.resource.Elem.{Elem}
-use Rattle.grs_base.specs.declared.resource.Ret.TheVariants.{RetNone, RetEcb}
-use Rattle.grs_medium.specs.Apply.{row, apply, reply_to, submit_row, take_row, mail_row, leave_row, rest_row}
-use Rattle.grs_medium.specs.Medium.{medium_at_end}
-use Rattle.grs_node.specs.Node.{post, ask, take_line, end_step, ready_step, phase_step, is_pending, may_go, may_send}
-use Rattle.grs_node.specs.Node.{star_call, prepare, finish_quiet, finish_star, finish_call, finish, first_node, show}
-use Rattle.grs_node.specs.Star.{decide_own}
-use Rattle.grs_node.specs.Node.{took_mail}
-use Rattle.grs_wire.specs.LockWords.{manager, lock_word, submitted, leave_reply, leave_changes, left_word}
-use Rattle.grs_wire.specs.Masks.{has, without, with_also}
-use Rattle.grs_wire.specs.declared.deck.Deck.{Deck}
-use Rattle.grs_wire.specs.declared.deck.Event.{Event}
-use Rattle.grs_wire.specs.declared.deck.Choice.TheVariants as choices
+use Rattle.grs_world.proofs.Common.{[], ◌++◌, ◌∷◌, ◌≡◌, after_code, after_mail, apply, ask, at_rest, C00, C04}
+use Rattle.grs_world.proofs.Common.{carry_out, chosen, Coded, Ctl, decide_own, Deck, drop, E, Elem, end_step, Ended}
+use Rattle.grs_world.proofs.Common.{Event, false, Filter, finish, finish_call, finish_quiet, finish_star, first_node}
+use Rattle.grs_world.proofs.Common.{first_world, goes_on_looking, happens, happens_at, has, hist, is_pending, kept}
+use Rattle.grs_world.proofs.Common.{leave_changes, leave_reply, leave_row, left_word, Line, List, Local, lock_word}
+use Rattle.grs_world.proofs.Common.{mail_row, manager, map, may_go, may_send, medium_at_end, passes_wait, phase_step}
+use Rattle.grs_world.proofs.Common.{Place, placed, places, post, prepare, ready_step, recalled, record_enq, refl}
+use Rattle.grs_world.proofs.Common.{replied, reply_to, rest_row, RetEcb, RetNone, route, Row, row, run, S, show, Slice}
+use Rattle.grs_world.proofs.Common.{slice_of, Some, star_call, state_of, submit_row, submitted, Systems, take_line}
+use Rattle.grs_world.proofs.Common.{take_row, tell_all, tell_answer, tell_answer_any, tell_answer_ranked, tell_code}
+use Rattle.grs_world.proofs.Common.{tell_control, tell_line, tell_new, tell_rows, tell_untold, telling, told, took_mail}
+use Rattle.grs_world.proofs.Common.{true, Wait, with_also, with_exclusive, with_line, with_outstanding, with_phase}
+use Rattle.grs_world.proofs.Common.{with_rank, with_record, with_rows, with_state, with_told, without, without_record}
+use Rattle.grs_world.proofs.Common.{without_rows, ℕ}
 use Rattle.grs_wire.specs.declared.history.HistEntry.TheVariants.{Enq, Deq, Release, Look}
-use Rattle.grs_wire.specs.declared.medium.Act.TheVariants as acts
-use Rattle.grs_wire.specs.declared.medium.Reply.TheVariants as replies
-use Rattle.grs_wire.specs.declared.told.ToldLine.TheVariants.{Coded, Shown, Post, Ended}
-use Rattle.grs_wire.specs.declared.told.Verb.TheVariants as verbs
-use Rattle.lock_structure.specs.Words.{route}
-use Rattle.star_client.specs.Client.{tell_answer_ranked, after_mail}
-use Rattle.task_state.specs.Replies.{tell_code, record_enq, after_code, replied, passes_wait, tell_line, tell_untold}
-use Rattle.task_state.specs.Replies.{tell_control, tell_all, tell_new, recalled, tell_answer, tell_answer_any}
-use Rattle.task_state.specs.Replies.{tell_rows, goes_on_looking}
-use Rattle.task_state.specs.View.{state_of, with_state, with_line, with_phase, with_outstanding, with_record, with_rows}
-use Rattle.task_state.specs.View.{without_record, with_told, with_exclusive, with_rank, telling, without_rows}
-use Rattle.grs_world.specs.Kept.{kept, places}
-use Rattle.grs_world.specs.Running.{at_rest}
-use Rattle.grs_world.specs.World.{first_world, carry_out, chosen, placed, happens_at, happens, run, hist, told}
+use Rattle.grs_wire.specs.declared.told.ToldLine.TheVariants.{Shown, Post}
 use Rattle.grs_world.proofs.samples.Samples.{system, task_of, shared, enq, deq, deck_of, goes, rest, at}
 use Rattle.grs_base.specs.declared.line.Line.TheVariants.{DisplayRes}
-use Rattle.grs_base.specs.declared.look.Filter.{Filter}
 use Rattle.grs_base.specs.declared.look.Filter.TheVariants.{Named}
-use Rattle.grs_base.specs.declared.look.Place.{Place}
-use Rattle.grs_base.specs.declared.look.Place.TheVariants.{Local, Slice}
-use Rattle.grs_base.specs.declared.resource.Row.{Row}
-use Rattle.grs_base.specs.Slices.{slice_of}
+use Rattle.grs_wire.specs.declared.deck.Choice.TheVariants as choices
+use Rattle.grs_wire.specs.declared.medium.Act.TheVariants as acts
+use Rattle.grs_wire.specs.declared.medium.Reply.TheVariants as replies
+use Rattle.grs_wire.specs.declared.told.Verb.TheVariants as verbs
 
 -- events of star mode
 abbrev pub sends : ℕ → ℕ → Event

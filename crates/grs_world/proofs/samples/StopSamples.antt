@@ -1,39 +1,25 @@
 -- Worked runs with a system that stops, by which the definitions are checked: which events are left, the Turns of the
 -- lap, and what is fixed and told is what the rules of the service give by hand.
-use Rattle.std.proofs.Common.{◌≡◌, ℕ, List, [], ◌∷◌, ◌++◌, Some, map, refl}
-use Rattle.grs_base.specs.declared.decision.Code.TheVariants.{C00}
-use Rattle.grs_base.specs.declared.line.Scope.TheVariants.{Systems}
-use Rattle.grs_base.specs.declared.resource.Ctl.TheVariants.{E}
-use Rattle.grs_base.specs.declared.resource.Ret.TheVariants.{RetNone}
-use Rattle.grs_medium.specs.Apply.{row, apply, turn_row, purge_row}
-use Rattle.grs_node.specs.Node.{losing, stale}
-use Rattle.grs_node.specs.Node.{post, ask, take_line, end_step, ready_step, phase_step, may_go, prepare, finish_quiet}
-use Rattle.grs_node.specs.Node.{finish_call, finish, first_node, read_entries, all_sent, put_in, desk_told, purged}
-use Rattle.grs_node.specs.Node.{finish_star, turned as system_turned}
-use Rattle.grs_wire.specs.Masks.{has, without, with_also}
-use Rattle.grs_wire.specs.declared.deck.Deck.{Deck}
-use Rattle.grs_wire.specs.declared.deck.Event.{Event}
-use Rattle.grs_wire.specs.declared.deck.SystemDef.{SystemDef}
-use Rattle.grs_wire.specs.declared.deck.Order.TheVariants as orders
+use Rattle.grs_world.proofs.Common.{[], ◌++◌, ◌∷◌, ◌≡◌, after_code, all_sent, answer_own, any_unseen, apply, ask, C00}
+use Rattle.grs_world.proofs.Common.{carry_out, chosen, cleared, Coded, cut, Deck, Desk, desk_told, dropped, E, end_step}
+use Rattle.grs_world.proofs.Common.{Event, finish, finish_call, finish_quiet, finish_star, first_after, first_node}
+use Rattle.grs_world.proofs.Common.{first_world, happens, happens_at, has, hist, lap, List, losing, map, may_go}
+use Rattle.grs_world.proofs.Common.{passes_wait, phase_step, placed, post, prepare, process, process_entry, purge_row}
+use Rattle.grs_world.proofs.Common.{purged, put_in, read_entries, ready_step, recalled, record_enq, refl, replied}
+use Rattle.grs_world.proofs.Common.{reply_of, rest_after_turn, RetNone, row, run, Some, stale, stamped, state_of}
+use Rattle.grs_world.proofs.Common.{SystemDef, Systems, take_line, tell_all, tell_answer, tell_answer_any, tell_code}
+use Rattle.grs_world.proofs.Common.{tell_control, tell_freed, tell_line, tell_new, tell_untold, telling, told}
+use Rattle.grs_world.proofs.Common.{turn_reply, turn_row, turned, unseen, VaryDone, wakes, with_also, with_exclusive}
+use Rattle.grs_world.proofs.Common.{with_line, with_outstanding, with_phase, with_record, with_state, with_told}
+use Rattle.grs_world.proofs.Common.{without, without_record, ℕ}
+use Rattle.grs_node.specs.Node.{turned as system_turned}
 use Rattle.grs_wire.specs.declared.history.HistEntry.TheVariants.{Enq, Remove}
-use Rattle.grs_wire.specs.declared.medium.Reply.TheVariants as replies
-use Rattle.grs_wire.specs.declared.told.Said.TheVariants.{VaryDone}
-use Rattle.grs_wire.specs.declared.told.ToldLine.TheVariants.{Coded, Desk}
-use Rattle.grs_wire.specs.declared.told.Verb.TheVariants as verbs
-use Rattle.ring_mode.specs.Ring.{answer_own, process, process_entry}
-use Rattle.rsa_message.specs.Message.{first_after, any_unseen, cleared, stamped, turn_reply, wakes, rest_after_turn}
-use Rattle.rsa_message.specs.Message.{dropped, turned}
-use Rattle.grs_wire.specs.Unseen.{unseen}
-use Rattle.system_purge.specs.Purge.{tell_freed}
-use Rattle.task_state.specs.Replies.{tell_code, record_enq, after_code, replied, passes_wait, tell_line, tell_untold}
-use Rattle.task_state.specs.Replies.{tell_control, tell_all, tell_new, recalled, tell_answer, tell_answer_any}
-use Rattle.task_state.specs.View.{state_of, with_state, with_line, with_phase, with_outstanding, with_record}
-use Rattle.task_state.specs.View.{without_record, with_told, with_exclusive, telling}
-use Rattle.grs_world.specs.Removing.{reply_of}
-use Rattle.grs_world.specs.Stopped.{cut, lap, stopped}
-use Rattle.grs_world.specs.World.{first_world, carry_out, chosen, placed, happens_at, happens, run, hist, told}
+use Rattle.grs_world.specs.Stopped.{stopped}
 use Rattle.grs_world.proofs.samples.Samples.{system, task_of, shared, enq, deck_of, goes, turn, at}
 use Rattle.grs_world.proofs.samples.RemovalSamples.{purges}
+use Rattle.grs_wire.specs.declared.deck.Order.TheVariants as orders
+use Rattle.grs_wire.specs.declared.medium.Reply.TheVariants as replies
+use Rattle.grs_wire.specs.declared.told.Verb.TheVariants as verbs
 
 -- A deck with a desk at each system that commands the removal of this one.
 abbrev with_desks : ℕ → Deck → Deck

@@ -1,57 +1,34 @@
 -- A worked run that changes from ring to star mode between the place at which a request is put into the message and its
 -- answer, by which the definitions are checked: what is told, what is kept and each lock word are what the rules of the
 -- service give by hand.
-use Rattle.std.proofs.Common.{◌≡◌, ℕ, true, false, List, [], ◌∷◌, ◌++◌, map, drop, refl, Option, Some, None}
-use Rattle.std.specs.Prelude.{is_none, slice_get}
-use Rattle.grs_base.specs.declared.decision.Code.TheVariants.{C00, Wait}
-use Rattle.grs_base.specs.declared.line.Scope.TheVariants.{Systems}
-use Rattle.grs_base.specs.declared.resource.Ctl.TheVariants.{E}
-use Rattle.grs_base.specs.declared.resource.Elem.{Elem}
-use Rattle.grs_base.specs.declared.resource.Ret.TheVariants.{RetNone}
-use Rattle.grs_medium.specs.Apply.{row, apply, turn_row, switch_row, submit_row, take_row, mail_row}
-use Rattle.grs_node.specs.Node.{losing}
-use Rattle.grs_node.specs.Removal.{lose_each, members_below, take_up_below}
-use Rattle.grs_node.specs.Node.{post, ask, take_line, end_step, ready_step, phase_step, may_go, may_send, star_call}
-use Rattle.grs_node.specs.Node.{prepare, finish_quiet, finish_star, finish_call, finish, first_node, read_entries, show}
-use Rattle.grs_node.specs.Node.{all_sent, put_in, switched, desk_told, change_to_star, turned as system_turned}
-use Rattle.grs_node.specs.Node.{NodeState}
-use Rattle.grs_node.specs.Star.{decide_own}
-use Rattle.grs_node.specs.Node.{took_mail}
-use Rattle.grs_wire.specs.LockWords.{manager, lock_word, submitted}
-use Rattle.grs_wire.specs.Masks.{has, without, with_also}
-use Rattle.grs_wire.specs.declared.deck.Deck.{Deck}
-use Rattle.grs_wire.specs.declared.deck.Event.{Event}
-use Rattle.grs_wire.specs.declared.deck.SystemDef.{SystemDef}
-use Rattle.grs_wire.specs.declared.deck.Choice.TheVariants as choices
-use Rattle.grs_wire.specs.declared.deck.Order.TheVariants as orders
+use Rattle.grs_world.proofs.Common.{[], ◌++◌, ◌∷◌, ◌≡◌, after_code, after_mail, all_sent, answer_own, any_unseen, apply}
+use Rattle.grs_world.proofs.Common.{ask, Asked, C00, carry_out, change_to_star, chosen, cleared, closed_by, Coded}
+use Rattle.grs_world.proofs.Common.{decide_own, Deck, Desk, desk_told, drop, E, Elem, end_step, Event, false, finish}
+use Rattle.grs_world.proofs.Common.{finish_call, finish_quiet, finish_star, first_after, first_node, first_world}
+use Rattle.grs_world.proofs.Common.{goes_on_looking, happens, happens_at, has, hist, is_none, kept, List, lock_word}
+use Rattle.grs_world.proofs.Common.{Look, lose_each, losing, mail_row, manager, map, may_be_star, may_go, may_send}
+use Rattle.grs_world.proofs.Common.{members_below, NodeState, None, Option, option_map, passes_wait, phase_step, placed}
+use Rattle.grs_world.proofs.Common.{places, post, prepare, process, process_entry, put_in, read_entries, ready_step}
+use Rattle.grs_world.proofs.Common.{recalled, record_enq, refl, replied, rest_after_turn, RetNone, route, row, run}
+use Rattle.grs_world.proofs.Common.{show, Slice, slice_get, Some, stamped, star_call, StarDone, state_of, submit_row}
+use Rattle.grs_world.proofs.Common.{submitted, switch_row, switched, SystemDef, Systems, take_line, take_row}
+use Rattle.grs_world.proofs.Common.{take_up_below, TaskState, tell_all, tell_answer, tell_answer_any}
+use Rattle.grs_world.proofs.Common.{tell_answer_ranked, tell_code, tell_control, tell_line, tell_new, tell_rows}
+use Rattle.grs_world.proofs.Common.{tell_untold, telling, told, took_mail, true, turn_reply, turn_row, turned, unseen}
+use Rattle.grs_world.proofs.Common.{Wait, wakes, with_also, with_exclusive, with_line, with_outstanding, with_phase}
+use Rattle.grs_world.proofs.Common.{with_rank, with_record, with_rows, with_state, with_told, without, without_record}
+use Rattle.grs_world.proofs.Common.{without_rows, ℕ}
+use Rattle.grs_node.specs.Node.{turned as system_turned}
 use Rattle.grs_wire.specs.declared.history.HistEntry.TheVariants.{Enq, Deq, Look as Looked}
-use Rattle.grs_wire.specs.declared.told.Said.TheVariants.{StarDone, StarAlready}
-use Rattle.grs_wire.specs.declared.told.ToldLine.TheVariants.{Coded, Desk}
-use Rattle.grs_wire.specs.declared.told.Verb.TheVariants as verbs
-use Rattle.lock_structure.specs.Words.{route}
-use Rattle.ring_mode.specs.Ring.{answer_own, process, process_entry}
-use Rattle.rsa_message.specs.Message.{first_after, any_unseen, cleared, stamped, turn_reply, wakes, rest_after_turn}
-use Rattle.rsa_message.specs.Message.{closed_by, turned}
-use Rattle.grs_wire.specs.Unseen.{unseen}
-use Rattle.star_client.specs.Client.{tell_answer_ranked, after_mail}
-use Rattle.task_state.specs.Replies.{tell_code, record_enq, after_code, replied, passes_wait, tell_line, tell_untold}
-use Rattle.task_state.specs.Replies.{tell_control, tell_all, tell_new, recalled, tell_answer, tell_answer_any}
-use Rattle.task_state.specs.Replies.{tell_rows, goes_on_looking}
-use Rattle.task_state.specs.View.{state_of, with_state, with_line, with_phase, with_outstanding, with_record, with_rows}
-use Rattle.task_state.specs.View.{without_record, with_told, with_exclusive, with_rank, telling, without_rows}
-use Rattle.grs_world.specs.Decks.{may_be_star}
+use Rattle.grs_wire.specs.declared.told.Said.TheVariants.{StarAlready}
 use Rattle.grs_world.specs.Interest.{interest_at, manages_at}
-use Rattle.grs_world.specs.Kept.{kept, places}
-use Rattle.grs_world.specs.World.{first_world, carry_out, chosen, placed, happens_at, happens, run, hist, told}
 use Rattle.grs_world.proofs.samples.Samples.{system, task_of, shared, enq, deq, deck_of, goes, turn, at}
 use Rattle.grs_world.proofs.samples.StarSamples.{sends, takes, settles, tells}
 use Rattle.grs_base.specs.declared.line.Line.TheVariants.{Gqscan}
 use Rattle.grs_base.specs.declared.look.Filter.TheVariants.{All}
-use Rattle.grs_base.specs.declared.look.Place.TheVariants.{Slice}
-use Rattle.grs_wire.specs.declared.request.Want.TheVariants.{Look}
-use Rattle.std.specs.Option.{option_map}
-use Rattle.task_state.specs.declared.state.Asked.{Asked}
-use Rattle.task_state.specs.declared.state.TaskState.{TaskState}
+use Rattle.grs_wire.specs.declared.deck.Choice.TheVariants as choices
+use Rattle.grs_wire.specs.declared.deck.Order.TheVariants as orders
+use Rattle.grs_wire.specs.declared.told.Verb.TheVariants as verbs
 
 abbrev pub switches : ℕ → Event
 switches s = record { system = system s; choice = choices.Switch }

@@ -1,53 +1,31 @@
 -- Worked fronts and a worked ring, by which the definitions of tables, of what is kept, and of the event that answers
 -- are checked.
-use Rattle.std.proofs.Common.{◌≡◌, ℕ, true, false, cond, List, [], ◌∷◌, map, Option, Some, None, refl, arith}
-use Rattle.std.specs.Prelude.{◌==◌}
-use Rattle.grs_base.specs.State.{State}
-use Rattle.grs_base.specs.declared.decision.Code.TheVariants.{C00}
-use Rattle.grs_base.specs.declared.line.Line.TheVariants as lines
-use Rattle.grs_base.specs.declared.line.Scope.TheVariants.{Systems}
+use Rattle.grs_world.proofs.Common.{[], ◌==◌, ◌∷◌, ◌≡◌, after_code, all_sent, answer_own, any_unseen, apply, arith, ask}
+use Rattle.grs_world.proofs.Common.{C00, carry_out, chosen, cleared, Coded, cond, decide, Deck, E, Elem, end_step, Enq}
+use Rattle.grs_world.proofs.Common.{Event, false, finish, finish_call, finish_quiet, first_after, first_node}
+use Rattle.grs_world.proofs.Common.{first_part, first_world, Fixed, happens, happens_at, has, kept, List, LocalLook}
+use Rattle.grs_world.proofs.Common.{Look, manager, map, may_go, NodeState, None, Option, passes_wait, phase_step}
+use Rattle.grs_world.proofs.Common.{placed, places, post, prepare, process, process_entry, Purged, put_in, read_entries}
+use Rattle.grs_world.proofs.Common.{ready_step, recalled, record_enq, refl, replay, replied, Req, Request, Res}
+use Rattle.grs_world.proofs.Common.{rest_after_turn, RetNone, RingEntry, row, run, Some, stamped, StarPart, State}
+use Rattle.grs_world.proofs.Common.{state_of, SysId, Systems, take_line, TaskId, tell_all, tell_answer, tell_answer_any}
+use Rattle.grs_world.proofs.Common.{tell_code, tell_control, tell_line, tell_new, tell_untold, telling, true}
+use Rattle.grs_world.proofs.Common.{turn_reply, turn_row, turned, unseen, wait, wakes, with_also, with_exclusive}
+use Rattle.grs_world.proofs.Common.{with_line, with_outstanding, with_phase, with_record, with_state, with_told}
+use Rattle.grs_world.proofs.Common.{without, without_record, World, ℕ}
 use Rattle.grs_base.specs.declared.look.Filter.TheVariants.{All}
-use Rattle.grs_base.specs.declared.resource.Ctl.TheVariants.{E}
-use Rattle.grs_base.specs.declared.resource.Elem.{Elem}
-use Rattle.grs_base.specs.declared.resource.Res.{Res}
-use Rattle.grs_base.specs.declared.resource.Res.TheVariants as kinds
-use Rattle.grs_base.specs.declared.resource.Ret.TheVariants.{RetNone}
-use Rattle.grs_base.specs.declared.resource.SysId.{SysId}
-use Rattle.grs_base.specs.declared.resource.TaskId.{TaskId}
-use Rattle.grs_base.specs.declared.rnl.Which.TheVariants as which
 use Rattle.grs_base.specs.Rnl.{no_entries}
-use Rattle.grs_medium.specs.Apply.{turn_row, row, apply}
-use Rattle.grs_node.specs.Node.{decide, post, ask, wait, take_line, end_step, ready_step, phase_step, may_go, prepare}
-use Rattle.grs_node.specs.Node.{finish_quiet, read_entries, all_sent, put_in, finish_call, finish, first_node}
-use Rattle.grs_node.specs.Node.{NodeState, turned as system_turned}
-use Rattle.grs_node.specs.Star.{StarPart, first_part}
-use Rattle.grs_wire.specs.History.{answered, replay}
-use Rattle.grs_wire.specs.LockWords.{manager}
-use Rattle.grs_wire.specs.Masks.{has, without, with_also}
-use Rattle.grs_wire.specs.declared.deck.Choice.TheVariants as choices
-use Rattle.grs_wire.specs.declared.deck.Deck.{Deck}
-use Rattle.grs_wire.specs.declared.deck.Event.{Event}
-use Rattle.grs_wire.specs.declared.medium.RingBody.TheVariants.{Request}
-use Rattle.grs_wire.specs.declared.medium.RingEntry.{RingEntry}
-use Rattle.grs_wire.specs.declared.request.Fixed.{Fixed}
-use Rattle.grs_wire.specs.declared.request.Fixed.TheVariants.{Asked, LocalLook, Purged}
-use Rattle.grs_wire.specs.declared.request.Req.{Req}
-use Rattle.grs_wire.specs.declared.request.Want.TheVariants.{Enq, Look}
-use Rattle.grs_wire.specs.declared.told.ToldLine.TheVariants.{Coded}
-use Rattle.grs_wire.specs.declared.told.Verb.TheVariants as verbs
-use Rattle.ring_mode.specs.Ring.{answer_own, process, process_entry}
-use Rattle.rsa_message.specs.Message.{first_after, any_unseen, cleared, stamped, turn_reply, wakes, rest_after_turn}
-use Rattle.rsa_message.specs.Message.{turned}
-use Rattle.grs_wire.specs.Unseen.{unseen}
-use Rattle.task_state.specs.Replies.{tell_code, record_enq, after_code, replied, passes_wait, tell_line, tell_untold}
-use Rattle.task_state.specs.Replies.{tell_control, tell_all, tell_new, recalled, tell_answer, tell_answer_any}
-use Rattle.task_state.specs.View.{state_of, with_state, with_line, with_phase, with_outstanding, with_record}
-use Rattle.task_state.specs.View.{without_record, with_told, with_exclusive, telling}
-use Rattle.grs_world.specs.Kept.{places, kept}
+use Rattle.grs_node.specs.Node.{turned as system_turned}
+use Rattle.grs_wire.specs.History.{answered}
+use Rattle.grs_wire.specs.declared.request.Fixed.TheVariants.{Asked}
 use Rattle.grs_world.specs.Laps.{LeftHome, given, told_next}
 use Rattle.grs_world.specs.Tables.{before_number, first_unseen}
 use Rattle.grs_known.specs.Parts.{systems_part}
-use Rattle.grs_world.specs.World.{World, first_world, carry_out, chosen, placed, happens_at, happens, run}
+use Rattle.grs_base.specs.declared.line.Line.TheVariants as lines
+use Rattle.grs_base.specs.declared.resource.Res.TheVariants as kinds
+use Rattle.grs_base.specs.declared.rnl.Which.TheVariants as which
+use Rattle.grs_wire.specs.declared.deck.Choice.TheVariants as choices
+use Rattle.grs_wire.specs.declared.told.Verb.TheVariants as verbs
 
 abbrev sys : ℕ → SysId
 sys n = record { 0 = n }

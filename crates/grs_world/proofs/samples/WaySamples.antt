@@ -1,9 +1,20 @@
--- Where the parts of an open entry are in worked runs, told by hand; and which of these runs remove one system at most in
--- star mode.
-use Rattle.std.proofs.Common.{◌≡◌, ℕ, true, false, List, [], ◌∷◌, ◌++◌, length, refl}
-use Rattle.std.specs.Prelude.{◌==◌, nat_le}
-use Rattle.std.specs.List.{list_all}
-use Rattle.grs_wire.specs.declared.gather.Moved.{Moved}
+-- Where the parts of an open entry are in worked runs, told by hand; and which of these runs remove one system at most
+-- in star mode.
+use Rattle.grs_world.proofs.Common.{[], ◌++◌, ◌==◌, ◌∷◌, ◌≡◌, after_code, after_mail, all_sent, answer_own, any_unseen}
+use Rattle.grs_world.proofs.Common.{apply, ask, carry_out, change_to_star, chosen, cleared, closed_by, decide_own}
+use Rattle.grs_world.proofs.Common.{departed, desk_told, end_step, false, finish, finish_call, finish_quiet}
+use Rattle.grs_world.proofs.Common.{finish_star, first_after, first_node, first_world, happens, happens_at, has}
+use Rattle.grs_world.proofs.Common.{leave_changes, leave_reply, leave_row, left_word, length, list_all, lock_word}
+use Rattle.grs_world.proofs.Common.{lose_each, losing, mail_row, manager, may_go, may_send, members_below, move_each}
+use Rattle.grs_world.proofs.Common.{Moved, nat_le, passes_wait, phase_step, placed, post, prepare, process}
+use Rattle.grs_world.proofs.Common.{process_entry, purge_row, purged, put_in, read_entries, ready_step, recalled}
+use Rattle.grs_world.proofs.Common.{record_enq, refl, replied, rest_after_turn, route, row, run, stale, stamped}
+use Rattle.grs_world.proofs.Common.{star_call, state_of, submit_row, submitted, switch_row, switched, take_line}
+use Rattle.grs_world.proofs.Common.{take_row, take_up_below, tell_all, tell_answer, tell_answer_any, tell_answer_ranked}
+use Rattle.grs_world.proofs.Common.{tell_code, tell_control, tell_each, tell_line, tell_new, tell_untold, telling}
+use Rattle.grs_world.proofs.Common.{took_mail, true, turn_reply, turn_row, turned, unseen, wakes, with_also}
+use Rattle.grs_world.proofs.Common.{with_exclusive, with_line, with_outstanding, with_phase, with_rank, with_record}
+use Rattle.grs_world.proofs.Common.{with_state, with_told, without, without_record, ℕ}
 use Rattle.grs_world.proofs.gather.OnTheWay.{has_sent, is_here, is_noticed, owes_yet}
 use Rattle.grs_world.proofs.gather.Views.{WayAt}
 use Rattle.grs_world.proofs.samples.GatherSamples.{it_gathers, its_part, manager_goes, one_part, part_sent, two_go}
@@ -11,32 +22,8 @@ use Rattle.grs_world.proofs.samples.GatherSamples.{without_manager, goes_on, bot
 use Rattle.grs_world.proofs.samples.Samples.{system}
 use Rattle.grs_world.proofs.samples.StarSamples.{takes}
 use Rattle.grs_world.specs.InStar.{removals_in_star}
-use Rattle.grs_world.specs.World.{run}
-use Rattle.grs_medium.specs.Apply.{turn_row, switch_row}
-use Rattle.grs_node.specs.Node.{read_entries, all_sent, put_in, switched}
-use Rattle.grs_node.specs.Node.{change_to_star, turned as system_turned}
-use Rattle.grs_wire.specs.Unseen.{unseen}
-use Rattle.ring_mode.specs.Ring.{answer_own, process, process_entry}
-use Rattle.rsa_message.specs.Message.{any_unseen, cleared, closed_by, first_after, rest_after_turn, stamped}
-use Rattle.rsa_message.specs.Message.{turn_reply, turned, wakes}
-use Rattle.grs_medium.specs.Apply.{row, apply, submit_row, take_row, mail_row, leave_row, purge_row}
-use Rattle.grs_node.specs.Node.{post, ask, take_line, end_step, ready_step, phase_step, may_go, may_send}
-use Rattle.grs_node.specs.Node.{star_call, prepare, finish_quiet, finish_star, finish_call, finish, first_node, took_mail}
-use Rattle.grs_node.specs.Node.{desk_told, purged, stale, losing}
-use Rattle.grs_node.specs.Removal.{lose_each, members_below, move_each, take_up_below}
-use Rattle.grs_node.specs.Star.{decide_own}
-use Rattle.grs_wire.specs.LockWords.{manager, lock_word, submitted, leave_reply, leave_changes, left_word}
-use Rattle.grs_wire.specs.Masks.{has, without, with_also}
+use Rattle.grs_node.specs.Node.{turned as system_turned}
 use Rattle.lock_structure.specs.Purge.{purged_word}
-use Rattle.lock_structure.specs.Words.{route}
-use Rattle.rsa_message.specs.Message.{departed}
-use Rattle.star_client.specs.Client.{tell_answer_ranked, after_mail}
-use Rattle.system_purge.specs.Purge.{tell_each}
-use Rattle.task_state.specs.Replies.{tell_code, record_enq, after_code, replied, passes_wait, tell_line, tell_untold}
-use Rattle.task_state.specs.Replies.{tell_control, tell_all, tell_new, recalled, tell_answer, tell_answer_any}
-use Rattle.task_state.specs.View.{state_of, with_state, with_line, with_phase, with_outstanding, with_record}
-use Rattle.task_state.specs.View.{without_record, with_told, with_exclusive, with_rank, telling}
-use Rattle.grs_world.specs.World.{first_world, carry_out, chosen, placed, happens_at, happens}
 
 -- the item of a notice: the only entry, its new manager, who has interest in it, and how often it was moved
 abbrev moved : ℕ → ℕ → ℕ → Moved

@@ -1,61 +1,36 @@
 -- What each event of star mode does to the tasks of a system: a request of one of them is sent, decided by the system
 -- itself, or settled by another; its answer, or control, is taken; own tasks that became owners are told.
-use Rattle.std.proofs.Common.{◌≡◌, ℕ, Bool, true, false, cond, not, ◌||◌, List, [], ◌∷◌, ◌++◌, Option, Some, None, refl}
-use Rattle.std.proofs.Common.{ap, sym, ◌∙◌, subst, append-nil}
-use Rattle.std.specs.Prelude.{filter, is_some}
-use Rattle.std.specs.List.{list_all, list_any}
-use Rattle.std.proofs.lemmas.Bool.{and_parts, and_from, not-true}
-use Rattle.std.proofs.lemmas.List.Elements.{filter-append}
-use Rattle.grs_base.specs.Same.{same_task}
-use Rattle.grs_base.specs.Lists.{owns}
-use Rattle.grs_base.specs.State.{State, list_of}
-use Rattle.grs_base.specs.declared.resource.Res.{Res}
-use Rattle.grs_base.specs.declared.resource.SysId.{SysId}
-use Rattle.grs_base.specs.declared.resource.TaskId.{TaskId}
-use Rattle.grs_base.proofs.SameLaws.{same_task-exact, same_task-itself}
-use Rattle.grs_legal.specs.Asks.{lines_of}
-use Rattle.grs_legal.specs.declared.meaning.Meaning.{Meaning}
-use Rattle.grs_node.specs.Node.{NodeState, all_sent, put_in}
-use Rattle.grs_node.specs.Star.{request_of}
-use Rattle.grs_wire.specs.History.{entries_for}
-use Rattle.grs_wire.specs.Wants.{answer_to, res_wanted}
-use Rattle.grs_wire.specs.declared.deck.Deck.{Deck}
-use Rattle.grs_wire.specs.declared.history.HistEntry.{HistEntry}
-use Rattle.grs_wire.specs.declared.request.Fixed.{Fixed}
-use Rattle.grs_wire.specs.declared.request.Fixed.TheVariants as fixing
-use Rattle.grs_wire.specs.declared.request.Req.{Req}
-use Rattle.grs_wire.specs.declared.request.Want.{Want}
-use Rattle.grs_wire.specs.declared.request.Want.TheVariants.{Enq, Deq, Release, Look}
-use Rattle.grs_wire.specs.declared.told.ToldLine.{ToldLine}
-use Rattle.star_client.specs.Client.{tell_answer_ranked}
-use Rattle.task_state.specs.Replies.{answered, recalled, tell_answer, tell_new, tell_all, is_leaving}
-use Rattle.task_state.specs.View.{TasksView, state_of, with_phase, is_sent}
-use Rattle.task_state.specs.declared.state.Asked.{Asked}
-use Rattle.task_state.specs.declared.state.Phase.TheVariants as phases
-use Rattle.task_state.specs.declared.state.TaskState.{TaskState}
-use Rattle.grs_known.specs.Items.{RunItem, is_of, gives_back, goes_round, rounds, mine, lists, history}
-use Rattle.grs_known.specs.Known.{outstanding, Still}
-use Rattle.grs_known.specs.Past.{Past, past_of, may_leave}
-use Rattle.grs_known.proofs.known.Knowing.{one, one-none, one-some}
-use Rattle.grs_known.proofs.known.Histories.{IsHistory, MayFollow, made_item, follows, live-push, owns-may}
-use Rattle.grs_known.proofs.known.Knows.{KnowsLooks, known-all, owns-still, entry-learned, entry-decided}
-use Rattle.grs_known.proofs.known.Knows.{looks-learned, looks-decided}
-use Rattle.grs_known.proofs.lists.Facts.{filter-cons_kept, all-filter, list_all-push}
-use Rattle.grs_known.proofs.lists.Owners.{is_among}
-use Rattle.grs_known.proofs.lists.Shows.{is_look, looks-are}
-use Rattle.grs_known.proofs.lists.Truths.{no_truth, task_swap}
-use Rattle.grs_known.proofs.tasks.Invariant.{IsTask}
+use Rattle.grs_world.proofs.Common.{[], ◌++◌, ◌||◌, ◌∙◌, ◌∷◌, ◌≡◌, all-filter, all_sent, and_from, and_parts, answer_to}
+use Rattle.grs_world.proofs.Common.{answered, ap, append-nil, Asked, askers, Bool, cond, Deck, Deq, Enq, entries_for}
+use Rattle.grs_world.proofs.Common.{false, filter, filter-append, filter-cons_kept, Fixed, follows, gives_back}
+use Rattle.grs_world.proofs.Common.{goes_round, here-kept, here-other, HistEntry, history, is_among, is_home_at}
+use Rattle.grs_world.proofs.Common.{is_leaving, is_look, is_of, is_sent, is_some, IsAskedBy, IsGood, IsHere, IsHistory}
+use Rattle.grs_world.proofs.Common.{IsLooks, IsOpenBy, IsOurs, IsReq, IsTask, known-all, lines_of, List, list_all}
+use Rattle.grs_world.proofs.Common.{list_any, list_of, lists, Look, made_item, MayFollow, Meaning, mine, no_truth}
+use Rattle.grs_world.proofs.Common.{NodeState, None, none, not, not-true, one, Opens, Option, outstanding, owns}
+use Rattle.grs_world.proofs.Common.{owns-may, Past, past_of, put_in, recalled, refl, Release, Req, request_of, Res}
+use Rattle.grs_world.proofs.Common.{res_wanted, rounds, RunItem, same_task, same_task-exact, same_task-itself, Some}
+use Rattle.grs_world.proofs.Common.{stand_apart, State, state_of, StaysGood, subst, sym, SysId, task-open, task_swap}
+use Rattle.grs_world.proofs.Common.{TaskId, TaskState, TasksView, tell_all, tell_answer, tell_answer_ranked, tell_new}
+use Rattle.grs_world.proofs.Common.{ToldBy, ToldLine, true, unasked_by, Want, with_phase, ℕ}
+use Rattle.grs_known.specs.Known.{Still}
+use Rattle.grs_known.specs.Past.{may_leave}
+use Rattle.grs_known.proofs.known.Knowing.{one-none, one-some}
+use Rattle.grs_known.proofs.known.Histories.{live-push}
+use Rattle.grs_known.proofs.known.Knows.{KnowsLooks, owns-still, entry-learned, entry-decided, looks-learned}
+use Rattle.grs_known.proofs.known.Knows.{looks-decided}
+use Rattle.grs_known.proofs.lists.Facts.{list_all-push}
+use Rattle.grs_known.proofs.lists.Shows.{looks-are}
 use Rattle.grs_known.proofs.system.Askers.{apart-push}
-use Rattle.grs_known.proofs.system.Asking.{unasked_by, IsOpenBy, IsLooks, Opens, IsReq, IsAskedBy, task-open}
 use Rattle.grs_world.proofs.system.AtNode.{opens_of, Seen}
-use Rattle.grs_known.proofs.system.Events.{StaysGood, Decides, Looks, Leaves, tells_good}
-use Rattle.grs_known.proofs.system.Good.{IsGood, here-kept, here-other, ours-home}
-use Rattle.grs_known.proofs.system.Ours.{IsOurs, IsHere}
+use Rattle.grs_known.proofs.system.Events.{Decides, Looks, Leaves, tells_good}
+use Rattle.grs_known.proofs.system.Good.{ours-home}
 use Rattle.grs_world.proofs.system.Puts.{MayPut, may_put, seen-put, put}
-use Rattle.grs_known.proofs.system.Says.{is_home_at, askers, stand_apart, ToldBy, none}
 use Rattle.grs_known.proofs.system.Outstanding.{asked-good}
 use Rattle.grs_world.proofs.star.Ghosts.{ghosted, IsAt, without-box, any_part}
 use Rattle.grs_world.proofs.star.Ranked.{ranked-good}
+use Rattle.grs_wire.specs.declared.request.Fixed.TheVariants as fixing
+use Rattle.task_state.specs.declared.state.Phase.TheVariants as phases
 
 -- ---- the answer to an outstanding request
 tell-none : (v : TasksView) (o : Option Res) → tell_new v o [] ≡ v

@@ -1,11 +1,8 @@
 -- A mail comes last in one inbox, and the others stay; or the first of one is taken.
-use Rattle.std.proofs.Common.{◌≡◌, ◌≢◌, ◌<◌, ℕ, Bool, true, false, List, [], ◌∷◌, ◌++◌, length, refl, ap, sym, ◌∙◌}
-use Rattle.std.proofs.Common.{subst}
-use Rattle.std.specs.Prelude.{◌==◌, drop}
-use Rattle.std.proofs.lemmas.Bool.{eqb-false, eqb-true}
+use Rattle.grs_world.proofs.Common.{[], ◌++◌, ◌<◌, ◌==◌, ◌∙◌, ◌∷◌, ◌≡◌, ◌≢◌, ap, Bool, eqb-false, eqb-true, false}
+use Rattle.grs_world.proofs.Common.{inbox_of, length, List, Mail, refl, subst, sym, true, with_mail, without_first, ℕ}
+use Rattle.std.specs.Prelude.{drop}
 use Rattle.std.proofs.lemmas.List.{get_or-set_other, get_or-set_same}
-use Rattle.grs_medium.specs.Inboxes.{inbox_of, with_mail, without_first}
-use Rattle.grs_wire.specs.declared.medium.Mail.{Mail}
 
 module _ (boxes : List (List Mail)) (s : ℕ) (mail : Mail) where
   pub its-box : s < length boxes → inbox_of (with_mail boxes s mail) s ≡ inbox_of boxes s ++ mail ∷ []

@@ -1,35 +1,21 @@
 -- A system's part that gathers no lock entry, and owes no part of one. What it asks, and what a removal of a system of
 -- which it keeps nothing leaves of it, is what is asked and left without all that gathering brings.
-use Rattle.std.proofs.Common.{◌≡◌, ℕ, zero, suc, Bool, true, false, cond, not, ◌&&◌, ◌||◌, List, [], ◌∷◌, ◌++◌, length}
-use Rattle.std.proofs.Common.{map, drop, Option, Some, None, refl, ap, sym, ◌∙◌, is_some}
-use Rattle.std.specs.Prelude.{◌==◌, filter, find, replicate, slice_get, unwrap_or}
-use Rattle.std.specs.List.{list_all, list_any}
-use Rattle.std.specs.Option.{option_map, option_map_or}
-use Rattle.std.proofs.Math.Bool.{and-true, or-false}
-use Rattle.std.proofs.lemmas.Bool.{and_parts, or_parts}
-use Rattle.contention_mgr.specs.LoseLaws.{is_without}
+use Rattle.grs_world.proofs.Common.{[], ◌&&◌, ◌++◌, ◌==◌, ◌||◌, ◌∙◌, ◌∷◌, ◌≡◌, and-true, and_parts, ap, Bool, cond}
+use Rattle.grs_world.proofs.Common.{Deck, drop, entry_for, false, filter, first_held, Gathering, gathering_at, gathers}
+use Rattle.grs_world.proofs.Common.{has, is_entry, is_without, length, List, list_all, list_any, lose, lose_all}
+use Rattle.grs_world.proofs.Common.{lose_each, losing, losing_in, ManagerView, manages, map, may_settle, members}
+use Rattle.grs_world.proofs.Common.{members_below, most_systems, names_of, NodeState, None, not, Option, option_map}
+use Rattle.grs_world.proofs.Common.{option_map_or, or-false, or_parts, owed_to, refl, replicate, Req, Res, slice_get}
+use Rattle.grs_world.proofs.Common.{Some, Standing, standing, StarPart, suc, sym, SysId, take_up, take_up_all}
+use Rattle.grs_world.proofs.Common.{take_up_below, TaskId, TasksView, tell_each, true, unwrap_or, zero, ℕ}
+use Rattle.std.proofs.Common.{is_some}
+use Rattle.std.specs.Prelude.{find}
 use Rattle.contention_mgr.specs.Loses.{after_losing}
-use Rattle.contention_mgr.specs.Manager.{ManagerView}
 use Rattle.contention_mgr.proofs.LoseNothing.{losing_nothing}
-use Rattle.grs_base.specs.Limits.{most_systems}
-use Rattle.grs_base.specs.declared.resource.Res.{Res}
-use Rattle.grs_base.specs.declared.resource.SysId.{SysId}
-use Rattle.grs_base.specs.declared.resource.TaskId.{TaskId}
-use Rattle.grs_node.specs.Removal.{Standing, lose, lose_all, lose_each, members, members_below, standing, take_up}
-use Rattle.grs_node.specs.Removal.{take_up_all, take_up_below, take_up_if}
-use Rattle.grs_node.specs.Names.{names_of}
-use Rattle.grs_node.specs.Node.{NodeState, losing, losing_in}
-use Rattle.grs_node.specs.Star.{StarPart, besides_first, entry_for, first_held, gathers, gathers_asked}
-use Rattle.grs_node.specs.Star.{is_being_gathered, manages, may_settle, owed_to, with_held}
-use Rattle.grs_wire.specs.Masks.{has}
-use Rattle.grs_wire.specs.declared.deck.Deck.{Deck}
-use Rattle.grs_wire.specs.declared.request.Req.{Req}
-use Rattle.lock_structure.specs.Entries.{is_entry}
+use Rattle.grs_node.specs.Removal.{take_up_if}
+use Rattle.grs_node.specs.Star.{besides_first, gathers_asked, is_being_gathered, with_held}
 use Rattle.star_client.specs.Owes.{OwesView, any_owed}
-use Rattle.system_purge.specs.Gathers.{GathersView, behind_loss, gathering_at, without_sender}
-use Rattle.system_purge.specs.declared.gathers.Gathering.{Gathering}
-use Rattle.system_purge.specs.Purge.{tell_each}
-use Rattle.task_state.specs.View.{TasksView}
+use Rattle.system_purge.specs.Gathers.{GathersView, behind_loss, without_sender}
 
 -- ---- options of which none is there
 pub none-at : {X : Type 0} (xs : List (Option X)) (i : ℕ) → list_any is_some xs ≡ false

@@ -1,27 +1,12 @@
 -- Each element is of a system that has interest in its entry.
-use Rattle.std.proofs.Common.{◌≡◌, ℕ, Bool, true, false, not, cond, List, [], ◌∷◌, ◌++◌, Some, refl, ap, sym, ◌∙◌}
-use Rattle.std.proofs.Common.{append_assoc}
-use Rattle.std.specs.List.{list_all}
-use Rattle.std.proofs.lemmas.Bool.{and_from, and_parts, or_left, or_right}
-use Rattle.lock_structure.specs.Entries.{entry_of_res}
-use Rattle.grs_base.specs.Same.{same_res, same_task}
-use Rattle.grs_base.specs.Lists.{has_task}
-use Rattle.grs_base.specs.Slices.{slice_of, entry_of}
-use Rattle.grs_base.specs.State.{State, list_of}
-use Rattle.grs_base.specs.declared.resource.Elem.{Elem}
-use Rattle.grs_base.specs.declared.resource.Res.{Res}
+use Rattle.grs_world.proofs.Common.{[], ◌++◌, ◌∙◌, ◌∷◌, ◌≡◌, after_want, and_from, and_parts, ap, append_assoc, Bool}
+use Rattle.grs_world.proofs.Common.{cond, Deck, Elem, entry_of, entry_of_res, false, false_by, has, has_task}
+use Rattle.grs_world.proofs.Common.{is_interested, List, list_all, list_of, no_truth, not, or_left, or_right, refl, Res}
+use Rattle.grs_world.proofs.Common.{res_wanted, same_res, same_res-exact, same_res-itself, same_task, same_task-itself}
+use Rattle.grs_world.proofs.Common.{slice_of, Some, State, sym, TaskId, true, Want, without_gone, ℕ}
 use Rattle.grs_base.specs.declared.resource.Res.TheVariants.{Systems}
-use Rattle.grs_base.specs.declared.resource.TaskId.{TaskId}
-use Rattle.grs_base.proofs.SameLaws.{same_res-exact, same_res-itself, same_task-itself}
-use Rattle.grs_wire.specs.Masks.{has}
-use Rattle.grs_wire.specs.Wants.{after_want, res_wanted}
-use Rattle.grs_wire.specs.declared.deck.Deck.{Deck}
-use Rattle.grs_wire.specs.declared.request.Want.{Want}
 use Rattle.grs_known.proofs.lists.All.{all-want, has_task-all}
-use Rattle.grs_known.proofs.lists.Truths.{false_by, no_truth}
 use Rattle.grs_world.proofs.star.Systems.{near_at}
-use Rattle.grs_world.specs.Kept.{without_gone}
-use Rattle.lock_structure.specs.Laws.{is_interested}
 
 -- whether a task's system has interest in the entry of a resource, if it has one
 abbrev pub is_near_res : Deck → List ℕ → Res → TaskId → Bool

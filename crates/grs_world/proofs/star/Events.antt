@@ -1,62 +1,40 @@
 -- Each event of a system in star mode keeps what is said of words, roles and lists.
-use Rattle.std.proofs.Common.{◌≡◌, ◌≢◌, ◌<◌, ℕ, Bool, true, false, cond, not, ◌&&◌, ◌||◌, List, [], ◌∷◌, ◌++◌, length}
-use Rattle.std.proofs.Common.{Option, Some, None, refl, ap, sym, ◌∙◌, subst, arith}
-use Rattle.std.specs.Prelude.{drop, ◌==◌, is_some, unwrap_or}
-use Rattle.std.specs.List.{list_any}
-use Rattle.std.proofs.lemmas.Bool.{and_parts, eqb-true, eq-eqb, ne_eqb}
-use Rattle.std.proofs.lemmas.List.{length-set}
-use Rattle.std.proofs.Math.Bool.{or-false, and-true, and-false, or-true}
-use Rattle.contention_mgr.specs.Manager.{Ranked, plain, items_of, no_elements, entry_wanted, managed_at, kept_for}
-use Rattle.contention_mgr.specs.Manager.{after_request}
+use Rattle.grs_world.proofs.Common.{[], ◌&&◌, ◌++◌, ◌<◌, ◌==◌, ◌||◌, ◌∙◌, ◌∷◌, ◌≡◌, ◌≢◌, after_request, after_want}
+use Rattle.grs_world.proofs.Common.{Alike, and-false, and-true, and_parts, answer_for, ap, arith, Asked, awake, Bool}
+use Rattle.grs_world.proofs.Common.{by_test, Choice, chosen, cond, decide_own, Deck, desk_told, entry_for, entry_wanted}
+use Rattle.grs_world.proofs.Common.{eq-eqb, eqb-true, false, Fixed, fixing_none, has_interest, interest, is_busy_in}
+use Rattle.grs_world.proofs.Common.{is_done_with, is_entry, is_for_deck, is_interested, is_manager, is_some, items_of}
+use Rattle.grs_world.proofs.Common.{kept_for, leave_reply, left_at, left_words, length, length-set, lines_of, List}
+use Rattle.grs_world.proofs.Common.{list_any, Mail, managed_at, manager, manager_at, manages, MediumState, most_systems}
+use Rattle.grs_world.proofs.Common.{ne_eqb, no_elements, no_truth, NodeState, None, not, only, Option, or-false, plain}
+use Rattle.grs_world.proofs.Common.{rank_of, Ranked, refl, Req, request_of, Res, Said, Some, StarPart, StarStep, State}
+use Rattle.grs_world.proofs.Common.{submitted_words, subst, sym, SysId, task_step, TaskId, TasksView, true, Turnout}
+use Rattle.grs_world.proofs.Common.{unwrap_or, with_interest, with_mail, with_phase, with_star, without_first, word_at}
+use Rattle.grs_world.proofs.Common.{World, ℕ}
+use Rattle.std.specs.Prelude.{drop}
+use Rattle.std.proofs.Math.Bool.{or-true}
 use Rattle.contention_mgr.proofs.ManagerLaws.{entries_are_well_kept}
-use Rattle.grs_base.specs.Limits.{most_systems}
-use Rattle.grs_base.specs.State.{State}
-use Rattle.grs_base.specs.declared.resource.Res.{Res}
-use Rattle.grs_base.specs.declared.resource.SysId.{SysId}
-use Rattle.grs_base.specs.declared.resource.TaskId.{TaskId}
-use Rattle.grs_legal.specs.Asks.{lines_of}
-use Rattle.grs_medium.specs.Inboxes.{with_mail, without_first}
-use Rattle.grs_medium.specs.Medium.{MediumState, awake}
-use Rattle.grs_node.specs.Node.{NodeState, only, with_star, is_for_deck, desk_told, task_step}
-use Rattle.grs_node.specs.Star.{StarPart, StarStep, request_of, entry_for, manages, has_interest, with_interest, serves}
-use Rattle.grs_node.specs.Star.{answer_for, rank_of, is_busy_in, is_done_with, fixing_none, decide_own}
-use Rattle.grs_node.specs.Star.{told_by, left_at}
-use Rattle.lock_structure.specs.Entries.{is_entry}
-use Rattle.grs_wire.specs.LockWords.{manager, is_manager, leave_reply, interest}
-use Rattle.grs_wire.specs.Wants.{after_want}
-use Rattle.grs_wire.specs.declared.deck.Choice.{Choice}
-use Rattle.grs_wire.specs.declared.deck.Deck.{Deck}
-use Rattle.grs_wire.specs.declared.medium.Mail.{Mail}
-use Rattle.grs_wire.specs.declared.medium.Mail.TheVariants as mails
-use Rattle.grs_wire.specs.declared.medium.Reply.TheVariants as replies
-use Rattle.grs_wire.specs.declared.request.Fixed.{Fixed}
-use Rattle.grs_wire.specs.declared.request.Fixed.TheVariants as fixes
-use Rattle.grs_wire.specs.declared.request.Req.{Req}
-use Rattle.grs_wire.proofs.WantLaws.{by_test}
-use Rattle.lock_structure.specs.Laws.{is_interested, manager_at}
-use Rattle.lock_structure.specs.Words.{word_at, submitted_words, left_words}
+use Rattle.grs_node.specs.Star.{serves, told_by}
 use Rattle.lock_structure.proofs.LawProofs.{submit_keeps_all_managed, leave_keeps_all_managed, submit_joins}
 use Rattle.lock_structure.proofs.LawProofs.{submit_manages, leave_parts, leave_manages}
-use Rattle.task_state.specs.View.{TasksView, with_phase}
-use Rattle.task_state.specs.declared.state.Phase.TheVariants as phases
-use Rattle.task_state.specs.declared.state.Asked.{Asked}
-use Rattle.grs_known.proofs.lists.Truths.{no_truth}
-use Rattle.grs_world.specs.World.{World, Turnout, chosen}
-use Rattle.grs_world.proofs.star.Plain.{begun, may_leave, settled_first, take_mail, took_mail, with_held}
+use Rattle.grs_world.proofs.star.Plain.{begun, may_leave, settled_first, take_mail, took_mail, with_held, Acts, Came}
+use Rattle.grs_world.proofs.star.Plain.{IsUsual, acted, already, began, decided, informed, left, no_such, came-usual}
+use Rattle.grs_world.proofs.star.Plain.{nothing, sent, settled, told, took, went_on}
 use Rattle.grs_world.proofs.star.Members.{IsPart, IsMember, IsStar, IsStep, Moves, has_manager, all_lists, lists_after}
 use Rattle.grs_world.proofs.star.Members.{stays}
 use Rattle.grs_world.proofs.star.Roles.{part-settled, part-told, part-held, part-interest, part-place, part-left}
 use Rattle.grs_world.proofs.star.Roles.{want-within, interest-within}
 use Rattle.grs_world.proofs.star.Tasks.{task-quiet}
 use Rattle.grs_world.proofs.star.Under.{under, under-other}
-use Rattle.grs_known.proofs.lists.Alike.{Alike, alike-itself, alike-none}
-use Rattle.grs_wire.specs.declared.told.Said.{Said}
-use Rattle.grs_wire.specs.declared.told.Said.TheVariants as saids
+use Rattle.grs_known.proofs.lists.Alike.{alike-itself, alike-none}
 use Rattle.grs_world.proofs.run.Came.{ChoiceRemovesNone}
-use Rattle.grs_world.proofs.star.Plain.{Acts, Came, IsUsual, acted, already, began, decided, informed, left, no_such}
-use Rattle.grs_world.proofs.star.Plain.{came-usual, nothing, sent, settled, told, took, went_on}
 use Rattle.grs_world.proofs.run.Chosen.{came}
 use Rattle.grs_world.proofs.run.Site.{Site}
+use Rattle.grs_wire.specs.declared.medium.Mail.TheVariants as mails
+use Rattle.grs_wire.specs.declared.medium.Reply.TheVariants as replies
+use Rattle.grs_wire.specs.declared.request.Fixed.TheVariants as fixes
+use Rattle.task_state.specs.declared.state.Phase.TheVariants as phases
+use Rattle.grs_wire.specs.declared.told.Said.TheVariants as saids
 
 module _ (deck : Deck) (some : 0 < deck.entries) (w : World) (c : SysId) (few : c.0 < most_systems) (n : NodeState)
     (at : Site w c.0 n) (g : IsStar deck w) (me : IsMember deck w.medium.words (all_lists w) c.0 n) where

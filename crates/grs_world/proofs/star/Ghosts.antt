@@ -1,50 +1,26 @@
 -- A system in star mode is read as one in the ring: its tasks and its own lists are the same; of the message nothing is
 -- in its table or its outbox. `later` are the items that others fixed for its tasks and whose answers are still to
 -- come, `out` the requests of its tasks that were sent and aren't answered yet.
-use Rattle.std.proofs.Common.{◌≡◌, ◌≢◌, ℕ, zero, suc, Bool, true, false, cond, List, [], ◌∷◌, ◌++◌, Option, Some, None}
-use Rattle.std.proofs.Common.{refl, ap, sym, ◌∙◌, subst, arith, append-nil}
-use Rattle.std.specs.Prelude.{slice_get}
-use Rattle.std.specs.List.{list_all}
-use Rattle.std.proofs.lemmas.Bool.{cases_Bool}
-use Rattle.std.proofs.lemmas.List.Elements.{filter-append}
-use Rattle.grs_base.specs.Looks.{look}
-use Rattle.grs_base.specs.declared.look.Place.TheVariants.{Local}
-use Rattle.grs_base.specs.declared.resource.SysId.{SysId}
-use Rattle.grs_base.specs.declared.resource.TaskId.{TaskId}
-use Rattle.grs_base.specs.Same.{same_task}
-use Rattle.grs_base.proofs.SameLaws.{same_task-exact}
-use Rattle.grs_legal.specs.Asks.{lines_of}
-use Rattle.grs_legal.specs.declared.meaning.Display.{Display}
-use Rattle.grs_legal.specs.declared.meaning.Meaning.{Meaning}
-use Rattle.grs_legal.specs.declared.meaning.Meaning.TheVariants as lines
-use Rattle.grs_node.specs.Node.{NodeState, Step, with_tasks, post, decide, ask, take_line, end_step, ready_step, posted}
-use Rattle.grs_node.specs.Node.{phase_step, task_step, has_most, may_go, look_home, look_around, show, looks_asked}
-use Rattle.grs_wire.specs.Wants.{res_wanted, is_for_all}
-use Rattle.grs_wire.specs.declared.deck.Deck.{Deck}
-use Rattle.grs_wire.specs.declared.history.HistEntry.{HistEntry}
-use Rattle.grs_wire.specs.declared.request.Fixed.{Fixed}
-use Rattle.grs_wire.specs.declared.request.Req.{Req}
-use Rattle.grs_wire.specs.declared.request.Want.{Want}
-use Rattle.grs_wire.specs.declared.request.Want.TheVariants.{Enq, Deq, Release}
-use Rattle.grs_wire.specs.declared.told.ToldLine.{ToldLine}
-use Rattle.grs_wire.specs.declared.told.ToldLine.TheVariants as told
-use Rattle.task_state.specs.View.{TasksView, state_of, with_line, with_phase, with_rows}
-use Rattle.task_state.specs.declared.state.Asked.{Asked}
-use Rattle.task_state.specs.declared.state.Phase.{Phase}
-use Rattle.task_state.specs.declared.state.Phase.TheVariants as phases
-use Rattle.task_state.specs.declared.state.Rec.{Rec}
-use Rattle.grs_known.specs.Items.{RunItem, goes_round, is_of, removes_system_of, rounds, mine, history}
-use Rattle.grs_known.proofs.known.Histories.{IsHistory, IsAsk, made_item, stays-ask}
-use Rattle.grs_known.proofs.lists.Truths.{false_by}
+use Rattle.grs_world.proofs.Common.{[], ◌++◌, ◌∙◌, ◌∷◌, ◌≡◌, ◌≢◌, ap, append-nil, are_sent, arith, ask, Asked, askers}
+use Rattle.grs_world.proofs.Common.{Bool, cases_Bool, cond, decide, Deck, Deq, Display, end_step, Enq, false, false_by}
+use Rattle.grs_world.proofs.Common.{filter-append, first_part, Fixed, goes_round, has_most, here-kept, HistEntry}
+use Rattle.grs_world.proofs.Common.{history, is_for_all, is_home_at, is_of, IsAsk, IsAskedBy, IsGood, IsHistory, IsOurs}
+use Rattle.grs_world.proofs.Common.{lines_of, List, list_all, Local, look, look_around, look_home, looks_asked}
+use Rattle.grs_world.proofs.Common.{made_item, may_go, Meaning, mine, NodeState, None, none, Opens, Option, Phase}
+use Rattle.grs_world.proofs.Common.{phase_step, post, posted, ready_step, Rec, refl, Release, removes_system_of, Req}
+use Rattle.grs_world.proofs.Common.{res_wanted, rounds, RunItem, same_task, same_task-exact, show, slice_get, Some}
+use Rattle.grs_world.proofs.Common.{stand_apart, StarPart, state_of, Step, subst, suc, sym, SysId, take_line, task_step}
+use Rattle.grs_world.proofs.Common.{TaskId, TasksView, ToldBy, ToldLine, true, Want, with_line, with_phase, with_rows}
+use Rattle.grs_world.proofs.Common.{with_tasks, zero, ℕ}
+use Rattle.grs_known.proofs.known.Histories.{stays-ask}
 use Rattle.grs_known.proofs.system.Askers.{apart-front}
-use Rattle.grs_known.proofs.system.Asking.{Opens, IsAskedBy, are_sent}
 use Rattle.grs_world.proofs.system.AtNode.{opens_of, Seen, MayFix, QuietStep, keeps, fixes, seen-other, mine-left}
 use Rattle.grs_world.proofs.system.AtNode.{seen-fixed, fix-home, fix-stays}
-use Rattle.grs_known.proofs.system.Good.{IsGood, here-kept}
-use Rattle.grs_known.proofs.system.Ours.{IsOurs}
 use Rattle.grs_world.proofs.system.Quiet.{quiet}
-use Rattle.grs_known.proofs.system.Says.{is_home_at, askers, stand_apart, Clears, ToldBy, none, more}
-use Rattle.grs_node.specs.Star.{StarPart, first_part}
+use Rattle.grs_known.proofs.system.Says.{Clears, more}
+use Rattle.grs_legal.specs.declared.meaning.Meaning.TheVariants as lines
+use Rattle.grs_wire.specs.declared.told.ToldLine.TheVariants as told
+use Rattle.task_state.specs.declared.state.Phase.TheVariants as phases
 
 -- Its part is any: of it nothing is read but that the system has one, so that it looks at slices one by one.
 abbrev pub any_part : StarPart

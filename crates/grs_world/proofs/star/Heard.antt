@@ -1,41 +1,21 @@
 -- What is still to be heard by live systems in star mode: of each request that was sent, where it or its answer is; and
 -- of each owner, that its system knows that it owns, or that this comes to it, or that its manager has still to tell
 -- it. So nothing is lost.
-use Rattle.std.specs.Prelude.{◌≡◌, ◌≢◌, ◌<◌, ◌≤◌, ◌⊎◌, ℕ, suc, Bool, true, false, cond, not, ◌&&◌, ◌||◌, nat_le, List}
-use Rattle.std.specs.Prelude.{[], ◌∷◌, ◌++◌, length, filter, Some}
-use Rattle.std.specs.List.{list_any}
-use Rattle.contention_mgr.specs.Manager.{Managed, is_of, items_of, managed_at, managed_of, entry_wanted}
-use Rattle.grs_base.specs.Limits.{last_number}
-use Rattle.grs_base.specs.Lists.{has_task, owns}
-use Rattle.grs_base.specs.Same.{same_res, same_task}
-use Rattle.grs_base.specs.State.{list_of, is_systems}
-use Rattle.grs_base.specs.declared.resource.Res.{Res}
-use Rattle.grs_base.specs.declared.resource.SysId.{SysId}
-use Rattle.grs_base.specs.declared.resource.TaskId.{TaskId}
-use Rattle.grs_known.proofs.lists.Owners.{is_among}
-use Rattle.grs_known.proofs.system.Says.{askers, is_home_at}
-use Rattle.grs_known.proofs.tasks.Invariant.{has_res}
-use Rattle.grs_known.specs.Items.{RunItem, items}
-use Rattle.grs_known.specs.Parts.{put_at}
-use Rattle.grs_medium.specs.Medium.{inbox}
-use Rattle.grs_node.specs.Node.{NodeState}
-use Rattle.grs_node.specs.Star.{StarPart}
-use Rattle.grs_wire.specs.declared.deck.Deck.{Deck}
-use Rattle.grs_wire.specs.declared.medium.Mail.{Mail}
-use Rattle.grs_wire.specs.declared.medium.Mail.TheVariants.{Request, Answered, Granted, Notice, Part}
-use Rattle.grs_wire.specs.declared.request.Answer.{Answer}
-use Rattle.grs_wire.specs.declared.request.Answer.TheVariants.{Coded, Rows}
-use Rattle.grs_wire.specs.declared.request.Fixed.{Fixed}
-use Rattle.grs_wire.specs.declared.request.Fixed.TheVariants as fixing
-use Rattle.grs_wire.specs.declared.request.Want.{Want}
-use Rattle.grs_wire.specs.declared.request.Want.TheVariants.{Enq, Deq, Release, Look}
-use Rattle.task_state.specs.Replies.{is_granted}
-use Rattle.task_state.specs.View.{state_of, is_sent}
-use Rattle.grs_known.proofs.records.Marks.{is_marked}
+use Rattle.grs_world.proofs.Common.{Answer, Answered, askers, Deck, Deq, Enq, entry_wanted, filter, Fixed, fixed_by}
+use Rattle.grs_world.proofs.Common.{Granted, has_res, has_task, inbox, is_among, is_granted, is_home_at, is_marked}
+use Rattle.grs_world.proofs.Common.{is_sent, is_systems, items, items_of, last_number, list_any, list_of, Look, Mail}
+use Rattle.grs_world.proofs.Common.{Managed, managed_at, managed_of, nat_le, NodeState, Notice, owns, Part, placed}
+use Rattle.grs_world.proofs.Common.{put_at, Release, Res, Rows, RunItem, same_res, same_task, StarPart, state_of, SysId}
+use Rattle.grs_world.proofs.Common.{TaskId, Turnout, Want, World}
+use Rattle.std.specs.Prelude.{◌≡◌, ◌≢◌, ◌<◌, ◌≤◌, ◌⊎◌, ℕ, suc, Bool, true, false, cond, not, ◌&&◌, ◌||◌, List, [], ◌∷◌}
+use Rattle.std.specs.Prelude.{◌++◌, length, Some}
+use Rattle.contention_mgr.specs.Manager.{is_of}
+use Rattle.grs_wire.specs.declared.medium.Mail.TheVariants.{Request}
+use Rattle.grs_wire.specs.declared.request.Answer.TheVariants.{Coded}
 use Rattle.grs_world.proofs.star.Members.{all_lists}
 use Rattle.grs_world.proofs.star.Worlds.{in_hands}
-use Rattle.grs_world.specs.World.{World, Turnout, fixed_by, placed}
 use Rattle.grs_world.proofs.run.Site.{Site}
+use Rattle.grs_wire.specs.declared.request.Fixed.TheVariants as fixing
 
 -- ---- how a system stands by itself
 -- whether a task of a system has sent its request, and whether its system told it control of a resource

@@ -1,57 +1,31 @@
 -- A system that gives up its interest in an entry, in which it has nothing on record and asks nothing.
-use Rattle.std.proofs.Common.{◌≡◌, ◌≢◌, ◌⊎◌, inl, inr, ◌<◌, ℕ, Bool, true, false, cond, ◌||◌, List, [], ◌∷◌, ◌++◌}
-use Rattle.std.proofs.Common.{length, Option, Some, None, refl, ap, sym, ◌∙◌, subst, arith, append-nil, append_assoc}
-use Rattle.std.specs.Prelude.{get_or, nat_lt, ◌==◌}
-use Rattle.std.specs.List.{list_all, list_any}
-use Rattle.std.proofs.lemmas.Bool.{and_parts, and_from, or_left, or_right, or_parts}
-use Rattle.std.proofs.lemmas.Bool.Decides.{nat_tests}
-use Rattle.std.proofs.lemmas.List.Elements.{filter-append}
+use Rattle.grs_world.proofs.Common.{[], ◌++◌, ◌<◌, ◌==◌, ◌||◌, ◌∙◌, ◌∷◌, ◌≡◌, ◌≢◌, ◌⊎◌, all-middle, and_from, and_parts}
+use Rattle.grs_world.proofs.Common.{Answered, ap, append-nil, append_assoc, arith, Asked, blank, Bool, Coming, cond}
+use Rattle.grs_world.proofs.Common.{Deck, entries_for, entry_for, entry_of_res, entry_wanted, false, false_by}
+use Rattle.grs_world.proofs.Common.{filter-append, filter-cons_kept, get_or, gives_back, Granted, has_res, has_task}
+use Rattle.grs_world.proofs.Common.{inl, inr, is_busy_in, is_entry, is_home_at, is_interested, is_look, is_of}
+use Rattle.grs_world.proofs.Common.{IsAskedBy, IsHere, IsHistory, IsOpenBy, IsOutstanding, IsReq, last_of, length, List}
+use Rattle.grs_world.proofs.Common.{list_all, list_any, list_of, lists, Mail, mine, nat_lt, nat_tests, new_task}
+use Rattle.grs_world.proofs.Common.{no_truth, NodeState, None, Notice, one, Option, or_left, or_parts, or_right}
+use Rattle.grs_world.proofs.Common.{outstanding, owns-has, Part, Rec, refl, Req, Res, res_wanted, RunItem, same_res}
+use Rattle.grs_world.proofs.Common.{same_res-exact, same_task, same_task-itself, Some, StarPart, State, state_of, subst}
+use Rattle.grs_world.proofs.Common.{sym, TaskId, true, ℕ}
 use Rattle.std.proofs.lemmas.List.Folds.{list_any_at}
-use Rattle.contention_mgr.specs.Manager.{entry_wanted}
-use Rattle.lock_structure.specs.Entries.{entry_of_res, is_entry}
-use Rattle.grs_base.specs.Same.{same_res, same_task}
-use Rattle.grs_base.specs.Lists.{has_task}
-use Rattle.grs_base.specs.State.{list_of, State}
-use Rattle.grs_base.specs.declared.resource.Res.{Res}
-use Rattle.grs_base.specs.declared.resource.TaskId.{TaskId}
-use Rattle.grs_base.proofs.SameLaws.{same_res-exact, same_task-itself}
-use Rattle.grs_node.specs.Node.{NodeState}
-use Rattle.grs_node.specs.Star.{StarPart, is_busy_in, asks_in, entry_for}
-use Rattle.grs_wire.specs.History.{entries_for}
-use Rattle.grs_wire.specs.Wants.{res_wanted}
-use Rattle.grs_wire.specs.declared.deck.Deck.{Deck}
-use Rattle.grs_wire.specs.declared.medium.Mail.{Mail}
-use Rattle.grs_wire.specs.declared.medium.Mail.TheVariants.{Request, Answered, Granted, Notice, Part}
-use Rattle.grs_wire.specs.declared.request.Fixed.TheVariants as fixing
-use Rattle.grs_wire.specs.declared.request.Req.{Req}
-use Rattle.lock_structure.specs.Laws.{is_interested}
-use Rattle.task_state.specs.View.{state_of, new_task}
-use Rattle.task_state.specs.declared.state.Asked.{Asked}
-use Rattle.task_state.specs.declared.state.Rec.{Rec}
-use Rattle.grs_known.specs.Items.{RunItem, is_of, gives_back, mine, lists}
-use Rattle.grs_known.specs.Known.{Known, last_of, outstanding, Still, Coming, learns_control, learns_item}
-use Rattle.grs_known.proofs.known.Knowing.{one, one-some}
-use Rattle.grs_known.proofs.known.Histories.{IsHistory}
-use Rattle.grs_known.proofs.known.Knows.{IsOutstanding}
-use Rattle.grs_known.proofs.lists.All.{owns-has}
-use Rattle.grs_known.proofs.lists.Facts.{filter-cons_kept, all-middle}
-use Rattle.grs_known.proofs.lists.Truths.{no_truth, false_by}
-use Rattle.grs_known.proofs.tasks.Invariant.{has_res}
+use Rattle.grs_node.specs.Star.{asks_in}
+use Rattle.grs_wire.specs.declared.medium.Mail.TheVariants.{Request}
+use Rattle.grs_known.specs.Known.{Known, Still, learns_control, learns_item}
+use Rattle.grs_known.proofs.known.Knowing.{one-some}
 use Rattle.grs_world.proofs.system.AtNode.{opens_of}
-use Rattle.grs_known.proofs.system.Asking.{IsReq, IsAskedBy, IsOpenBy}
-use Rattle.grs_known.proofs.system.Ours.{IsHere}
 use Rattle.grs_world.proofs.system.Puts.{home-task}
-use Rattle.grs_known.proofs.system.Says.{is_home_at}
 use Rattle.grs_known.proofs.system.Busy.{busy-idle, busy-behind, busy-looks}
 use Rattle.grs_world.proofs.star.Ghosts.{ghosted}
 use Rattle.grs_world.proofs.star.Members.{has_manager}
-use Rattle.grs_known.proofs.known.Blank.{blank}
 use Rattle.grs_world.proofs.star.OwnEvents.{late-in, given-entry}
 use Rattle.grs_world.proofs.star.Systems.{IsSystem, IsLate, AllLate, AllFit, Away, near_at, is_near, is_late, news_of}
 use Rattle.grs_world.proofs.star.Systems.{here, behind-late}
 use Rattle.grs_world.proofs.star.Under.{entry-same, want-entry}
 use Rattle.grs_world.proofs.star.Answering.{want-looks}
-use Rattle.grs_known.proofs.lists.Shows.{is_look}
+use Rattle.grs_wire.specs.declared.request.Fixed.TheVariants as fixing
 
 -- none of these tasks is busy, so neither is one of them
 any-at : {X : Type 0} (f : X → Bool) (xs : List X) (i : ℕ) (d : X) → list_any f xs ≡ false → i < length xs

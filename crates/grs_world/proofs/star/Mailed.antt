@@ -1,59 +1,32 @@
 -- What taking a mail does to what holds of a system.
-use Rattle.std.proofs.Common.{◌≡◌, ℕ, Bool, true, false, cond, not, ◌&&◌, ◌||◌, List, [], ◌∷◌, ◌++◌, Option, Some, None}
-use Rattle.std.proofs.Common.{refl, ap, sym, ◌∙◌, subst, append-nil, arith}
-use Rattle.std.specs.Prelude.{is_some, nat_le, ◌==◌}
-use Rattle.std.specs.List.{list_all, list_any}
-use Rattle.std.proofs.lemmas.Bool.{and_parts, eqb-true, eq-eqb, and_from, and_right}
-use Rattle.grs_base.specs.Lists.{deq_code, standing_of}
-use Rattle.grs_base.specs.Same.{same_task}
-use Rattle.grs_base.specs.State.{State, list_of}
+use Rattle.grs_world.proofs.Common.{[], ◌&&◌, ◌++◌, ◌==◌, ◌||◌, ◌∙◌, ◌∷◌, ◌≡◌, after_mail, all-filter, and_from}
+use Rattle.grs_world.proofs.Common.{and_parts, Answer, answer_to, Answered, ap, append-nil, are_sent, arith, Asked}
+use Rattle.grs_world.proofs.Common.{askers, blank, Bool, Coming, cond, Deck, Deq, Enq, entries_for, eq-eqb, eqb-true}
+use Rattle.grs_world.proofs.Common.{false, false_by, Granted, has_effect, history, is_among, is_for_deck, is_home_at}
+use Rattle.grs_world.proofs.Common.{is_of, is_of_deck, is_sent, is_some, is_task, is_task-system, IsHistory, IsOpenBy}
+use Rattle.grs_world.proofs.Common.{IsOutstanding, last_number, last_of, lines_of, List, list_all, list_any, list_of}
+use Rattle.grs_world.proofs.Common.{Look, Mail, mine, names_of_deck, nat_le, no_truth, NodeState, None, none, not, one}
+use Rattle.grs_world.proofs.Common.{Option, outstanding, Phase, record_of, refl, Release, replies_are_answers, reply_in}
+use Rattle.grs_world.proofs.Common.{Req, Res, RunItem, same_task, same_task-exact, same_task-itself, Some, stand_apart}
+use Rattle.grs_world.proofs.Common.{standing_of, StarPart, State, state_of, subst, sym, SysId, TaskId, TasksView}
+use Rattle.grs_world.proofs.Common.{tell_all, tell_answer_any_ranked, tell_answer_ranked, tell_control, tell_untold}
+use Rattle.grs_world.proofs.Common.{true, Want, ℕ}
+use Rattle.grs_base.specs.Lists.{deq_code}
 use Rattle.grs_base.specs.declared.decision.Standing.{Standing}
-use Rattle.grs_base.specs.declared.resource.Res.{Res}
-use Rattle.grs_base.specs.declared.resource.SysId.{SysId}
-use Rattle.grs_base.specs.declared.resource.TaskId.{TaskId}
-use Rattle.grs_base.proofs.SameLaws.{same_task-exact, same_task-itself}
-use Rattle.grs_legal.specs.Asks.{lines_of}
-use Rattle.grs_node.specs.Node.{NodeState, is_for_deck, is_of_deck, names_of_deck}
-use Rattle.grs_node.specs.Star.{StarPart}
-use Rattle.grs_wire.specs.History.{entries_for}
-use Rattle.grs_wire.specs.Wants.{answer_to}
-use Rattle.grs_wire.specs.declared.deck.Deck.{Deck}
-use Rattle.grs_wire.specs.declared.medium.Mail.{Mail}
-use Rattle.grs_wire.specs.declared.medium.Mail.TheVariants.{Request, Answered, Granted}
-use Rattle.grs_wire.specs.declared.request.Answer.{Answer}
-use Rattle.grs_wire.specs.declared.request.Fixed.TheVariants as fixing
-use Rattle.grs_wire.specs.declared.request.Req.{Req}
-use Rattle.grs_wire.specs.declared.request.Want.{Want}
-use Rattle.grs_wire.specs.declared.request.Want.TheVariants.{Enq, Deq, Release, Look}
-use Rattle.grs_base.specs.Limits.{last_number}
-use Rattle.star_client.specs.Client.{can_get, is_code_of, deq_codes, has_effect, has_sent, is_awaited}
-use Rattle.star_client.specs.Client.{tell_answer_ranked, tell_answer_any_ranked, after_mail}
-use Rattle.task_state.specs.Replies.{tell_control, tell_untold, tell_all}
-use Rattle.task_state.specs.View.{TasksView, is_task, state_of, record_of, is_sent}
-use Rattle.task_state.specs.declared.state.Asked.{Asked}
-use Rattle.task_state.specs.declared.state.Phase.{Phase}
-use Rattle.task_state.proofs.ViewLaws.{is_task-system}
-use Rattle.grs_known.specs.Items.{RunItem, is_of, mine, history, reply_in}
-use Rattle.grs_known.specs.Known.{last_of, outstanding, Still, Coming, learns_control, learns_item, is_answer_to}
-use Rattle.grs_known.proofs.known.Knowing.{one}
-use Rattle.grs_known.proofs.known.Histories.{IsHistory}
-use Rattle.grs_known.proofs.known.ItemLaws.{replies_are_answers}
-use Rattle.grs_known.proofs.known.Knows.{IsOutstanding}
-use Rattle.grs_known.proofs.lists.Facts.{all-filter}
-use Rattle.grs_known.proofs.lists.Owners.{is_among}
-use Rattle.grs_known.proofs.lists.Truths.{no_truth, false_by}
+use Rattle.grs_wire.specs.declared.medium.Mail.TheVariants.{Request}
+use Rattle.star_client.specs.Client.{can_get, is_code_of, deq_codes, has_sent, is_awaited}
+use Rattle.grs_known.specs.Known.{Still, learns_control, learns_item, is_answer_to}
 use Rattle.grs_world.proofs.system.AtNode.{opens_of}
 use Rattle.grs_world.proofs.system.Puts.{home-task}
-use Rattle.grs_known.proofs.system.Says.{is_home_at, askers, stand_apart, none}
 use Rattle.grs_world.proofs.star.Answering.{Taken, takes-control, takes-answer, others_of, without_asker, apart-filter}
 use Rattle.grs_world.proofs.star.Answering.{mine-others, mine-none}
 use Rattle.grs_world.proofs.star.Ghosts.{ghosted, IsAt, told-free}
-use Rattle.grs_known.proofs.known.Blank.{blank, coming-same, coming-late, no-answer}
+use Rattle.grs_known.proofs.known.Blank.{coming-same, coming-late, no-answer}
 use Rattle.grs_world.proofs.star.Named.{outstanding-named}
 use Rattle.grs_world.proofs.star.OwnEvents.{Goes, late-in}
-use Rattle.grs_known.proofs.system.Asking.{IsOpenBy, are_sent}
 use Rattle.grs_world.proofs.star.Systems.{gives, gives_want, gives-none, is_plain_answer, any-answer, IsSystem, IsLate}
 use Rattle.grs_world.proofs.star.Systems.{AllLate, is_late, news_of, late-none, late-one, here, behind-late, is_near}
+use Rattle.grs_wire.specs.declared.request.Fixed.TheVariants as fixing
 
 -- only the first of its requests is no longer in the inbox
 pub took-request :

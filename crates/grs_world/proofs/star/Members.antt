@@ -1,32 +1,16 @@
 -- What holds of the medium and of each live system of a run in star mode, as far as words, roles and lists go; and how
 -- an event of one system keeps it. In star mode no event removes a system.
-use Rattle.std.proofs.Common.{◌≡◌, ◌≢◌, ◌<◌, ℕ, Bool, true, false, List, [], ◌∷◌, ◌++◌, length, Option, Some, None}
-use Rattle.std.proofs.Common.{refl, ap, sym, ◌∙◌, subst}
-use Rattle.std.specs.Prelude.{set, nat_lt}
-use Rattle.std.specs.List.{All}
-use Rattle.std.proofs.lemmas.Bool.{eqb-true, eq-eqb, lt-ltb}
-use Rattle.std.proofs.lemmas.List.{length-set}
-use Rattle.std.proofs.lemmas.Option.{same_Some}
-use Rattle.grs_known.proofs.lists.Truths.{false_by, no_truth}
-use Rattle.grs_wire.specs.Masks.{has, lives}
+use Rattle.grs_world.proofs.Common.{[], ◌++◌, ◌<◌, ◌∙◌, ◌∷◌, ◌≡◌, ◌≢◌, after_fixed, Alike, All, ap, Bool, Deck, eq-eqb}
+use Rattle.grs_world.proofs.Common.{eqb-true, false, false_by, Fixed, fixed_by, has, has_interest, is_interested}
+use Rattle.grs_world.proofs.Common.{is_manager, IsManaged, items, items-append, items_from, items_of, length}
+use Rattle.grs_world.proofs.Common.{length-set, List, lists, lives, lt-ltb, managed_at, manager_at, manages, nat_lt}
+use Rattle.grs_world.proofs.Common.{no_truth, NodeState, None, Option, placed, plain, refl, same_Some, set, Some}
+use Rattle.grs_world.proofs.Common.{StarPart, State, subst, sym, SysId, true, Turnout, World, ℕ}
 use Rattle.contention_mgr.specs.Laws.{AreWellKept}
-use Rattle.contention_mgr.specs.Manager.{plain, items_of, managed_at}
-use Rattle.grs_base.specs.State.{State}
-use Rattle.grs_base.specs.declared.resource.SysId.{SysId}
-use Rattle.grs_node.specs.Node.{NodeState}
-use Rattle.grs_node.specs.Star.{StarPart, manages, has_interest}
-use Rattle.grs_wire.specs.History.{after_fixed}
-use Rattle.grs_wire.specs.LockWords.{is_manager}
-use Rattle.grs_wire.specs.declared.deck.Deck.{Deck}
-use Rattle.grs_wire.specs.declared.request.Fixed.{Fixed}
-use Rattle.lock_structure.specs.Laws.{IsManaged, is_interested, manager_at}
-use Rattle.grs_known.specs.Items.{lists, lists_from, items, items_from}
-use Rattle.grs_known.proofs.known.Histories.{items-append}
+use Rattle.grs_known.specs.Items.{lists_from}
 use Rattle.grs_known.proofs.known.ItemLaws.{lists_from-append}
 use Rattle.grs_world.proofs.star.Calm.{IsCalm}
-use Rattle.grs_world.specs.World.{World, Turnout, fixed_by, placed}
 use Rattle.grs_world.proofs.star.Under.{under}
-use Rattle.grs_known.proofs.lists.Alike.{Alike}
 use Rattle.grs_world.proofs.run.Site.{Site, site-below, each_site}
 
 -- whether a system manages an entry, by the words

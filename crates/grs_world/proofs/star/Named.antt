@@ -1,37 +1,19 @@
 -- The tasks that an answer of the history names are of the deck.
-use Rattle.std.proofs.Common.{◌≡◌, ℕ, zero, suc, Bool, true, false, cond, List, [], ◌∷◌, ◌++◌, Some, None, refl, ap}
-use Rattle.std.proofs.Common.{◌∙◌, subst, append-nil}
-use Rattle.std.specs.Prelude.{◌||◌, is_some}
-use Rattle.std.specs.List.{list_all}
-use Rattle.std.proofs.lemmas.Bool.{and_from, and_parts}
-use Rattle.std.proofs.lemmas.List.Folds.{list_all-append}
-use Rattle.grs_base.specs.Looks.{look, is_shown}
-use Rattle.grs_base.specs.Rows.{rows_of}
-use Rattle.grs_base.specs.Same.{same_res}
-use Rattle.grs_base.specs.State.{State, is_systems, list_of}
-use Rattle.grs_base.specs.declared.look.Filter.{Filter}
-use Rattle.grs_base.specs.declared.look.Place.{Place}
-use Rattle.grs_base.specs.declared.look.Place.TheVariants.{Slice, Local}
-use Rattle.grs_base.specs.declared.resource.Res.{Res}
-use Rattle.grs_base.specs.declared.resource.Row.{Row}
-use Rattle.grs_base.specs.declared.resource.SysId.{SysId}
-use Rattle.grs_base.specs.declared.resource.TaskId.{TaskId}
-use Rattle.grs_known.proofs.known.Histories.{IsHistory, AllAsk, asks-push, elements-ask, may_have}
-use Rattle.grs_known.proofs.known.ItemLaws.{replies_are_answers}
-use Rattle.grs_known.proofs.lists.Facts.{all-filter, all-kept}
-use Rattle.grs_known.proofs.lists.Parts.{is_res_of}
-use Rattle.grs_known.proofs.lists.Rows.{AreLists, rows-lists}
-use Rattle.grs_known.specs.Items.{RunItem, AllMade, is_of, lists, mine, reply_in}
-use Rattle.grs_known.specs.Known.{Known, last_of, outstanding}
-use Rattle.grs_legal.specs.Asks.{lines_of}
-use Rattle.grs_node.specs.Node.{has_deck_tasks, is_of_deck, names_of_deck}
-use Rattle.grs_wire.specs.History.{fixed_entries}
-use Rattle.grs_wire.specs.Wants.{answer_to, looks}
-use Rattle.grs_wire.specs.declared.deck.Deck.{Deck}
-use Rattle.grs_wire.specs.declared.request.Fixed.{Fixed}
-use Rattle.grs_wire.specs.declared.request.Fixed.TheVariants.{Asked, LocalLook, Purged}
-use Rattle.grs_wire.specs.declared.request.Want.{Want}
-use Rattle.grs_wire.specs.declared.request.Want.TheVariants.{Enq, Deq, Release, Look}
+use Rattle.grs_world.proofs.Common.{[], ◌++◌, ◌∙◌, ◌∷◌, ◌≡◌, all-filter, all-kept, AllAsk, and_from, and_parts}
+use Rattle.grs_world.proofs.Common.{answer_to, ap, append-nil, AreLists, Bool, cond, Deck, Deq, Enq, false, Filter}
+use Rattle.grs_world.proofs.Common.{Fixed, fixed_entries, is_of, is_of_deck, is_res_of, is_some, is_systems, IsHistory}
+use Rattle.grs_world.proofs.Common.{last_of, lines_of, List, list_all, list_all-append, list_of, lists, Local}
+use Rattle.grs_world.proofs.Common.{LocalLook, Look, look, looks, mine, names_of_deck, None, outstanding, Place, Purged}
+use Rattle.grs_world.proofs.Common.{refl, Release, replies_are_answers, reply_in, Res, Row, rows-lists, rows_of}
+use Rattle.grs_world.proofs.Common.{RunItem, same_res, Slice, Some, State, subst, suc, SysId, TaskId, true, Want, zero}
+use Rattle.grs_world.proofs.Common.{ℕ}
+use Rattle.std.specs.Prelude.{◌||◌}
+use Rattle.grs_base.specs.Looks.{is_shown}
+use Rattle.grs_known.proofs.known.Histories.{asks-push, elements-ask, may_have}
+use Rattle.grs_known.specs.Items.{AllMade}
+use Rattle.grs_known.specs.Known.{Known}
+use Rattle.grs_node.specs.Node.{has_deck_tasks}
+use Rattle.grs_wire.specs.declared.request.Fixed.TheVariants.{Asked}
 
 -- ---- rows of lists whose elements are of tasks of the deck
 module _ (deck : Deck) where

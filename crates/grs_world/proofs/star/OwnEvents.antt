@@ -1,59 +1,32 @@
 -- What an event of a system in star mode does to what holds of it.
-use Rattle.std.proofs.Common.{◌≡◌, ℕ, Bool, true, false, cond, ◌&&◌, ◌||◌, List, [], ◌∷◌, ◌++◌, Option, Some, None}
-use Rattle.std.proofs.Common.{refl, ap, sym, ◌∙◌, subst}
-use Rattle.std.specs.List.{list_all, list_any}
-use Rattle.std.proofs.lemmas.Bool.{and_from}
-use Rattle.std.proofs.lemmas.Option.{same_Some}
-use Rattle.contention_mgr.specs.Manager.{entry_wanted}
-use Rattle.lock_structure.specs.Entries.{entry_of_res}
-use Rattle.grs_base.specs.Same.{same_task}
-use Rattle.grs_base.specs.Lists.{owns}
-use Rattle.grs_base.specs.State.{list_of, is_systems}
-use Rattle.grs_base.specs.declared.resource.Res.{Res}
-use Rattle.grs_base.specs.declared.resource.Res.TheVariants.{Step as StepRes, System, Systems}
-use Rattle.grs_base.specs.declared.resource.SysId.{SysId}
-use Rattle.grs_base.specs.declared.resource.TaskId.{TaskId}
-use Rattle.grs_base.proofs.SameLaws.{same_res-exact, same_task-exact}
-use Rattle.grs_legal.specs.declared.meaning.Meaning.{Meaning}
-use Rattle.grs_node.specs.Node.{NodeState, Step, may_go, task_step}
-use Rattle.grs_node.specs.Star.{StarPart, request_of}
-use Rattle.grs_wire.specs.Wants.{answer_to, res_wanted}
-use Rattle.grs_wire.specs.declared.deck.Deck.{Deck}
-use Rattle.grs_wire.specs.declared.medium.Mail.{Mail}
-use Rattle.grs_wire.specs.declared.medium.Mail.TheVariants.{Request, Answered, Granted, Notice, Part}
-use Rattle.grs_wire.specs.declared.request.Fixed.{Fixed}
-use Rattle.grs_wire.specs.declared.request.Fixed.TheVariants as fixing
-use Rattle.grs_wire.specs.declared.request.Req.{Req}
-use Rattle.grs_wire.specs.declared.request.Want.{Want}
-use Rattle.grs_wire.specs.declared.request.Want.TheVariants.{Enq, Deq, Release, Look}
-use Rattle.grs_wire.specs.declared.told.ToldLine.{ToldLine}
-use Rattle.star_client.specs.Client.{tell_answer_ranked}
-use Rattle.task_state.specs.Replies.{gives_up, tell_new}
-use Rattle.task_state.specs.View.{TasksView, state_of, with_phase}
-use Rattle.task_state.specs.declared.state.Asked.{Asked}
-use Rattle.task_state.specs.declared.state.Phase.TheVariants as phases
-use Rattle.grs_known.specs.Items.{RunItem, is_of, gives_back, goes_round, wants_round, removes_system_of, mine, lists}
-use Rattle.grs_known.specs.Items.{history}
-use Rattle.grs_known.specs.Known.{last_of, outstanding, IsRight, Coming}
+use Rattle.grs_world.proofs.Common.{[], ◌&&◌, ◌++◌, ◌||◌, ◌∙◌, ◌∷◌, ◌≡◌, and_from, answer_to, Answered, ap, Asked}
+use Rattle.grs_world.proofs.Common.{askers, blank, Bool, Coming, cond, Deck, Deq, Enq, entry_of_res, entry_wanted}
+use Rattle.grs_world.proofs.Common.{false, false_by, Fixed, follows, gives_back, gives_up, goes_round, Granted, history}
+use Rattle.grs_world.proofs.Common.{is_among, is_home_at, is_of, is_res_of, is_systems, IsHistory, IsOurs, last_of}
+use Rattle.grs_world.proofs.Common.{lines_of, List, list_all, list_any, list_of, lists, Look, made_item, Mail, may_go}
+use Rattle.grs_world.proofs.Common.{MayFollow, Meaning, mine, no_truth, NodeState, None, Notice, one, Option}
+use Rattle.grs_world.proofs.Common.{outstanding, owns, Part, part, refl, Release, removes_system_of, Req, request_of}
+use Rattle.grs_world.proofs.Common.{Res, res_wanted, RunItem, same_res-exact, same_Some, same_task, same_task-exact}
+use Rattle.grs_world.proofs.Common.{Some, StarPart, state_of, Step, subst, sym, SysId, System, task_step, TaskId}
+use Rattle.grs_world.proofs.Common.{TasksView, tell_answer_ranked, tell_new, ToldBy, ToldLine, true, Want, wants_round}
+use Rattle.grs_world.proofs.Common.{with_phase, ℕ}
+use Rattle.grs_base.specs.declared.resource.Res.TheVariants.{Step as StepRes, Systems}
+use Rattle.grs_wire.specs.declared.medium.Mail.TheVariants.{Request}
+use Rattle.grs_known.specs.Known.{IsRight}
 use Rattle.grs_known.specs.Laws.{is_given_back}
-use Rattle.grs_known.proofs.known.Knowing.{one, outstanding-own}
-use Rattle.grs_known.proofs.known.Histories.{IsHistory, MayFollow, made_item, follows}
+use Rattle.grs_known.proofs.known.Knowing.{outstanding-own}
 use Rattle.grs_known.proofs.lists.Facts.{list_all-push}
-use Rattle.grs_known.proofs.lists.Owners.{is_among}
-use Rattle.grs_known.proofs.lists.Parts.{part, is_res_of}
-use Rattle.grs_known.proofs.lists.Truths.{no_truth, false_by}
 use Rattle.grs_world.proofs.system.AtNode.{MayFix, fix-stays, part-round}
-use Rattle.grs_known.proofs.system.Ours.{IsOurs}
 use Rattle.grs_world.proofs.system.Puts.{MayPut}
-use Rattle.grs_known.proofs.system.Says.{is_home_at, askers, ToldBy}
 use Rattle.grs_world.proofs.star.Answering.{Taken, decides-own, may_own, sent, tells-new}
 use Rattle.grs_world.proofs.star.Ghosts.{IsAt, TaskStep, idles, does, task-goes, told-free}
 use Rattle.grs_world.proofs.star.Members.{has_manager}
-use Rattle.grs_known.proofs.known.Blank.{blank, coming-other, coming-decided}
+use Rattle.grs_known.proofs.known.Blank.{coming-other, coming-decided}
 use Rattle.grs_world.proofs.star.Systems.{IsSystem, IsLate, AllLate, AllFit, Keeps, is_near, is_late, news_of}
 use Rattle.grs_world.proofs.star.Systems.{late-none, here, behind-late, right-late, system-words}
 use Rattle.grs_world.proofs.star.Under.{res-entry}
-use Rattle.grs_legal.specs.Asks.{lines_of}
+use Rattle.grs_wire.specs.declared.request.Fixed.TheVariants as fixing
+use Rattle.task_state.specs.declared.state.Phase.TheVariants as phases
 
 -- what a system is afterwards, and what it told
 pub record Goes (deck : Deck) (words : List ℕ) (T : List RunItem) (s : ℕ) (n : NodeState) (ms : List Mail)

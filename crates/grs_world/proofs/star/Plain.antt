@@ -1,57 +1,33 @@
 -- What came of an event in star mode, where no system was removed there: what its system does is what it did without
 -- all that a removal brings. The names are those of the steps of a system, of which these are what is left.
-use Rattle.std.proofs.Common.{◌≡◌, ◌≢◌, ℕ, zero, suc, Bool, true, false, cond, not, ◌&&◌, ◌||◌, List, [], ◌∷◌, ◌++◌}
-use Rattle.std.proofs.Common.{drop, Some, None, refl, ap, sym, ◌∙◌, subst}
-use Rattle.std.specs.Prelude.{◌==◌, slice_get, slice_set}
-use Rattle.std.specs.List.{list_any}
-use native.Mathlib.Decide.{ℕ_discrete}
-use Rattle.std.proofs.lemmas.Bool.{and_from, and_parts, true≢false}
-use Rattle.std.proofs.lemmas.Option.{same_Some}
+use Rattle.grs_world.proofs.Common.{[], ◌&&◌, ◌++◌, ◌==◌, ◌∙◌, ◌∷◌, ◌≡◌, ◌≢◌, after_mail, after_request, and_from}
+use Rattle.grs_world.proofs.Common.{and_parts, answer_for, ap, Asked, awake, Bool, Choice, cond, decide_own, Deck}
+use Rattle.grs_world.proofs.Common.{desk_told, drop, entry_for, false, fixing_none, has, has-without_other}
+use Rattle.grs_world.proofs.Common.{has-without_same, has_interest, inbox, is_busy_in, is_done_with, is_entry}
+use Rattle.grs_world.proofs.Common.{is_for_deck, known_from, leave_reply, left_at, left_words, lines_of, List, list_any}
+use Rattle.grs_world.proofs.Common.{Mail, manager_at, manages, may_go, may_send, MediumState, most_systems, next_order}
+use Rattle.grs_world.proofs.Common.{no_elements, no_truth, NodeState, None, not, only, owners_by, rank_of, refl, Req}
+use Rattle.grs_world.proofs.Common.{request_of, Res, res_wanted, same_Some, slice_get, slice_set, Some, stale, StarPart}
+use Rattle.grs_world.proofs.Common.{StarStep, state_of, submitted_words, subst, suc, sym, SysId, task_step, TaskId}
+use Rattle.grs_world.proofs.Common.{TasksView, tell_new, to_tell, true, true≢false, Turnout, with_entry, with_interest}
+use Rattle.grs_world.proofs.Common.{with_mail, with_phase, with_star, without, without_first, without_those, word_at}
+use Rattle.grs_world.proofs.Common.{zero, ℕ, ℕ_discrete}
 use Rattle.std.proofs.lemmas.List.{set-get_or}
-use Rattle.contention_mgr.specs.Manager.{after_request, no_elements, with_entry}
-use Rattle.grs_base.specs.Limits.{most_systems}
-use Rattle.grs_base.specs.declared.resource.Res.{Res}
-use Rattle.grs_base.specs.declared.resource.SysId.{SysId}
-use Rattle.grs_base.specs.declared.resource.TaskId.{TaskId}
-use Rattle.grs_legal.specs.Asks.{lines_of}
 use Rattle.grs_medium.specs.Apply.{is_live}
-use Rattle.grs_medium.specs.Inboxes.{with_mail, without_first}
-use Rattle.grs_medium.specs.Medium.{MediumState, awake, inbox}
-use Rattle.grs_node.specs.Removal.{without_those}
-use Rattle.grs_node.specs.Node.{NodeState, desk_told, is_for_deck, known_from, may_go, may_send, next_order, only}
-use Rattle.grs_node.specs.Node.{stale, take_mail as take_now, took_mail as took_now, task_step, with_star}
-use Rattle.grs_node.specs.Star.{StarPart, StarStep, answer_for, begun as begun_now, decide_own, entry_for, fixing_none}
-use Rattle.grs_node.specs.Star.{has_interest, is_busy_in, is_done_with, is_being_gathered, left_at, manages, owners_by}
-use Rattle.grs_node.specs.Star.{may_leave as may_leave_now, rank_of, request_of, serves, settled_first as settled_now}
-use Rattle.grs_node.specs.Star.{to_tell, told_by, with_interest}
-use Rattle.grs_wire.specs.LockWords.{leave_reply}
-use Rattle.grs_wire.specs.Masks.{has, without, without_all}
-use Rattle.grs_wire.proofs.MaskLaws.{has-without_other, has-without_same}
-use Rattle.grs_wire.specs.Wants.{res_wanted}
-use Rattle.grs_wire.specs.declared.deck.Choice.{Choice}
-use Rattle.grs_wire.specs.declared.deck.Choice.TheVariants as choices
-use Rattle.grs_wire.specs.declared.deck.Deck.{Deck}
-use Rattle.grs_wire.specs.declared.deck.Order.TheVariants as orders
-use Rattle.grs_wire.specs.declared.medium.Mail.{Mail}
-use Rattle.grs_wire.specs.declared.medium.Mail.TheVariants as mails
-use Rattle.grs_wire.specs.declared.medium.Reply.TheVariants as replies
-use Rattle.grs_wire.specs.declared.request.Fixed.TheVariants as fixes
-use Rattle.grs_wire.specs.declared.request.Req.{Req}
-use Rattle.grs_wire.specs.declared.told.Said.TheVariants as saids
-use Rattle.lock_structure.specs.Entries.{is_entry}
-use Rattle.lock_structure.specs.Laws.{manager_at}
-use Rattle.lock_structure.specs.Words.{left_words, submitted_words, word_at}
-use Rattle.star_client.specs.Client.{after_mail}
-use Rattle.task_state.specs.Replies.{tell_new}
-use Rattle.task_state.specs.View.{TasksView, state_of, with_phase}
-use Rattle.task_state.specs.declared.state.Asked.{Asked}
-use Rattle.task_state.specs.declared.state.Phase.TheVariants as phases
-use Rattle.grs_known.proofs.lists.Truths.{no_truth}
-use Rattle.grs_world.specs.World.{Turnout}
-use Rattle.grs_world.proofs.run.Came as any
+use Rattle.grs_node.specs.Node.{take_mail as take_now, took_mail as took_now}
+use Rattle.grs_node.specs.Star.{begun as begun_now, is_being_gathered, may_leave as may_leave_now, serves}
+use Rattle.grs_node.specs.Star.{settled_first as settled_now, told_by}
+use Rattle.grs_wire.specs.Masks.{without_all}
 use Rattle.grs_world.proofs.run.Came.{RemovesNoneInStar, Result, no_part}
 use Rattle.grs_world.proofs.run.Knowing.{KnowsRemoved}
 use Rattle.grs_world.proofs.star.Calm.{HasNoneOf, IsCalm, first-is, held-is, losing-nothing, not-owed, rest-is}
+use Rattle.grs_wire.specs.declared.deck.Order.TheVariants as orders
+use Rattle.grs_wire.specs.declared.medium.Mail.TheVariants as mails
+use Rattle.grs_wire.specs.declared.medium.Reply.TheVariants as replies
+use Rattle.grs_wire.specs.declared.request.Fixed.TheVariants as fixes
+use Rattle.grs_wire.specs.declared.told.Said.TheVariants as saids
+use Rattle.task_state.specs.declared.state.Phase.TheVariants as phases
+use Rattle.grs_world.proofs.run.Came as any
 
 -- ---- the steps
 abbrev pub begun : StarPart → ℕ → StarPart

@@ -1,35 +1,14 @@
 -- The rank of a task's request says nothing of how the task stands.
-use Rattle.std.proofs.Common.{◌≡◌, ℕ, Bool, true, false, cond, List, [], ◌∷◌, map, Option, Some, None, refl, ap, sym}
-use Rattle.std.proofs.Common.{◌∙◌, subst}
-use Rattle.std.specs.Prelude.{slice_get, nat_le}
-use Rattle.grs_base.specs.Same.{same_res}
-use Rattle.grs_base.specs.declared.resource.Res.{Res}
-use Rattle.grs_base.specs.declared.resource.TaskId.{TaskId}
-use Rattle.grs_legal.specs.declared.meaning.Meaning.{Meaning}
-use Rattle.grs_wire.specs.declared.deck.Deck.{Deck}
-use Rattle.grs_wire.specs.declared.history.HistEntry.{HistEntry}
-use Rattle.grs_wire.specs.declared.request.Want.{Want}
-use Rattle.grs_wire.specs.declared.request.Want.TheVariants.{Enq, Deq, Release, Look}
-use Rattle.grs_wire.specs.declared.told.ToldLine.{ToldLine}
-use Rattle.star_client.specs.Client.{with_rank_of}
-use Rattle.task_state.specs.Replies.{is_leaving}
-use Rattle.task_state.specs.View.{TasksView, is_task, state_of, on_record, with_rank}
-use Rattle.task_state.specs.declared.state.Asked.{Asked}
-use Rattle.task_state.specs.declared.state.Phase.{Phase}
-use Rattle.task_state.specs.declared.state.Rec.{Rec}
-use Rattle.task_state.specs.declared.state.TaskState.{TaskState}
-use Rattle.task_state.proofs.ViewLaws.{length-on_record, state_of-same, told-state}
-use Rattle.grs_known.specs.Items.{RunItem, history}
-use Rattle.grs_known.specs.Past.{Past, past_of}
-use Rattle.grs_known.proofs.tasks.Invariant.{Each, IsRec, IsTask}
+use Rattle.grs_world.proofs.Common.{[], ◌∙◌, ◌∷◌, ◌≡◌, ap, Asked, Bool, cond, Deck, Deq, Did, Each, Enq, false}
+use Rattle.grs_world.proofs.Common.{HistEntry, history, is_leaving, is_task, IsAskedFor, IsGood, IsHere, IsOpenBy}
+use Rattle.grs_world.proofs.Common.{IsOurs, IsRec, IsTask, List, Look, map, Meaning, nat_le, None, none, on_record}
+use Rattle.grs_world.proofs.Common.{Opens, Option, Past, past_of, Phase, quiet_good, Rec, refl, Release, Res, RunItem}
+use Rattle.grs_world.proofs.Common.{same_res, slice_get, Some, state_of, StaysGood, subst, sym, TaskId, TaskState}
+use Rattle.grs_world.proofs.Common.{TasksView, told-state, ToldBy, ToldLine, true, Want, with_rank, with_rank_of, ℕ}
+use Rattle.task_state.proofs.ViewLaws.{length-on_record, state_of-same}
 use Rattle.grs_known.proofs.tasks.Keys.{keys-on_record, distinct-on_record}
-use Rattle.grs_known.proofs.system.Asking.{Opens, unasked, unasked-told, IsAskedFor, IsOpenBy, IsOpen}
-use Rattle.grs_known.proofs.system.Did.{Did}
-use Rattle.grs_known.proofs.system.Events.{StaysGood}
-use Rattle.grs_known.proofs.system.Good.{IsGood}
-use Rattle.grs_known.proofs.system.Ours.{IsOurs, changed-state, IsHere}
-use Rattle.grs_known.proofs.system.Says.{ToldBy, none}
-use Rattle.grs_known.proofs.system.Turns.{quiet_good}
+use Rattle.grs_known.proofs.system.Asking.{unasked, unasked-told, IsOpen}
+use Rattle.grs_known.proofs.system.Ours.{changed-state}
 
 abbrev pub ranked : ℕ → Rec → Rec
 ranked k y = record y { rank = k }

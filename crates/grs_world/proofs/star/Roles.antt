@@ -1,34 +1,24 @@
 -- What each event of star mode does to a system's part: to what it manages and keeps, and to its interest.
-use Rattle.std.proofs.Common.{◌≡◌, ◌≢◌, ◌<◌, ◌+◌, ℕ, Bool, true, false, cond, ◌&&◌, List, length, Option, Some, None}
-use Rattle.std.proofs.Common.{refl, ap, sym, ◌∙◌, subst, arith}
-use Rattle.std.specs.Prelude.{◌==◌, nat_lt, nat_le, is_some, slice_get, slice_set, slice_index_or, unwrap_or}
-use Rattle.std.specs.Option.{option_map_or}
-use Rattle.std.proofs.lemmas.Bool.{eqb-true, eqb-false}
-use Rattle.std.proofs.lemmas.List.{length-set, get_or-set_same, get_or-set_other}
+use Rattle.grs_world.proofs.Common.{◌&&◌, ◌+◌, ◌<◌, ◌==◌, ◌∙◌, ◌≡◌, ◌≢◌, after_request, after_telling, after_want}
+use Rattle.grs_world.proofs.Common.{Alike, ap, arith, Bool, cond, Deck, Deq, Enq, entry_of, entry_of_res, entry_wanted}
+use Rattle.grs_world.proofs.Common.{eqb-false, eqb-true, false, has_interest, is_entry, is_interested, is_some}
+use Rattle.grs_world.proofs.Common.{items_of, kept_at, kept_for, left_at, length, length-set, List, Look, Managed}
+use Rattle.grs_world.proofs.Common.{managed_at, ManagerView, manages, nat_le, nat_lt, None, Option, option_map_or}
+use Rattle.grs_world.proofs.Common.{plain, refl, Release, Req, Res, settled, slice_get, slice_get_within}
+use Rattle.grs_world.proofs.Common.{slice_index_or, slice_of, slice_set, Some, some_of, StarPart, State, subst, sym}
+use Rattle.grs_world.proofs.Common.{System, TaskId, true, unwrap_or, Want, with_entry, with_interest, ℕ}
+use Rattle.std.proofs.lemmas.List.{get_or-set_same, get_or-set_other}
 use Rattle.std.proofs.lemmas.Nat.{mod_below}
-use Rattle.std.proofs.lemmas.Option.{unwrap_or-slice_get, slice_get_within}
+use Rattle.std.proofs.lemmas.Option.{unwrap_or-slice_get}
 use Rattle.contention_mgr.specs.Laws.{AreWellKept}
-use Rattle.contention_mgr.specs.Manager.{Managed, ManagerView, plain, items_of, settled, told, entry_wanted, are_of}
-use Rattle.contention_mgr.specs.Manager.{kept_at, kept_for, managed_at, with_entry, after_request, after_telling}
-use Rattle.lock_structure.specs.Entries.{entry_of_res, is_entry}
+use Rattle.contention_mgr.specs.Manager.{told, are_of}
 use Rattle.contention_mgr.proofs.LawProofs.{lists_follow, telling_keeps_lists}
 use Rattle.contention_mgr.proofs.ManagerLaws.{entries_are_well_kept, requests_keep_well, telling_keeps_well}
-use Rattle.grs_base.specs.Slices.{slice_of, entry_of}
-use Rattle.grs_base.specs.State.{State}
-use Rattle.grs_base.specs.declared.resource.Res.{Res}
-use Rattle.grs_base.specs.declared.resource.Res.TheVariants.{Step, System, Systems}
-use Rattle.grs_base.specs.declared.resource.TaskId.{TaskId}
-use Rattle.grs_node.specs.Star.{StarPart, manages, has_interest, with_interest, left_at, told_by}
-use Rattle.grs_wire.specs.Wants.{after_want}
-use Rattle.grs_wire.specs.declared.deck.Deck.{Deck}
-use Rattle.grs_wire.specs.declared.request.Req.{Req}
-use Rattle.grs_wire.specs.declared.request.Want.{Want}
-use Rattle.grs_wire.specs.declared.request.Want.TheVariants.{Enq, Deq, Release, Look}
-use Rattle.grs_known.proofs.lists.Facts.{some_of}
+use Rattle.grs_base.specs.declared.resource.Res.TheVariants.{Step, Systems}
+use Rattle.grs_node.specs.Star.{told_by}
 use Rattle.grs_world.proofs.star.Members.{IsPart, has_manager}
 use Rattle.grs_world.proofs.star.Under.{under, under-want, under-other, entry-same}
-use Rattle.lock_structure.specs.Laws.{is_interested}
-use Rattle.grs_known.proofs.lists.Alike.{Alike, alike-want}
+use Rattle.grs_known.proofs.lists.Alike.{alike-want}
 
 -- ---- entries are there
 pub res-within : (entries : ℕ) (r : Res) (x : ℕ) → 0 < entries → entry_of_res entries r ≡ Some x → x < entries

@@ -1,39 +1,21 @@
 -- What holds of words, roles and lists at the start of star mode; and the lists that are kept in it.
-use Rattle.std.proofs.Common.{◌≡◌, ◌≤◌, ◌<◌, ◌%◌, ◌||◌, ℕ, zero, suc, Bool, true, false, not, cond, List, [], ◌∷◌}
-use Rattle.std.proofs.Common.{length, Option, Some, None, refl, ap, sym, ◌∙◌, subst, arith}
-use Rattle.std.specs.Prelude.{is_some, nat_lt, slice_get, replicate, slice_index_or}
-use Rattle.std.specs.Option.{option_map_or}
-use Rattle.std.proofs.lemmas.Bool.{and_parts, ltb-true, not-true}
-use Rattle.std.proofs.lemmas.List.{length-replicate}
-use Rattle.contention_mgr.specs.Manager.{plain, items_of, kept_at, kept_for}
-use Rattle.lock_structure.specs.Entries.{entry_of_res}
+use Rattle.grs_world.proofs.Common.{[], ◌%◌, ◌<◌, ◌||◌, ◌∙◌, ◌∷◌, ◌≡◌, ◌≤◌, Alike, and_parts, ap, arith, Bool, cond}
+use Rattle.grs_world.proofs.Common.{counted, Deck, entry_of, entry_of_res, false, first_node, first_part, first_world}
+use Rattle.grs_world.proofs.Common.{gathers, has, has-zero, inbox, is_interested, is_manager, is_some, is_systems}
+use Rattle.grs_world.proofs.Common.{items_of, kept, kept_at, kept_for, length, length-replicate, List, list_of, lives}
+use Rattle.grs_world.proofs.Common.{ltb-true, manager, manager_at, manages, nat_lt, no_truth, NodeState, None, not}
+use Rattle.grs_world.proofs.Common.{not-true, noticed, Option, option_map_or, plain, refl, replicate, Res, slice_get}
+use Rattle.grs_world.proofs.Common.{slice_get-past, slice_index_or, slice_of, Some, State, subst, suc, sym, SysId}
+use Rattle.grs_world.proofs.Common.{System, true, without_gone, word_at, World, zero, ℕ}
 use Rattle.contention_mgr.proofs.ManagerLaws.{well_kept_begins}
-use Rattle.grs_base.specs.Slices.{slice_of, entry_of}
-use Rattle.grs_base.specs.State.{State, list_of, is_systems}
-use Rattle.grs_base.specs.declared.resource.Res.{Res}
-use Rattle.grs_base.specs.declared.resource.Res.TheVariants.{Step, System, Systems}
-use Rattle.grs_base.specs.declared.resource.SysId.{SysId}
-use Rattle.grs_medium.specs.Medium.{inbox}
-use Rattle.grs_node.specs.Node.{NodeState, first_node}
-use Rattle.grs_node.specs.Star.{first_part, gathers, manages}
-use Rattle.grs_wire.specs.LockWords.{manager, is_manager}
-use Rattle.grs_wire.specs.Masks.{has, lives}
-use Rattle.grs_wire.specs.Notices.{noticed}
-use Rattle.grs_wire.specs.declared.deck.Deck.{Deck}
-use Rattle.grs_wire.proofs.MaskLaws.{has-zero}
-use Rattle.lock_structure.specs.Laws.{is_interested, manager_at}
-use Rattle.lock_structure.specs.Words.{word_at}
+use Rattle.grs_base.specs.declared.resource.Res.TheVariants.{Step, Systems}
 use Rattle.lock_structure.proofs.LawProofs.{words_begin}
-use Rattle.grs_known.proofs.lists.Facts.{slice_get-past}
-use Rattle.grs_known.proofs.lists.Truths.{no_truth}
 use Rattle.grs_world.proofs.star.Calm.{calm-first, not-gathered}
-use Rattle.grs_world.specs.Kept.{kept, kept_in, at_manager, at_node, has_to_gather, managed_list, named_by, shown_list}
-use Rattle.grs_world.specs.Kept.{without_gone}
-use Rattle.grs_world.specs.World.{World, first_world, counted}
+use Rattle.grs_world.specs.Kept.{kept_in, at_manager, at_node, has_to_gather, managed_list, named_by, shown_list}
 use Rattle.grs_world.proofs.run.Sound.{first_is}
 use Rattle.grs_world.proofs.star.Members.{IsPart, IsMember, IsStar, has_manager, manager-here, all_lists}
 use Rattle.grs_world.proofs.star.Under.{in_entry, under, entry-same, list-under}
-use Rattle.grs_known.proofs.lists.Alike.{Alike, alike-itself}
+use Rattle.grs_known.proofs.lists.Alike.{alike-itself}
 use Rattle.grs_world.proofs.run.InRing.{count_first}
 use Rattle.grs_world.proofs.run.Site.{Site, at_site}
 

@@ -1,55 +1,20 @@
 -- A system sends a request of its own task to the manager of its entry, or decides it as that manager.
-use Rattle.std.proofs.Common.{◌≡◌, ◌≢◌, ◌<◌, ◌||◌, ◌&&◌, inl, inr, ℕ, Bool, true, false, cond, List, [], ◌∷◌, ◌++◌}
-use Rattle.std.proofs.Common.{length, Option, Some, None, refl, ap, sym, ◌∙◌, subst, arith, append_assoc}
-use Rattle.std.specs.Prelude.{◌==◌, is_some, slice_get, unwrap_or}
-use Rattle.std.specs.List.{All}
-use Rattle.std.proofs.lemmas.Bool.{and_parts, eqb-true, eqb-false, eq-eqb, or_left, or_right}
-use Rattle.std.proofs.lemmas.Option.{slice_get_within, same_Some}
-use Rattle.contention_mgr.specs.Manager.{entry_wanted}
-use Rattle.lock_structure.specs.Entries.{entry_of_res}
-use Rattle.grs_base.specs.Limits.{most_systems}
-use Rattle.grs_base.specs.Lists.{owns}
-use Rattle.grs_base.specs.Same.{same_task}
-use Rattle.grs_base.specs.State.{list_of}
-use Rattle.grs_base.specs.declared.resource.Res.{Res}
-use Rattle.grs_base.specs.declared.resource.SysId.{SysId}
-use Rattle.grs_base.specs.declared.resource.TaskId.{TaskId}
-use Rattle.grs_base.proofs.SameLaws.{same_task-exact, same_task-itself}
-use Rattle.grs_legal.specs.declared.meaning.Meaning.{Meaning}
-use Rattle.grs_medium.specs.Inboxes.{with_mail}
-use Rattle.grs_medium.specs.Medium.{MediumState, inbox}
-use Rattle.grs_node.specs.Node.{NodeState}
-use Rattle.grs_node.specs.Star.{StarPart, request_of}
-use Rattle.grs_wire.specs.LockWords.{interest, is_manager}
-use Rattle.grs_wire.specs.Masks.{has}
-use Rattle.grs_wire.specs.Wants.{answer_to, res_wanted}
-use Rattle.grs_wire.specs.declared.deck.Deck.{Deck}
-use Rattle.grs_wire.specs.declared.medium.Mail.{Mail}
-use Rattle.grs_wire.specs.declared.medium.Mail.TheVariants.{Request, Answered, Granted, Notice, Part}
-use Rattle.grs_wire.specs.declared.request.Fixed.TheVariants as fixing
-use Rattle.grs_wire.specs.declared.request.Req.{Req}
-use Rattle.grs_wire.proofs.MaskLaws.{has-zero}
-use Rattle.lock_structure.specs.Laws.{IsManaged, ManagedBy, is_interested, manager_at}
-use Rattle.lock_structure.specs.Words.{word_at, submitted_words}
+use Rattle.grs_world.proofs.Common.{[], ◌&&◌, ◌++◌, ◌<◌, ◌==◌, ◌||◌, ◌∙◌, ◌∷◌, ◌≡◌, ◌≢◌, All, and_parts, answer_to}
+use Rattle.grs_world.proofs.Common.{Answered, ap, append_assoc, arith, Asked, askers, Bool, cond, Deck, entry_of_res}
+use Rattle.grs_world.proofs.Common.{entry_wanted, eq-eqb, eqb-false, eqb-true, false, false_by, follows, Granted, has}
+use Rattle.grs_world.proofs.Common.{has-zero, history, inbox, inl, inr, interest, is_among, is_home_at, is_interested}
+use Rattle.grs_world.proofs.Common.{is_manager, is_some, IsManaged, IsOurs, items, length, lines_of, List, list_of}
+use Rattle.grs_world.proofs.Common.{lists, lists-push, made_item, Mail, manager_at, MayFollow, Meaning, MediumState}
+use Rattle.grs_world.proofs.Common.{mine, most_systems, no_truth, NodeState, None, Notice, Option, or_left, or_right}
+use Rattle.grs_world.proofs.Common.{owns, Part, placed, put_at, put_here, put_other, refl, Req, request_of, Res}
+use Rattle.grs_world.proofs.Common.{res_wanted, RunItem, same_Some, same_task, same_task-exact, same_task-itself}
+use Rattle.grs_world.proofs.Common.{slice_get, slice_get-past, slice_get_within, Some, StarPart, state_of, still-told}
+use Rattle.grs_world.proofs.Common.{submitted_words, subst, sym, SysId, TaskId, tell_answer_ranked, tell_new, told-news}
+use Rattle.grs_world.proofs.Common.{ToldNews, true, unwrap_or, with_mail, with_phase, word_at, World, ℕ}
+use Rattle.grs_wire.specs.declared.medium.Mail.TheVariants.{Request}
+use Rattle.lock_structure.specs.Laws.{ManagedBy}
 use Rattle.lock_structure.proofs.LawProofs.{empty_is_managed, submit_joins, submit_manages}
-use Rattle.star_client.specs.Client.{tell_answer_ranked}
-use Rattle.task_state.specs.Replies.{tell_new}
-use Rattle.task_state.specs.View.{state_of, with_phase}
-use Rattle.task_state.specs.declared.state.Asked.{Asked}
-use Rattle.task_state.specs.declared.state.Phase.TheVariants as phases
-use Rattle.grs_known.specs.Items.{RunItem, mine, lists, history, items}
-use Rattle.grs_known.specs.Parts.{put_at}
-use Rattle.grs_known.proofs.known.Histories.{MayFollow, made_item, follows}
-use Rattle.grs_known.proofs.known.ItemLaws.{lists-push}
-use Rattle.grs_known.proofs.lists.Facts.{slice_get-past}
-use Rattle.grs_known.proofs.lists.Owners.{is_among}
-use Rattle.grs_known.proofs.lists.Truths.{false_by, no_truth}
-use Rattle.grs_known.proofs.lists.Placed.{put_here, put_other}
-use Rattle.grs_world.specs.World.{World, placed}
-use Rattle.grs_known.proofs.told.News.{ToldNews, told-news, still-told}
 use Rattle.grs_known.proofs.system.Askers.{apart-push}
-use Rattle.grs_known.proofs.system.Ours.{IsOurs}
-use Rattle.grs_known.proofs.system.Says.{is_home_at, askers}
 use Rattle.grs_known.proofs.system.Telling.{told-phase}
 use Rattle.grs_world.proofs.star.Elements.{AreNear, is_near_res, near-has, near-want, near-words}
 use Rattle.grs_world.proofs.star.Members.{IsStep, has_manager, managed-is}
@@ -66,11 +31,12 @@ use Rattle.grs_world.proofs.star.hearing.Sent.{heard-sent}
 use Rattle.grs_world.proofs.star.steps.Outcome.{IsOutcome}
 use Rattle.grs_world.proofs.run.Desks.{tells_tasks}
 use Rattle.grs_world.proofs.at_rest.StarTasks.{dated-by, keeps-decided, keeps-sent}
-use Rattle.grs_legal.specs.Asks.{lines_of}
 use Rattle.grs_world.proofs.star.Ghosts.{others-fix}
 use Rattle.grs_world.proofs.system.AtNode.{own_ask}
 use Rattle.grs_world.proofs.run.Site.{Site}
 use Rattle.grs_world.proofs.star.Boxes.{other-box, by_box}
+use Rattle.grs_wire.specs.declared.request.Fixed.TheVariants as fixing
+use Rattle.task_state.specs.declared.state.Phase.TheVariants as phases
 
 -- ---- the words grow
 -- By other words each manager manages what it did, and what matters to a system stays.

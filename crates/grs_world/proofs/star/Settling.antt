@@ -1,58 +1,29 @@
 -- A manager settles a request of another system: what holds of the manager, and in whose hands the request was.
+use Rattle.grs_world.proofs.Common.{[], ◌++◌, ◌<◌, ◌==◌, ◌||◌, ◌∙◌, ◌∷◌, ◌≡◌, ◌≢◌, and_parts, Answer, answer_to}
+use Rattle.grs_world.proofs.Common.{Answered, ap, append-nil, arith, Asked, askers, Bool, cond, Deck, entry_wanted}
+use Rattle.grs_world.proofs.Common.{eqb-false, eqb-true, false, false_by, filter-append, filter-cons_left, follows}
+use Rattle.grs_world.proofs.Common.{get_or, Granted, has, history, inbox, inl, inr, is_among, is_home_at, is_of}
+use Rattle.grs_world.proofs.Common.{IsAskedBy, IsHistory, IsReq, items, length, List, list_all, list_of, lists}
+use Rattle.grs_world.proofs.Common.{lists-push, made_item, Mail, MayFollow, MediumState, mine, NodeState, None, none}
+use Rattle.grs_world.proofs.Common.{not, not-true, Notice, Option, or_parts, owns, Part, placed, put_at, put_here}
+use Rattle.grs_world.proofs.Common.{put_other, refl, Req, Res, res_wanted, RunItem, same_Some, same_task}
+use Rattle.grs_world.proofs.Common.{same_task-exact, same_task-itself, slice_get, slice_get-get_or, Some, stand_apart}
+use Rattle.grs_world.proofs.Common.{StarPart, state_of, subst, sym, SysId, task_swap, TaskId, tell_new, true, Want}
+use Rattle.grs_world.proofs.Common.{with_mail, World, ℕ}
 use Rattle.grs_world.proofs.star.Elements.{AreNear, is_near_res, near-want}
-use Rattle.task_state.specs.View.{state_of}
-use Rattle.grs_known.proofs.known.ItemLaws.{lists-push}
-use Rattle.grs_wire.specs.Masks.{has}
-use Rattle.grs_wire.specs.declared.request.Answer.{Answer}
-use Rattle.grs_world.specs.World.{World, placed}
-use Rattle.grs_medium.specs.Inboxes.{with_mail}
-use Rattle.grs_medium.specs.Medium.{MediumState, inbox}
-use Rattle.std.specs.Prelude.{◌==◌, get_or, slice_get}
-use Rattle.grs_wire.specs.declared.request.Fixed.TheVariants as fixing
-use Rattle.grs_wire.specs.declared.medium.Mail.TheVariants.{Answered, Request, Granted, Notice, Part}
-use Rattle.grs_wire.specs.Wants.{answer_to, res_wanted}
-use Rattle.grs_known.proofs.lists.Truths.{false_by, task_swap}
-use Rattle.std.proofs.lemmas.Bool.{and_parts, eqb-true, eqb-false, not-true, or_parts}
-use Rattle.std.specs.List.{list_all}
-use Rattle.std.proofs.Common.{◌≡◌, ◌≢◌, inl, inr, ℕ, true, List, [], ◌∷◌, ◌++◌, Option, Some, None, refl, ap, sym, ◌∙◌}
-use Rattle.std.proofs.Common.{subst, append-nil, Bool, false, cond, ◌||◌, arith, length, ◌<◌, not}
-use Rattle.std.proofs.lemmas.Option.{same_Some, slice_get-get_or}
-use Rattle.std.proofs.lemmas.List.Elements.{filter-append}
-use Rattle.contention_mgr.specs.Manager.{entry_wanted}
-use Rattle.grs_base.specs.Lists.{owns}
-use Rattle.grs_base.specs.Same.{same_task}
-use Rattle.grs_base.specs.State.{list_of}
-use Rattle.grs_base.specs.declared.resource.Res.{Res}
-use Rattle.grs_base.specs.declared.resource.SysId.{SysId}
-use Rattle.grs_base.specs.declared.resource.TaskId.{TaskId}
-use Rattle.grs_base.proofs.SameLaws.{same_task-itself, same_task-exact}
-use Rattle.grs_node.specs.Node.{NodeState}
-use Rattle.grs_node.specs.Star.{StarPart}
-use Rattle.grs_wire.specs.declared.deck.Deck.{Deck}
-use Rattle.grs_wire.specs.declared.medium.Mail.{Mail}
-use Rattle.grs_wire.specs.declared.request.Req.{Req}
-use Rattle.task_state.specs.Replies.{tell_new}
-use Rattle.task_state.specs.declared.state.Asked.{Asked}
-use Rattle.grs_known.specs.Items.{RunItem, lists, history, mine, is_of, items}
-use Rattle.grs_known.specs.Parts.{put_at}
-use Rattle.grs_known.proofs.known.Histories.{IsHistory, MayFollow, made_item, follows}
-use Rattle.grs_known.proofs.lists.Owners.{is_among}
-use Rattle.grs_known.proofs.system.Asking.{IsReq, IsAskedBy}
-use Rattle.grs_known.proofs.system.Says.{none, is_home_at, askers, stand_apart}
+use Rattle.grs_wire.specs.declared.medium.Mail.TheVariants.{Request}
 use Rattle.grs_world.proofs.star.Answering.{Taken, tells-new, asker-settled}
 use Rattle.grs_world.proofs.star.Ghosts.{IsOthers, others-ask, told-free}
 use Rattle.grs_world.proofs.star.Under.{res-entry}
-use Rattle.grs_known.proofs.lists.Facts.{filter-cons_left}
-use Rattle.grs_known.proofs.lists.Placed.{put_here, put_other}
 use Rattle.grs_world.proofs.star.Members.{has_manager, one-manages, IsStep}
 use Rattle.grs_world.proofs.star.OwnEvents.{Goes, late-calm}
 use Rattle.grs_world.proofs.star.Systems.{IsSystem, system-other, Away, near_at, is_near, gives_want, system-settled}
 use Rattle.grs_world.proofs.star.Systems.{requests_in, here}
 use Rattle.grs_world.proofs.star.Worlds.{IsIn, IsHand, AllHands, IsWhole, Hands, are_live, in_hands, items-one}
 use Rattle.grs_world.proofs.star.Worlds.{live-below, whole-placed, Fixes, StaysWhole, one_fixed, live-site}
-use Rattle.grs_wire.specs.declared.request.Want.{Want}
 use Rattle.grs_world.proofs.run.Site.{Site}
 use Rattle.grs_world.proofs.star.Boxes.{its-box, other-box, by_box}
+use Rattle.grs_wire.specs.declared.request.Fixed.TheVariants as fixing
 
 -- the manager: another system's item is fixed, and its own tasks that became owners are told
 pub system-manages :

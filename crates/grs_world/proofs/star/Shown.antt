@@ -1,33 +1,21 @@
 -- What looks show of lists in which no task stands twice looks can show; and so are the lists of a run.
-use Rattle.std.proofs.Common.{◌≡◌, ◌<◌, ◌+◌, ℕ, zero, suc, Bool, true, false, cond, ◌&&◌, List, [], ◌∷◌, ◌++◌, Some}
-use Rattle.std.proofs.Common.{refl, ap, ◌∙◌, arith}
-use Rattle.std.specs.Prelude.{◌==◌, nat_le, nat_lt}
-use Rattle.std.specs.List.{list_all}
+use Rattle.grs_world.proofs.Common.{[], ◌&&◌, ◌++◌, ◌+◌, ◌<◌, ◌==◌, ◌∙◌, ◌∷◌, ◌≡◌, after_fixed, all-filter, and_from}
+use Rattle.grs_world.proofs.Common.{and_parts, ap, AreLists, arith, Bool, cond, eq-eqb, eqb-true, false, Filter, filter}
+use Rattle.grs_world.proofs.Common.{List, list_all, list_all-append, list_of, lists, look, looks, lt-ltb, ltb-true}
+use Rattle.grs_world.proofs.Common.{nat_le, nat_lt, or_left, or_right, refl, Res, Row, rows-lists, rows_of, RunItem}
+use Rattle.grs_world.proofs.Common.{Slice, slice_of, Some, State, suc, true, zero, ℕ}
 use Rattle.std.specs.Ordering.{is_lt}
-use Rattle.std.specs.Prelude.{filter}
-use Rattle.std.proofs.lemmas.Bool.{and_from, and_parts, or_left, or_right, leb-true, ltb-true, le-leb, lt-ltb, eqb-true}
-use Rattle.std.proofs.lemmas.Bool.{eq-eqb}
-use Rattle.std.proofs.lemmas.List.Folds.{list_all-append}
+use Rattle.std.proofs.lemmas.Bool.{leb-true, le-leb}
 use Rattle.grs_base.specs.Lists.{is_apart}
-use Rattle.grs_base.specs.Looks.{look, is_of_place, is_shown, matches, is_contended}
+use Rattle.grs_base.specs.Looks.{is_of_place, is_shown, matches, is_contended}
 use Rattle.grs_base.specs.ResOrder.{res_order}
-use Rattle.grs_base.specs.Rows.{rows_of}
-use Rattle.grs_base.specs.Slices.{slice_of}
-use Rattle.grs_base.specs.State.{State, list_of}
-use Rattle.grs_base.specs.declared.look.Filter.{Filter}
-use Rattle.grs_base.specs.declared.look.Place.TheVariants.{Slice}
-use Rattle.grs_base.specs.declared.resource.Res.{Res}
-use Rattle.grs_base.specs.declared.resource.Res.TheVariants as resources
-use Rattle.grs_base.specs.declared.resource.Row.{Row}
-use Rattle.grs_wire.specs.History.{after_fixed}
-use Rattle.grs_wire.specs.Wants.{looks}
 use Rattle.star_client.specs.Client.{slice_in, is_among, tells_owners, can_show, can_show_all, is_before_in}
 use Rattle.star_client.specs.Client.{is_shown_before, are_in_order}
-use Rattle.grs_known.specs.Items.{RunItem, lists, lists_from}
+use Rattle.grs_known.specs.Items.{lists_from}
 use Rattle.grs_known.proofs.lists.Elements.{apart-fixed}
-use Rattle.grs_known.proofs.lists.Facts.{all-filter}
-use Rattle.grs_known.proofs.lists.Rows.{AreLists, rows-lists, rows-tell}
+use Rattle.grs_known.proofs.lists.Rows.{rows-tell}
 use Rattle.grs_known.proofs.lists.Shows.{do_rise, is_before_all, look-rises}
+use Rattle.grs_base.specs.declared.resource.Res.TheVariants as resources
 
 -- no task stands twice in a list
 abbrev pub AreApart : State → Type 0

@@ -1,17 +1,8 @@
 -- What any event comes to in star mode, and that the first world of a deck in star mode is as it should be.
-use Rattle.std.proofs.Common.{◌≡◌, ◌<◌, ℕ, zero, suc, true, cond, List, [], ◌++◌, length, Some, None, refl, ap, sym}
-use Rattle.std.proofs.Common.{◌∙◌, subst}
-use Rattle.std.specs.Prelude.{replicate, slice_index_or}
-use Rattle.std.proofs.lemmas.Option.{same_Some}
-use Rattle.grs_base.specs.Limits.{most_systems}
-use Rattle.grs_base.specs.declared.resource.SysId.{SysId}
-use Rattle.grs_medium.specs.Medium.{first_medium, inbox}
-use Rattle.grs_node.specs.Node.{NodeState, first_node}
-use Rattle.grs_node.specs.Star.{StarPart, first_part}
-use Rattle.grs_wire.specs.declared.deck.Choice.{Choice}
-use Rattle.grs_wire.specs.declared.deck.Deck.{Deck}
-use Rattle.grs_wire.specs.declared.medium.Mail.{Mail}
-use Rattle.grs_world.specs.World.{World, chosen, first_nodes, first_world, Turnout}
+use Rattle.grs_world.proofs.Common.{[], ◌++◌, ◌<◌, ◌∙◌, ◌≡◌, ap, Choice, chosen, cond, Deck, first_medium, first_node}
+use Rattle.grs_world.proofs.Common.{first_nodes, first_part, first_world, inbox, length, List, Mail, most_systems}
+use Rattle.grs_world.proofs.Common.{NodeState, None, refl, replicate, same_Some, slice_index_or, Some, StarPart, subst}
+use Rattle.grs_world.proofs.Common.{suc, sym, SysId, true, Turnout, World, zero, ℕ}
 use Rattle.grs_world.proofs.run.Sound.{first_history, first_is}
 use Rattle.grs_world.proofs.system.Begun.{first_seen}
 use Rattle.grs_world.proofs.star.Ghosts.{without-box}

@@ -1,54 +1,27 @@
 -- What holds of one system of a run in star mode, by the words, the items and its inbox; and how it is kept.
-use Rattle.std.proofs.Common.{◌≡◌, ℕ, Bool, true, false, cond, ◌&&◌, ◌||◌, List, [], ◌∷◌, ◌++◌, map, Option, Some}
-use Rattle.std.proofs.Common.{None, refl, ap, sym, ◌∙◌, subst, append-nil}
-use Rattle.std.specs.Prelude.{is_some, ◌==◌}
-use Rattle.std.specs.List.{list_all, list_any}
-use Rattle.std.proofs.lemmas.Bool.{and_parts, eq-eqb, eqb-true, and_from, or_right}
-use Rattle.std.proofs.lemmas.List.{map-append}
-use Rattle.std.proofs.lemmas.List.Elements.{filter-append}
-use Rattle.contention_mgr.specs.Manager.{entry_wanted}
-use Rattle.lock_structure.specs.Entries.{entry_of_res}
-use Rattle.grs_base.specs.Same.{same_task}
-use Rattle.grs_base.specs.Lists.{owns}
-use Rattle.grs_base.specs.State.{State, list_of}
-use Rattle.grs_base.specs.declared.resource.Res.{Res}
-use Rattle.grs_base.specs.declared.resource.SysId.{SysId}
-use Rattle.grs_base.specs.declared.resource.TaskId.{TaskId}
-use Rattle.grs_base.proofs.SameLaws.{same_task-exact}
-use Rattle.grs_legal.specs.declared.meaning.Meaning.{Meaning}
-use Rattle.grs_node.specs.Node.{NodeState}
-use Rattle.grs_wire.specs.History.{entries_for}
-use Rattle.grs_wire.specs.Notices.{noticed}
-use Rattle.grs_wire.specs.Wants.{answer_to}
-use Rattle.grs_wire.specs.declared.deck.Deck.{Deck}
-use Rattle.grs_wire.specs.declared.medium.Mail.{Mail}
-use Rattle.grs_wire.specs.declared.medium.Mail.TheVariants.{Request, Answered, Granted, Notice, Part}
-use Rattle.grs_wire.specs.declared.request.Fixed.{Fixed}
-use Rattle.grs_wire.specs.declared.request.Fixed.TheVariants as fixing
-use Rattle.grs_wire.specs.declared.request.Req.{Req}
-use Rattle.grs_wire.specs.declared.request.Want.{Want}
-use Rattle.grs_wire.specs.declared.request.Want.TheVariants.{Enq, Deq, Release, Look}
-use Rattle.lock_structure.specs.Laws.{is_interested}
-use Rattle.task_state.specs.Replies.{gives_up}
-use Rattle.task_state.specs.View.{state_of}
-use Rattle.grs_known.specs.Items.{RunItem, is_of, gives_back, mine, lists, reply_in}
-use Rattle.grs_known.specs.Known.{Known, last_of, outstanding, IsRight, learns_item, learns_control, News, Answers}
-use Rattle.grs_known.specs.Known.{Grants, Wants, Silent, is_answer_to, Coming}
-use Rattle.grs_known.proofs.known.Knowing.{one}
-use Rattle.grs_known.proofs.known.ItemLaws.{replies_are_answers}
-use Rattle.grs_known.proofs.known.Histories.{IsHistory, made_item}
-use Rattle.grs_known.proofs.lists.Facts.{list_any-push, filter-cons_kept, filter-cons_left, any-more, any-last}
-use Rattle.grs_known.proofs.lists.Owners.{is_among}
-use Rattle.grs_known.proofs.lists.Truths.{no_truth, false_by, or_off}
+use Rattle.grs_world.proofs.Common.{[], ◌&&◌, ◌++◌, ◌==◌, ◌||◌, ◌∙◌, ◌∷◌, ◌≡◌, and_from, and_parts, answer_to, Answered}
+use Rattle.grs_world.proofs.Common.{any-last, any-more, ap, append-nil, askers, blank, Bool, Coming, cond, Deck, Deq}
+use Rattle.grs_world.proofs.Common.{Enq, entries_for, entry_of_res, entry_wanted, eq-eqb, eqb-true, false, false_by}
+use Rattle.grs_world.proofs.Common.{filter-append, filter-cons_kept, filter-cons_left, Fixed, gives_back, gives_up}
+use Rattle.grs_world.proofs.Common.{Granted, is_among, is_home_at, is_interested, is_of, is_some, IsHere, IsHistory}
+use Rattle.grs_world.proofs.Common.{IsOurs, last_of, List, list_all, list_any, list_of, lists, Look, made_item, Mail}
+use Rattle.grs_world.proofs.Common.{map, map-append, Meaning, mine, no_truth, NodeState, None, Notice, noticed, one}
+use Rattle.grs_world.proofs.Common.{Option, or_right, outstanding, owns, Part, refl, Release, replies_are_answers}
+use Rattle.grs_world.proofs.Common.{reply_in, Req, Res, RunItem, same_task, same_task-exact, Some, State, state_of}
+use Rattle.grs_world.proofs.Common.{subst, sym, SysId, TaskId, true, Want, ℕ}
+use Rattle.grs_wire.specs.declared.medium.Mail.TheVariants.{Request}
+use Rattle.grs_known.specs.Known.{Known, IsRight, learns_item, learns_control, News, Answers, Grants, Wants, Silent}
+use Rattle.grs_known.specs.Known.{is_answer_to}
+use Rattle.grs_known.proofs.lists.Facts.{list_any-push}
+use Rattle.grs_known.proofs.lists.Truths.{or_off}
 use Rattle.grs_world.proofs.system.AtNode.{opens_of, seen-known}
-use Rattle.grs_known.proofs.system.Ours.{IsOurs, IsHere}
 use Rattle.grs_world.proofs.system.Puts.{home-task}
-use Rattle.grs_known.proofs.system.Says.{is_home_at, askers}
 use Rattle.grs_world.proofs.star.Answering.{Settled, asker-settled}
 use Rattle.grs_world.proofs.star.Ghosts.{ghosted, IsAt, IsOthers, at-other}
 use Rattle.grs_world.proofs.star.Members.{has_manager}
 use Rattle.grs_world.proofs.star.Shown.{AreApart, apart-lists}
-use Rattle.grs_known.proofs.known.Blank.{blank, right-blank, coming-other, coming-sent, coming-granted}
+use Rattle.grs_known.proofs.known.Blank.{right-blank, coming-other, coming-sent, coming-granted}
+use Rattle.grs_wire.specs.declared.request.Fixed.TheVariants as fixing
 
 -- ---- what comes, by the mail
 abbrev pub news1 : Mail → News

@@ -1,34 +1,17 @@
 -- What a task does by itself leaves its system's part in star mode, and the lists of all lock entries.
-use Rattle.std.proofs.Common.{◌≡◌, ℕ, zero, suc, false, cond, List, [], ◌∷◌, ◌++◌, Option, Some, None, refl, ap, ◌∙◌}
-use Rattle.std.specs.Prelude.{is_some, slice_get}
-use Rattle.contention_mgr.specs.Manager.{entry_wanted}
-use Rattle.lock_structure.specs.Entries.{entry_of_res, is_entry}
-use Rattle.grs_base.specs.Looks.{look}
-use Rattle.grs_base.specs.State.{State, is_systems}
-use Rattle.grs_base.specs.declared.look.Place.TheVariants.{Local}
-use Rattle.grs_base.specs.declared.resource.Res.{Res}
-use Rattle.grs_base.specs.declared.resource.Res.TheVariants.{Step as StepRes, System, Systems}
-use Rattle.grs_base.specs.declared.resource.SysId.{SysId}
-use Rattle.grs_base.specs.declared.resource.TaskId.{TaskId}
-use Rattle.grs_legal.specs.declared.meaning.Display.{Display}
-use Rattle.grs_legal.specs.declared.meaning.Meaning.{Meaning}
-use Rattle.grs_legal.specs.declared.meaning.Meaning.TheVariants as lines
-use Rattle.grs_node.specs.Node.{NodeState, Step, with_tasks, only, post, decide, ask, take_line, end_step, ready_step}
-use Rattle.grs_node.specs.Node.{phase_step, task_step, has_most, wait, look_home, look_around, looks_asked, show}
-use Rattle.grs_node.specs.Star.{StarPart}
-use Rattle.grs_wire.specs.Wants.{res_wanted, is_for_all}
-use Rattle.grs_wire.specs.declared.request.Fixed.{Fixed}
-use Rattle.grs_wire.specs.declared.request.Fixed.TheVariants as fixing
-use Rattle.grs_wire.specs.declared.request.Req.{Req}
-use Rattle.grs_wire.specs.declared.request.Want.{Want}
-use Rattle.grs_wire.specs.declared.request.Want.TheVariants.{Enq, Deq, Release, Look}
-use Rattle.grs_wire.proofs.WantLaws.{by_test}
-use Rattle.task_state.specs.View.{state_of, record_of, with_line, with_phase, with_rows}
-use Rattle.task_state.specs.declared.state.Phase.{Phase}
-use Rattle.task_state.specs.declared.state.Phase.TheVariants as phases
-use Rattle.task_state.specs.declared.state.Rec.{Rec}
+use Rattle.grs_world.proofs.Common.{[], ◌++◌, ◌∙◌, ◌∷◌, ◌≡◌, ap, ask, by_test, cond, decide, Deq, Display, end_step}
+use Rattle.grs_world.proofs.Common.{Enq, entry_of_res, entry_wanted, false, Fixed, has_most, is_entry, is_for_all}
+use Rattle.grs_world.proofs.Common.{is_some, is_systems, List, Local, Look, look, look_around, look_home, looks_asked}
+use Rattle.grs_world.proofs.Common.{Meaning, NodeState, None, only, Option, Phase, phase_step, post, ready_step, Rec}
+use Rattle.grs_world.proofs.Common.{record_of, refl, Release, Req, Res, res_wanted, show, slice_get, Some, StarPart}
+use Rattle.grs_world.proofs.Common.{State, state_of, Step, suc, SysId, System, take_line, task_step, TaskId, wait, Want}
+use Rattle.grs_world.proofs.Common.{with_line, with_phase, with_rows, with_tasks, zero, ℕ}
+use Rattle.grs_base.specs.declared.resource.Res.TheVariants.{Step as StepRes, Systems}
 use Rattle.grs_world.proofs.star.Members.{lists_after}
 use Rattle.grs_world.proofs.star.Under.{under, under-other}
+use Rattle.grs_legal.specs.declared.meaning.Meaning.TheVariants as lines
+use Rattle.grs_wire.specs.declared.request.Fixed.TheVariants as fixing
+use Rattle.task_state.specs.declared.state.Phase.TheVariants as phases
 
 -- A system of this part, this outbox and what it knows of removed ones, after a step that fixes nothing under a lock
 -- entry.

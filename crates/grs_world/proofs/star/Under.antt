@@ -1,32 +1,16 @@
 -- The elements on the resources of a lock entry.
-use Rattle.std.proofs.Common.{◌≡◌, ◌+◌, ℕ, zero, suc, Bool, true, false, cond, ◌&&◌, [], ◌∷◌, ◌++◌, Option, Some, None}
-use Rattle.std.proofs.Common.{refl, ap, sym, ◌∙◌, arith}
-use Rattle.std.specs.Prelude.{◌==◌, nat_le, nat_lt}
-use Rattle.std.specs.List.{list_all}
-use Rattle.std.proofs.lemmas.Bool.{eqb-true, eq-eqb, and_from, and_parts}
-use Rattle.std.proofs.lemmas.Option.{same_Some}
-use Rattle.contention_mgr.specs.Manager.{are_of, entry_of_looks, entry_wanted}
-use Rattle.lock_structure.specs.Entries.{entry_of_res, is_entry}
-use Rattle.grs_base.specs.Lists.{has_task}
-use Rattle.grs_base.specs.Same.{same_res}
-use Rattle.grs_base.specs.State.{State, list_of}
-use Rattle.grs_base.proofs.SameLaws.{same_res-exact}
-use Rattle.grs_known.proofs.lists.Truths.{no_truth}
-use Rattle.grs_base.specs.Looks.{look, is_of_place}
-use Rattle.grs_base.specs.Slices.{slice_of, entry_of}
-use Rattle.grs_base.specs.declared.look.Filter.{Filter}
-use Rattle.grs_base.specs.declared.look.Place.TheVariants.{Slice}
-use Rattle.grs_base.specs.declared.resource.Res.{Res}
-use Rattle.grs_base.specs.declared.resource.Res.TheVariants as resources
-use Rattle.grs_base.specs.declared.resource.TaskId.{TaskId}
-use Rattle.grs_wire.specs.Wants.{after_want, answer_to, looks, new_owners, res_wanted}
-use Rattle.grs_wire.specs.declared.request.Answer.TheVariants.{Rows}
-use Rattle.grs_wire.specs.declared.request.Want.{Want}
-use Rattle.grs_wire.specs.declared.request.Want.TheVariants.{Enq, Deq, Release, Look}
+use Rattle.grs_world.proofs.Common.{[], ◌&&◌, ◌++◌, ◌+◌, ◌==◌, ◌∙◌, ◌∷◌, ◌≡◌, after_want, and_from, and_parts}
+use Rattle.grs_world.proofs.Common.{answer_to, ap, arith, Bool, cond, Deq, Enq, entry_of, entry_of_res, entry_wanted}
+use Rattle.grs_world.proofs.Common.{eq-eqb, eqb-true, false, Filter, has_task, is_entry, list_all, list_of}
+use Rattle.grs_world.proofs.Common.{list_of-part, Look, look, looks, nat_le, nat_lt, new_owners, no_truth, None, Option}
+use Rattle.grs_world.proofs.Common.{part, refl, Release, Res, res_wanted, Rows, same_res, same_res-exact, same_Some}
+use Rattle.grs_world.proofs.Common.{Slice, slice_of, Some, State, suc, sym, TaskId, true, Want, zero, ℕ}
+use Rattle.contention_mgr.specs.Manager.{are_of, entry_of_looks}
+use Rattle.grs_base.specs.Looks.{is_of_place}
 use Rattle.grs_known.proofs.lists.All.{has_task-all}
 use Rattle.grs_known.proofs.lists.Shows.{look-alike}
-use Rattle.grs_known.proofs.lists.Parts.{part, list_of-part, after_want-part, answer_to-part, new_owners-part}
-use Rattle.grs_known.proofs.lists.Parts.{part-want_other}
+use Rattle.grs_known.proofs.lists.Parts.{after_want-part, answer_to-part, new_owners-part, part-want_other}
+use Rattle.grs_base.specs.declared.resource.Res.TheVariants as resources
 
 -- whether a resource is of a lock entry, where there are so many
 abbrev pub in_entry : ℕ → ℕ → Res → Bool

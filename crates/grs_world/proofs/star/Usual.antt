@@ -1,35 +1,15 @@
 -- A live system of a whole world is as usual: it keeps nothing of a removed system, and no mail of its inbox is of one.
-use Rattle.std.proofs.Common.{◌≡◌, ℕ, zero, suc, Bool, true, false, cond, not, ◌&&◌, ◌||◌, List, [], ◌∷◌, ◌++◌, Option}
-use Rattle.std.proofs.Common.{Some, None, is_some, length, refl, ap, sym, ◌∙◌, subst}
-use Rattle.std.specs.Prelude.{◌==◌, slice_get, unwrap_or}
-use Rattle.std.specs.List.{list_all}
-use Rattle.std.proofs.Math.Bool.{and-false}
-use Rattle.std.proofs.lemmas.Bool.{and_from, eqb-true, or_left, true≢false}
-use Rattle.std.proofs.lemmas.Option.{same_Some}
-use Rattle.contention_mgr.specs.LoseLaws.{is_without}
+use Rattle.grs_world.proofs.Common.{[], ◌&&◌, ◌++◌, ◌==◌, ◌||◌, ◌∙◌, ◌∷◌, ◌≡◌, Alike, and-false, and_from, ap, Bool}
+use Rattle.grs_world.proofs.Common.{cond, Deck, Elem, entry_of_res, entry_wanted, eqb-true, false, false_by, has}
+use Rattle.grs_world.proofs.Common.{has_task, inbox, is_entry, is_interested, is_manager, is_systems, is_without}
+use Rattle.grs_world.proofs.Common.{items_of, kept_at, kept_for, length, List, list_all, list_of, lives, Mail, Managed}
+use Rattle.grs_world.proofs.Common.{manages, no_truth, NodeState, None, not, Option, or_left, Ranked, refl, Req}
+use Rattle.grs_world.proofs.Common.{same_res, same_res-itself, same_Some, same_task, same_task-itself, slice_get, Some}
+use Rattle.grs_world.proofs.Common.{StarPart, subst, suc, sym, SysId, true, true≢false, unwrap_or, World, zero, ℕ}
+use Rattle.std.proofs.Common.{is_some}
 use Rattle.contention_mgr.specs.Loses.{stays}
-use Rattle.contention_mgr.specs.Manager.{Managed, Ranked, entry_wanted, items_of, kept_at, kept_for}
 use Rattle.contention_mgr.specs.Manager.{plain as plain_lists}
-use Rattle.grs_base.specs.Lists.{has_task}
-use Rattle.grs_base.specs.Same.{same_res, same_task}
-use Rattle.grs_base.specs.State.{is_systems, list_of}
-use Rattle.grs_base.specs.declared.resource.Elem.{Elem}
-use Rattle.grs_base.specs.declared.resource.SysId.{SysId}
-use Rattle.grs_base.proofs.SameLaws.{same_res-itself, same_task-itself}
-use Rattle.grs_known.proofs.lists.Alike.{Alike}
-use Rattle.grs_known.proofs.lists.Truths.{false_by, no_truth}
-use Rattle.grs_medium.specs.Medium.{inbox}
-use Rattle.grs_node.specs.Node.{NodeState}
-use Rattle.grs_node.specs.Star.{StarPart, manages, serves}
-use Rattle.grs_wire.specs.LockWords.{is_manager}
-use Rattle.grs_wire.specs.Masks.{has, lives}
-use Rattle.grs_wire.specs.declared.deck.Deck.{Deck}
-use Rattle.grs_wire.specs.declared.medium.Mail.{Mail}
-use Rattle.grs_wire.specs.declared.medium.Mail.TheVariants as mails
-use Rattle.grs_wire.specs.declared.request.Req.{Req}
-use Rattle.lock_structure.specs.Entries.{entry_of_res, is_entry}
-use Rattle.lock_structure.specs.Laws.{is_interested}
-use Rattle.grs_world.specs.World.{World}
+use Rattle.grs_node.specs.Star.{serves}
 use Rattle.grs_world.proofs.run.Site.{Site}
 use Rattle.grs_world.proofs.star.Elements.{near-has}
 use Rattle.grs_world.proofs.star.Members.{IsPart, all_lists}
@@ -40,6 +20,7 @@ use Rattle.grs_world.proofs.star.Systems.{AllFit, near_at, requests_in}
 use Rattle.grs_world.proofs.star.Under.{in_entry, list-under, none-under, under}
 use Rattle.grs_world.proofs.star.Worlds.{AllHands, Hands, IsHand, IsWhole, are_live, in_hands, live-below}
 use Rattle.grs_world.proofs.star.steps.Outcome.{part}
+use Rattle.grs_wire.specs.declared.medium.Mail.TheVariants as mails
 
 all-at : {X : Type 0} (p : X → Bool) (xs : List X) → ((i : ℕ) (x : X) → slice_get xs i ≡ Some x → p x ≡ true)
     → list_all p xs ≡ true

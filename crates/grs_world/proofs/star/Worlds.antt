@@ -1,36 +1,15 @@
 -- The systems of a run in star mode together: whose hands each request is in, and how an event of one system is placed.
-use Rattle.std.proofs.Common.{◌≡◌, ◌≢◌, ◌⊎◌, ◌<◌, ℕ, Bool, true, false, List, [], ◌∷◌, ◌++◌, length, Some, refl, ap}
-use Rattle.std.proofs.Common.{sym, ◌∙◌, subst, append-nil, None, Option}
-use Rattle.std.specs.Prelude.{not, nat_lt, get_or, ◌&&◌}
-use Rattle.std.proofs.Math.Bool.{and-false}
-use Rattle.grs_wire.specs.Masks.{has, lives}
-use Rattle.grs_wire.specs.Notices.{noticed}
-use Rattle.std.proofs.lemmas.Bool.{and_parts, lt-ltb, ltb-true, not-true}
-use Rattle.std.proofs.lemmas.List.{length-set}
-use Rattle.std.proofs.lemmas.Option.{slice_get-get_or}
-use Rattle.contention_mgr.specs.Manager.{entry_wanted}
-use Rattle.grs_base.specs.State.{list_of, is_systems}
-use Rattle.grs_base.specs.declared.resource.Res.{Res}
-use Rattle.grs_base.specs.declared.resource.Res.TheVariants.{Step as StepRes, System, Systems}
-use Rattle.grs_base.specs.declared.resource.TaskId.{TaskId}
-use Rattle.grs_base.specs.declared.resource.SysId.{SysId}
-use Rattle.grs_medium.specs.Medium.{inbox}
-use Rattle.grs_legal.specs.Asks.{lines_of}
-use Rattle.grs_node.specs.Node.{NodeState, may_go, task_step}
-use Rattle.grs_node.specs.Star.{StarPart}
-use Rattle.grs_wire.specs.declared.deck.Deck.{Deck}
-use Rattle.grs_wire.specs.declared.medium.Mail.{Mail}
-use Rattle.grs_wire.specs.declared.request.Fixed.{Fixed}
-use Rattle.grs_wire.specs.declared.request.Fixed.TheVariants as fixing
-use Rattle.grs_wire.specs.declared.request.Req.{Req}
-use Rattle.grs_wire.specs.History.{replay, after_fixed}
-use Rattle.grs_known.specs.Items.{RunItem, goes_round, mine, lists, items, history}
-use Rattle.grs_known.proofs.known.Histories.{IsHistory, made_item, items-append, replayed, wants-round}
-use Rattle.grs_known.proofs.known.ItemLaws.{lists-push}
-use Rattle.grs_world.specs.Kept.{kept, without_gone}
-use Rattle.grs_world.specs.World.{World, Turnout, fixed_by, placed, counted}
-use Rattle.grs_known.proofs.system.Says.{askers, stand_apart}
-use Rattle.grs_known.proofs.lists.Truths.{no_truth}
+use Rattle.grs_world.proofs.Common.{[], ◌++◌, ◌<◌, ◌∙◌, ◌∷◌, ◌≡◌, ◌≢◌, ◌⊎◌, after_fixed, and-false, and_parts, ap}
+use Rattle.grs_world.proofs.Common.{append-nil, askers, Bool, counted, Deck, entry_wanted, false, Fixed, fixed_by}
+use Rattle.grs_world.proofs.Common.{get_or, goes_round, has, history, inbox, is_entry, is_systems, IsHistory, items}
+use Rattle.grs_world.proofs.Common.{items-append, kept, length, length-set, lines_of, List, list_of, lists, lists-push}
+use Rattle.grs_world.proofs.Common.{lives, lt-ltb, ltb-true, made_item, Mail, may_go, Message, mine, nat_lt, no_truth}
+use Rattle.grs_world.proofs.Common.{NodeState, None, not-true, noticed, Option, placed, refl, replay, replayed, Req}
+use Rattle.grs_world.proofs.Common.{Res, RunItem, slice_get-get_or, Some, stand_apart, StarPart, subst, sym, SysId}
+use Rattle.grs_world.proofs.Common.{System, task_step, TaskId, Told, true, Turnout, without_gone, World, ℕ}
+use Rattle.std.specs.Prelude.{not, ◌&&◌}
+use Rattle.grs_base.specs.declared.resource.Res.TheVariants.{Step as StepRes, Systems}
+use Rattle.grs_known.proofs.known.Histories.{wants-round}
 use Rattle.grs_world.proofs.star.Elements.{AreNear, is_near_res, near-stays, near-want}
 use Rattle.grs_world.proofs.system.AtNode.{MayFix, fix-history}
 use Rattle.grs_world.proofs.star.Ghosts.{IsOthers, others-fix}
@@ -39,11 +18,9 @@ use Rattle.grs_world.proofs.star.Tasks.{task-quiet}
 use Rattle.grs_world.proofs.star.Members.{IsMember, IsStar, IsStep, has_manager, all_lists, framed}
 use Rattle.grs_world.proofs.star.Runs.{kept_lists, counted-star}
 use Rattle.grs_world.proofs.star.Systems.{IsSystem, none-noticed, requests_in, system-other}
-use Rattle.lock_structure.specs.Entries.{is_entry}
-use Rattle.grs_wire.specs.declared.told.Told.{Told}
-use Rattle.rsa_message.specs.Message.{Message}
 use Rattle.grs_world.proofs.star.Under.{under, under-other}
 use Rattle.grs_world.proofs.run.Site.{Site, site-below, each_site}
+use Rattle.grs_wire.specs.declared.request.Fixed.TheVariants as fixing
 
 -- a request is one of these
 abbrev pub IsIn : Req → List Req → Type 0

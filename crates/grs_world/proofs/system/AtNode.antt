@@ -1,40 +1,17 @@
 -- A system in the ring, where the run has these items: its tasks, its own lists and its table.
-use Rattle.std.proofs.Common.{◌≡◌, ◌≢◌, ℕ, Bool, true, false, cond, List, [], ◌∷◌, ◌++◌, Option, Some, None, refl, ap}
-use Rattle.std.proofs.Common.{sym, ◌∙◌, append-nil}
-use Rattle.std.specs.List.{list_all}
-use Rattle.std.proofs.lemmas.Bool.{eqb-true, ne_eqb}
-use Rattle.std.proofs.lemmas.List.Elements.{filter-append}
-use Rattle.grs_base.specs.Same.{same_task}
-use Rattle.grs_base.specs.State.{State, is_systems}
-use Rattle.grs_base.specs.declared.look.Filter.{Filter}
-use Rattle.grs_base.specs.declared.resource.Res.{Res}
+use Rattle.grs_world.proofs.Common.{[], ◌++◌, ◌∙◌, ◌∷◌, ◌≡◌, ◌≢◌, after_fixed, after_want, ap, append-nil, askers, Bool}
+use Rattle.grs_world.proofs.Common.{cond, Deck, Deq, Enq, eqb-true, false, false_by, Filter, filter-append}
+use Rattle.grs_world.proofs.Common.{filter-cons_left, Fixed, follows, goes_round, here-kept, here-other, history}
+use Rattle.grs_world.proofs.Common.{is_home_at, is_of, is_res_of, is_systems, IsAsk, IsGood, IsHistory, IsOurs, List}
+use Rattle.grs_world.proofs.Common.{list_all, lists, lists-push, Look, made_item, MayFollow, Meaning, mine, ne_eqb}
+use Rattle.grs_world.proofs.Common.{NodeState, None, Opens, Option, or_other, part, refl, Release, removes_system_of}
+use Rattle.grs_world.proofs.Common.{Req, Res, res_wanted, rounds, RunItem, same_task, same_task-exact, Some}
+use Rattle.grs_world.proofs.Common.{stand_apart, State, Step, sym, SysId, TaskId, TasksView, ToldBy, true, Want, ℕ}
+use Rattle.grs_known.proofs.known.Histories.{AsksHere, MayLook, follows-look, goes-ask, stays-ask}
+use Rattle.grs_known.proofs.lists.Parts.{part-removed, own-one_system, after_want-part, part-want_other, systems-other}
+use Rattle.grs_known.proofs.system.Ours.{Holds}
 use Rattle.grs_base.specs.declared.resource.Res.TheVariants as resources
-use Rattle.grs_base.specs.declared.resource.SysId.{SysId}
-use Rattle.grs_base.specs.declared.resource.TaskId.{TaskId}
-use Rattle.grs_base.proofs.SameLaws.{same_task-exact}
-use Rattle.grs_legal.specs.declared.meaning.Meaning.{Meaning}
-use Rattle.grs_node.specs.Node.{NodeState, Step}
-use Rattle.grs_wire.specs.History.{after_fixed}
-use Rattle.grs_wire.specs.Wants.{after_want, res_wanted}
-use Rattle.grs_wire.specs.declared.deck.Deck.{Deck}
-use Rattle.grs_wire.specs.declared.request.Fixed.{Fixed}
 use Rattle.grs_wire.specs.declared.request.Fixed.TheVariants as fixing
-use Rattle.grs_wire.specs.declared.request.Req.{Req}
-use Rattle.grs_wire.specs.declared.request.Want.{Want}
-use Rattle.grs_wire.specs.declared.request.Want.TheVariants.{Enq, Deq, Release, Look}
-use Rattle.task_state.specs.View.{TasksView}
-use Rattle.grs_known.specs.Items.{RunItem, is_of, removes_system_of, goes_round, rounds, mine, lists, history}
-use Rattle.grs_known.proofs.known.Histories.{AsksHere, IsAsk, IsHistory, MayFollow, MayLook, made_item, follows}
-use Rattle.grs_known.proofs.known.Histories.{follows-look, goes-ask, stays-ask}
-use Rattle.grs_known.proofs.known.ItemLaws.{lists-push}
-use Rattle.grs_known.proofs.lists.Facts.{filter-cons_left}
-use Rattle.grs_known.proofs.lists.Parts.{part, part-removed, is_res_of, own-one_system, after_want-part}
-use Rattle.grs_known.proofs.lists.Parts.{part-want_other, systems-other}
-use Rattle.grs_known.proofs.lists.Truths.{false_by, or_other}
-use Rattle.grs_known.proofs.system.Asking.{Opens}
-use Rattle.grs_known.proofs.system.Good.{IsGood, here-kept, here-other}
-use Rattle.grs_known.proofs.system.Ours.{IsOurs, Holds}
-use Rattle.grs_known.proofs.system.Says.{is_home_at, askers, stand_apart, ToldBy}
 
 -- what is open at a system: its unseen items, its requests that were sent, and those that wait
 abbrev pub opens_of : List RunItem → List Req → NodeState → Opens

@@ -1,23 +1,13 @@
 -- A system of the complex before its first event.
-use Rattle.std.proofs.Common.{◌≡◌, ℕ, zero, suc, true, false, List, [], length, Some, refl, ap, sym, ◌∙◌, subst, arith}
+use Rattle.grs_world.proofs.Common.{[], ◌==◌, ◌∙◌, ◌≡◌, and_parts, ap, arith, askers, Deck, eq-eqb, eqb-true, false}
+use Rattle.grs_world.proofs.Common.{first_node, is_home_at, is_task, IsGood, IsHere, length, lines_of, List, list_all}
+use Rattle.grs_world.proofs.Common.{lt-ltb, Meaning, nat_lt, new_task, new_tasks, refl, Req, scripts_of, slice_get}
+use Rattle.grs_world.proofs.Common.{slice_get_within, Some, some_of, stand_apart, state_of, subst, suc, sym, TaskId}
+use Rattle.grs_world.proofs.Common.{true, zero, ℕ}
 use Rattle.std.proofs.Common.{get_or}
-use Rattle.std.specs.Prelude.{slice_get, ◌==◌, nat_lt}
-use Rattle.std.specs.List.{list_all}
-use Rattle.std.proofs.lemmas.Bool.{and_parts, eqb-true, eq-eqb, lt-ltb}
-use Rattle.std.proofs.lemmas.Option.{slice_get_within}
-use Rattle.grs_base.specs.declared.resource.TaskId.{TaskId}
-use Rattle.grs_legal.specs.Asks.{lines_of, scripts_of}
-use Rattle.grs_legal.specs.declared.meaning.Meaning.{Meaning}
-use Rattle.grs_wire.specs.declared.deck.Deck.{Deck}
-use Rattle.grs_wire.specs.declared.request.Req.{Req}
-use Rattle.task_state.specs.View.{is_task, state_of, new_task, new_tasks}
-use Rattle.grs_node.specs.Node.{first_node}
-use Rattle.grs_known.proofs.lists.Facts.{some_of}
 use Rattle.grs_world.proofs.system.AtNode.{Seen}
 use Rattle.grs_world.proofs.system.First.{first_told}
-use Rattle.grs_known.proofs.system.Good.{IsGood}
-use Rattle.grs_known.proofs.system.Ours.{IsHere, script_at}
-use Rattle.grs_known.proofs.system.Says.{is_home_at, askers, stand_apart}
+use Rattle.grs_known.proofs.system.Ours.{script_at}
 
 new_tasks-blank : (n i : ℕ) → get_or (new_tasks n) i new_task ≡ new_task
 new_tasks-blank zero i = grind (arith)

@@ -1,19 +1,10 @@
 -- A line is told at a system's desk, which leaves its tasks as they are.
-use Rattle.std.proofs.Common.{◌≡◌, [], ◌+◌, ◌++◌, List, refl, subst, sym, ℕ, ◌∙◌, ◌∷◌}
-use Rattle.grs_wire.specs.declared.deck.Deck.{Deck}
-use Rattle.grs_wire.specs.declared.request.Req.{Req}
-use Rattle.grs_wire.specs.declared.told.Said.{Said}
-use Rattle.grs_wire.specs.declared.told.ToldLine.{ToldLine}
+use Rattle.grs_world.proofs.Common.{[], ◌++◌, ◌+◌, ◌∙◌, ◌∷◌, ◌≡◌, Deck, desk_told, here-kept, is_task-telling, IsGood}
+use Rattle.grs_world.proofs.Common.{IsHere, IsOurs, List, NodeState, Opens, refl, Req, RunItem, Said, state_of}
+use Rattle.grs_world.proofs.Common.{state_of-telling, subst, sym, TasksView, telling, told-telling, ToldLine, ℕ}
 use Rattle.grs_world.proofs.star.Ghosts.{IsAt, ghosted}
 use Rattle.grs_world.proofs.system.AtNode.{Seen, opens_of}
-use Rattle.grs_known.proofs.system.Good.{IsGood, here-kept}
-use Rattle.grs_known.proofs.system.Ours.{IsHere, IsOurs}
-use Rattle.grs_known.proofs.system.Asking.{Opens}
-use Rattle.grs_known.specs.Items.{RunItem}
 use Rattle.grs_known.proofs.tasks.Others.{task-told}
-use Rattle.grs_node.specs.Node.{NodeState, desk_told}
-use Rattle.task_state.specs.View.{TasksView, state_of, telling}
-use Rattle.task_state.proofs.ViewLaws.{is_task-telling, state_of-telling, told-telling}
 use Rattle.task_state.proofs.Stays.{system-telling}
 use Rattle.grs_wire.specs.declared.told.ToldLine.TheVariants as lines
 

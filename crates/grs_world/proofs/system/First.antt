@@ -1,13 +1,8 @@
 -- A complex before its first event.
-use Rattle.std.proofs.Common.{◌≡◌, ◌<◌, ◌+◌, ℕ, zero, suc, Bool, true, false, List, [], ◌∷◌, ◌++◌, length, replicate}
-use Rattle.std.proofs.Common.{take, refl, ap, arith, add-one}
-use Rattle.grs_wire.specs.declared.deck.Deck.{Deck}
-use Rattle.grs_wire.specs.declared.deck.SystemDef.{SystemDef}
-use Rattle.grs_medium.specs.Medium.{systems_of, first_medium}
-use Rattle.grs_node.specs.Node.{first_node}
-use Rattle.grs_node.specs.Log.{NodeView}
-use Rattle.grs_world.specs.Running.{nodes_of}
-use Rattle.grs_world.specs.World.{first_nodes}
+use Rattle.grs_world.proofs.Common.{[], ◌++◌, ◌+◌, ◌<◌, ◌∷◌, ◌≡◌, ap, arith, Bool, Deck, false, first_medium}
+use Rattle.grs_world.proofs.Common.{first_node, first_nodes, length, List, nodes_of, NodeView, refl, suc, SystemDef}
+use Rattle.grs_world.proofs.Common.{systems_of, take, true, zero, ℕ}
+use Rattle.std.proofs.Common.{replicate, add-one}
 
 pub systems_of-first : (systems entries : ℕ) (star : Bool) → systems_of (first_medium systems entries star) ≡ systems
 systems_of-first systems entries true = refl

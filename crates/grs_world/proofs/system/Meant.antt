@@ -1,26 +1,16 @@
 -- The resource that a line asks for is one of the whole complex, or one of its task's system alone; and own lists that
 -- a line shows are those of its task's system.
-use Rattle.std.proofs.Common.{◌≡◌, ℕ, Bool, true, false, ◌||◌, List, [], ◌∷◌, map, Option, Some, None, refl, sym, ◌∙◌}
-use Rattle.std.proofs.Common.{subst}
-use Rattle.std.specs.Prelude.{slice_get}
-use Rattle.std.specs.Option.{option_map}
-use Rattle.std.proofs.lemmas.Bool.{eq-eqb}
-use Rattle.grs_base.specs.State.{is_systems}
-use Rattle.grs_base.specs.declared.line.Line.{Line}
-use Rattle.grs_base.specs.declared.line.Line.TheVariants as written
+use Rattle.grs_world.proofs.Common.{[], ◌||◌, ◌∙◌, ◌∷◌, ◌≡◌, Bool, Deck, eq-eqb, false, is_res_of, is_systems, Line}
+use Rattle.grs_world.proofs.Common.{lines_of, List, map, Meaning, meanings, None, Option, option_map, refl, Res}
+use Rattle.grs_world.proofs.Common.{scripts_of, slice_get, Some, subst, sym, SysId, TaskId, true, ℕ}
 use Rattle.grs_base.specs.declared.line.Scope.{Scope}
-use Rattle.grs_base.specs.declared.line.Scope.TheVariants as scopes
-use Rattle.grs_base.specs.declared.resource.Res.{Res}
-use Rattle.grs_base.specs.declared.resource.SysId.{SysId}
-use Rattle.grs_base.specs.declared.resource.TaskId.{TaskId}
 use Rattle.grs_base.specs.declared.rnl.Lists.{Lists}
-use Rattle.grs_legal.specs.Asks.{meaning_of, meanings, lines_in, lines_of, scripts_of}
-use Rattle.grs_legal.specs.declared.meaning.Meaning.{Meaning}
-use Rattle.grs_legal.specs.declared.meaning.Meaning.TheVariants as lines
-use Rattle.grs_wire.specs.declared.deck.Deck.{Deck}
+use Rattle.grs_legal.specs.Asks.{meaning_of, lines_in}
 use Rattle.scope_resolve.specs.Resolve.{res_in}
-use Rattle.grs_known.proofs.lists.Parts.{is_res_of}
 use Rattle.grs_node.proofs.Places.{slice_get-map}
+use Rattle.grs_base.specs.declared.line.Line.TheVariants as written
+use Rattle.grs_base.specs.declared.line.Scope.TheVariants as scopes
+use Rattle.grs_legal.specs.declared.meaning.Meaning.TheVariants as lines
 
 -- whether a system's tasks ask for a resource
 abbrev pub is_own : ℕ → Res → Bool

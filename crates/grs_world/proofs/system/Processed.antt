@@ -1,55 +1,28 @@
 -- A system processes an item of the message by its table.
-use Rattle.std.proofs.Common.{◌≡◌, ◌≢◌, ℕ, Bool, true, false, cond, not, ◌&&◌, ◌||◌, List, [], ◌∷◌, ◌++◌, Option, Some}
-use Rattle.std.proofs.Common.{None, refl, ap, sym, ◌∙◌, subst}
-use Rattle.std.specs.Prelude.{is_some, ◌==◌}
-use Rattle.std.specs.List.{list_all}
-use Rattle.std.proofs.lemmas.Bool.{and_parts, eqb-true, eqb-false, not-true}
-use Rattle.grs_base.specs.Same.{same_task}
-use Rattle.grs_base.specs.State.{State}
-use Rattle.grs_base.specs.declared.resource.Res.{Res}
-use Rattle.grs_base.specs.declared.resource.TaskId.{TaskId}
-use Rattle.grs_base.proofs.SameLaws.{same_task-itself}
-use Rattle.grs_legal.specs.Asks.{lines_of}
-use Rattle.grs_legal.specs.declared.meaning.Meaning.{Meaning}
-use Rattle.grs_node.specs.Node.{NodeState}
+use Rattle.grs_world.proofs.Common.{[], ◌&&◌, ◌++◌, ◌==◌, ◌||◌, ◌∙◌, ◌∷◌, ◌≡◌, ◌≢◌, after_want, among-front, and_parts}
+use Rattle.grs_world.proofs.Common.{Answer, answer_own, answer_to, answered, ap, are_sent, Asked, askers, Bool, cond}
+use Rattle.grs_world.proofs.Common.{Deck, Deq, Enq, entries_for, eqb-false, eqb-true, false, false_by, filter-cons_kept}
+use Rattle.grs_world.proofs.Common.{filter-cons_left, gives_up, here-kept, HistEntry, history, is_among, is_home_at}
+use Rattle.grs_world.proofs.Common.{is_leaving, is_look, is_of, is_sent, is_some, is_task, is_task-system, IsAsk}
+use Rattle.grs_world.proofs.Common.{IsAskedFor, IsGood, IsHere, IsHistory, IsLooks, IsLooksBy, IsOpenBy, IsOurs, IsReq}
+use Rattle.grs_world.proofs.Common.{IsTask, line_asked, lines_of, List, list_all, lists, Look, Meaning, mine}
+use Rattle.grs_world.proofs.Common.{new_owners, NodeState, None, none, not, not-true, Opens, Option, outstanding}
+use Rattle.grs_world.proofs.Common.{own_asked, Past, past_of, phase_seen, process, recalled, refl, Release, Req, Res}
+use Rattle.grs_world.proofs.Common.{res_wanted, rounds, RunItem, same_task, same_task-itself, Some, some_of}
+use Rattle.grs_world.proofs.Common.{stand_apart, State, state_of, StaysGood, subst, sym, task-open, TaskId, TaskState}
+use Rattle.grs_world.proofs.Common.{TasksView, tell_answer, tell_answer_any, tell_new, ToldBy, true, unasked_by, Want}
+use Rattle.grs_world.proofs.Common.{wants_round, ℕ}
 use Rattle.grs_wire.specs.contracts.request.WantPartialEq.TheImpl.{eq-value as same_want}
-use Rattle.grs_wire.specs.History.{entries_for}
-use Rattle.grs_wire.specs.Wants.{answer_to, after_want, res_wanted, new_owners}
-use Rattle.grs_wire.specs.declared.deck.Deck.{Deck}
-use Rattle.grs_wire.specs.declared.history.HistEntry.{HistEntry}
-use Rattle.grs_wire.specs.declared.request.Answer.{Answer}
-use Rattle.grs_wire.specs.declared.request.Fixed.TheVariants as fixing
-use Rattle.grs_wire.specs.declared.request.Req.{Req}
-use Rattle.grs_wire.specs.declared.request.Want.{Want}
-use Rattle.grs_wire.specs.declared.request.Want.TheVariants.{Enq, Deq, Release, Look}
-use Rattle.ring_mode.specs.Ring.{Side, process, answer_own, is_asked}
+use Rattle.ring_mode.specs.Ring.{Side, is_asked}
 use Rattle.ring_mode.proofs.WantLaws.{want-itself}
-use Rattle.task_state.specs.Replies.{answered, recalled, tell_answer, tell_answer_any, tell_new, gives_up, is_leaving}
-use Rattle.task_state.specs.View.{TasksView, is_task, state_of, is_sent}
-use Rattle.task_state.proofs.ViewLaws.{is_task-system}
-use Rattle.task_state.specs.declared.state.Asked.{Asked}
-use Rattle.task_state.specs.declared.state.TaskState.{TaskState}
-use Rattle.grs_known.specs.Items.{RunItem, is_of, wants_round, rounds, mine, lists, history}
-use Rattle.grs_known.specs.Known.{outstanding}
-use Rattle.grs_known.specs.Past.{Past, past_of}
 use Rattle.grs_known.proofs.known.Knowing.{one-some}
 use Rattle.grs_known.proofs.ring.Due.{ReadBy, read_by}
-use Rattle.grs_known.proofs.known.Histories.{IsHistory, IsAsk}
 use Rattle.grs_known.proofs.known.Knows.{KnowsLooks, entry-learned, looks-learned}
-use Rattle.grs_known.proofs.lists.Facts.{filter-cons_kept, filter-cons_left, some_of}
-use Rattle.grs_known.proofs.lists.Owners.{is_among}
-use Rattle.grs_known.proofs.lists.Shows.{is_look, looks-are}
-use Rattle.grs_known.proofs.lists.Truths.{false_by}
-use Rattle.grs_known.proofs.tasks.Invariant.{IsTask}
-use Rattle.grs_known.proofs.system.Askers.{among-front}
-use Rattle.grs_known.proofs.system.Asking.{line_asked, phase_seen, unasked_by, IsAskedFor, IsLooks, IsLooksBy, IsOpenBy}
-use Rattle.grs_known.proofs.system.Asking.{IsReq, Opens, are_sent, task-open}
+use Rattle.grs_known.proofs.lists.Shows.{looks-are}
 use Rattle.grs_world.proofs.system.AtNode.{opens_of, Seen, after-asked, not-ours}
-use Rattle.grs_known.proofs.system.Events.{StaysGood, Decides, Leaves, Looks, tells_good}
-use Rattle.grs_known.proofs.system.Good.{IsGood, here-kept}
-use Rattle.grs_known.proofs.system.Ours.{IsOurs, IsHere}
-use Rattle.grs_known.proofs.system.Says.{is_home_at, askers, stand_apart, own_asked, ToldBy, none}
+use Rattle.grs_known.proofs.system.Events.{Decides, Leaves, Looks, tells_good}
 use Rattle.grs_known.proofs.system.Outstanding.{asked-good}
+use Rattle.grs_wire.specs.declared.request.Fixed.TheVariants as fixing
 
 -- ---- what the node does
 -- a system's node after it has processed an entry of the message

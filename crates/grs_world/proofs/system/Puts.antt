@@ -1,52 +1,32 @@
 -- Requests of a system that may be put into the message, and that are.
-use Rattle.std.proofs.Common.{◌≡◌, ◌-◌, ℕ, zero, suc, Bool, true, false, List, [], ◌∷◌, ◌++◌, take, drop, Option, Some}
-use Rattle.std.proofs.Common.{None, refl, ap, sym, ◌∙◌, subst, arith, append-nil, append_assoc}
-use Rattle.std.specs.Prelude.{is_some, ◌==◌}
-use Rattle.std.specs.List.{list_all}
-use Rattle.std.proofs.lemmas.Bool.{and_parts, cases_Bool, eqb-true, or_left}
-use Rattle.std.proofs.lemmas.List.Elements.{filter-append}
-use Rattle.std.proofs.lemmas.Option.{same_Some}
+use Rattle.grs_world.proofs.Common.{[], ◌++◌, ◌-◌, ◌==◌, ◌∙◌, ◌∷◌, ◌≡◌, all-behind, all-middle, all_sent, and_parts, ap}
+use Rattle.grs_world.proofs.Common.{append-nil, append_assoc, are_sent, arith, Asked, askers, Bool, cases_Bool, code_in}
+use Rattle.grs_world.proofs.Common.{Deck, Deq, did-none, did-phase, drop, Enq, eqb-true, false, filter-append}
+use Rattle.grs_world.proofs.Common.{filter-cons_kept, gives_up, goes_round, here-kept, here-other, history, is_home_at}
+use Rattle.grs_world.proofs.Common.{is_leaving, is_of, is_some, IsAskedBy, IsAskedFor, IsGood, IsHere, IsHistory}
+use Rattle.grs_world.proofs.Common.{IsLooks, IsLooksBy, IsOpenBy, IsOurs, IsReq, IsTask, known-all, line_asked}
+use Rattle.grs_world.proofs.Common.{lines_of, List, list_all, Look, made_item, MayFollow, Meaning, mine, NodeState}
+use Rattle.grs_world.proofs.Common.{None, none, one, Opens, Option, or_left, outstanding, Past, past_of, Phase}
+use Rattle.grs_world.proofs.Common.{phase_seen, put_in, quiet_good, refl, Release, Req, rounds, RunItem, same_res}
+use Rattle.grs_world.proofs.Common.{same_Some, same_task, same_task-exact, same_task-itself, Showing, Some, some_of}
+use Rattle.grs_world.proofs.Common.{Speaks, speaks-known, stand_apart, state_of, subst, suc, sym, SysId, take}
+use Rattle.grs_world.proofs.Common.{take-none, task-open, TaskId, TaskState, TasksView, true, unasked_by, Want}
+use Rattle.grs_world.proofs.Common.{with_phase, zero, ℕ}
 use Rattle.std.proofs.lemmas.List.{take-append-drop}
-use Rattle.grs_base.specs.Same.{same_res, same_task}
-use Rattle.grs_base.specs.declared.resource.SysId.{SysId}
-use Rattle.grs_base.specs.declared.resource.TaskId.{TaskId}
-use Rattle.grs_base.proofs.SameLaws.{same_task-exact, same_task-itself}
-use Rattle.grs_legal.specs.Asks.{AsksEnq, AsksDeq, AsksRelease, lines_of}
-use Rattle.grs_legal.specs.declared.meaning.Meaning.{Meaning}
-use Rattle.grs_legal.specs.declared.meaning.Meaning.TheVariants as lines
-use Rattle.grs_node.specs.Node.{NodeState, all_sent, put_in}
-use Rattle.grs_wire.specs.declared.deck.Deck.{Deck}
-use Rattle.grs_wire.specs.declared.request.Fixed.TheVariants as fixing
-use Rattle.grs_wire.specs.declared.request.Req.{Req}
-use Rattle.grs_wire.specs.declared.request.Want.{Want}
-use Rattle.grs_wire.specs.declared.request.Want.TheVariants.{Enq, Deq, Release, Look}
-use Rattle.task_state.specs.Replies.{gives_up, is_leaving}
-use Rattle.task_state.specs.View.{TasksView, state_of, with_phase, code_in}
-use Rattle.task_state.specs.declared.state.Asked.{Asked}
-use Rattle.task_state.specs.declared.state.Showing.{Showing}
-use Rattle.task_state.specs.declared.state.Phase.{Phase}
-use Rattle.task_state.specs.declared.state.Phase.TheVariants as phases
-use Rattle.task_state.specs.declared.state.TaskState.{TaskState}
-use Rattle.grs_known.specs.Items.{RunItem, is_of, goes_round, rounds, mine, history}
-use Rattle.grs_known.specs.Known.{outstanding, falls_behind}
-use Rattle.grs_known.specs.Past.{Past, past_of, Speaks}
-use Rattle.grs_known.proofs.known.Knowing.{one, one-none, outstanding-own}
+use Rattle.grs_legal.specs.Asks.{AsksEnq, AsksDeq, AsksRelease}
+use Rattle.grs_known.specs.Known.{falls_behind}
+use Rattle.grs_known.proofs.known.Knowing.{one-none, outstanding-own}
 use Rattle.grs_known.proofs.known.Following.{is_full-known, may_follow, may_follow_looks}
-use Rattle.grs_known.proofs.known.Histories.{IsHistory, MayFollow, made_item, stays-ask}
-use Rattle.grs_known.proofs.known.Knows.{Knows, known-all, speaks-known, knows-behind, past-behind}
-use Rattle.grs_known.proofs.lists.Facts.{all-behind, all-middle, filter-cons_kept, some_of, take-none}
+use Rattle.grs_known.proofs.known.Histories.{stays-ask}
+use Rattle.grs_known.proofs.known.Knows.{Knows, knows-behind, past-behind}
 use Rattle.grs_known.proofs.tasks.Asked.{next-asked}
-use Rattle.grs_known.proofs.tasks.Invariant.{IsTask}
 use Rattle.grs_known.proofs.tasks.Steps.{next-ending}
-use Rattle.grs_known.proofs.system.Asking.{line_asked, phase_seen, unasked, unasked_by, IsAskedFor, IsLooks, IsLooksBy}
-use Rattle.grs_known.proofs.system.Asking.{IsOpenBy, Opens, IsReq, IsAskedBy, are_sent, looks-asked, task-open}
+use Rattle.grs_known.proofs.system.Asking.{unasked, looks-asked}
 use Rattle.grs_world.proofs.system.AtNode.{opens_of, Seen, mine-left, part-round, seen-more}
-use Rattle.grs_known.proofs.system.Did.{did-none, did-phase}
-use Rattle.grs_known.proofs.system.Good.{IsGood, here-kept, here-other}
-use Rattle.grs_known.proofs.system.Ours.{IsOurs, IsHere}
-use Rattle.grs_known.proofs.system.Says.{is_home_at, askers, stand_apart, none}
 use Rattle.grs_known.proofs.system.Telling.{told-phase}
-use Rattle.grs_known.proofs.system.Turns.{quiet_good}
+use Rattle.grs_legal.specs.declared.meaning.Meaning.TheVariants as lines
+use Rattle.grs_wire.specs.declared.request.Fixed.TheVariants as fixing
+use Rattle.task_state.specs.declared.state.Phase.TheVariants as phases
 
 pub asked-middle : (t : TaskId) (o : Option Asked) (xs : List Req) (q : Req) (ys : List Req)
     → IsAskedBy t o (xs ++ q ∷ ys) → same_task t q.task ≡ true → IsReq q o

@@ -1,93 +1,62 @@
 -- A task of a system goes on by itself.
-use Rattle.std.proofs.Common.{◌≡◌, ◌<◌, ◌+◌, ℕ, zero, suc, Bool, true, false, cond, not, ◌&&◌, ◌||◌, List, [], ◌∷◌}
-use Rattle.std.proofs.Common.{◌++◌, map, length, Option, Some, None, refl, ap, sym, ◌∙◌, subst, arith, append-nil}
-use Rattle.std.proofs.Common.{append_assoc}
-use Rattle.std.specs.Prelude.{slice_get, is_some, nat_le}
-use Rattle.std.specs.List.{list_all, list_any}
-use Rattle.std.proofs.lemmas.Bool.{and_parts, cases_Bool, or_left, or_right}
-use Rattle.grs_base.specs.Same.{same_res, same_task}
-use Rattle.grs_base.specs.Lists.{owns}
-use Rattle.grs_base.specs.Looks.{look}
-use Rattle.grs_base.specs.declared.look.Place.TheVariants.{Local}
-use Rattle.grs_base.specs.declared.resource.Row.{Row}
-use Rattle.grs_base.specs.State.{list_of, is_full, is_systems, enq_code, deq_reply}
-use Rattle.grs_base.specs.declared.resource.Res.{Res}
-use Rattle.grs_base.specs.declared.resource.SysId.{SysId}
-use Rattle.grs_base.specs.declared.resource.TaskId.{TaskId}
-use Rattle.grs_base.specs.declared.decision.Code.{Code}
-use Rattle.grs_base.specs.declared.decision.Code.TheVariants.{C00, C08}
-use Rattle.grs_base.proofs.SameLaws.{same_res-exact, same_res-itself, same_task-itself}
-use Rattle.grs_legal.specs.Asks.{AsksEnq, AsksDeq, AsksRelease, asks_in, home_asks, lines_of}
-use Rattle.grs_legal.specs.Legal.{line_entries}
-use Rattle.grs_legal.specs.declared.meaning.Display.{Display}
-use Rattle.grs_legal.specs.declared.meaning.Meaning.{Meaning}
-use Rattle.grs_legal.specs.declared.meaning.Meaning.TheVariants as lines
-use Rattle.grs_node.specs.Node.{NodeState, only, with_tasks, decide, post, ask, wait, has_most, look_home, look_around}
-use Rattle.grs_node.specs.Node.{looks_asked, show, take_line, end_step, ready_step, phase_step, task_step, goes_on}
-use Rattle.grs_node.specs.Node.{may_go}
-use Rattle.grs_node.specs.Star.{StarPart}
-use Rattle.grs_wire.specs.History.{replay, entries_for}
-use Rattle.grs_wire.specs.Wants.{answer_to, res_wanted, new_owners}
-use Rattle.grs_wire.specs.declared.deck.Deck.{Deck}
-use Rattle.grs_wire.specs.declared.history.HistEntry.{HistEntry}
-use Rattle.grs_wire.specs.declared.history.HistEntry.TheVariants as entries
-use Rattle.grs_wire.specs.declared.request.Answer.{Answer}
-use Rattle.grs_wire.specs.declared.request.Answer.TheVariants as answers
-use Rattle.grs_wire.specs.declared.request.Fixed.TheVariants as fixing
-use Rattle.grs_wire.specs.declared.request.Req.{Req}
-use Rattle.grs_wire.specs.declared.request.Want.{Want}
-use Rattle.grs_wire.specs.declared.request.Want.TheVariants.{Enq, Deq, Release, Look}
-use Rattle.grs_wire.specs.declared.told.ToldLine.{ToldLine}
-use Rattle.grs_wire.specs.declared.told.ToldLine.TheVariants.{Coded, Ended}
-use Rattle.grs_wire.specs.declared.told.Verb.TheVariants as verbs
-use Rattle.grs_wire.proofs.WantLaws.{by_test}
-use Rattle.task_state.specs.Replies.{replied, tell_new, tell_code, tell_rows, is_leaving}
-use Rattle.task_state.specs.View.{TasksView, is_task, state_of, record_of, with_line, with_phase, with_outstanding}
-use Rattle.task_state.specs.View.{with_rows, telling}
-use Rattle.task_state.specs.declared.state.Asked.{Asked}
-use Rattle.task_state.specs.declared.state.Phase.{Phase}
-use Rattle.task_state.specs.declared.state.Phase.TheVariants as phases
-use Rattle.task_state.specs.declared.state.Rec.{Rec}
-use Rattle.task_state.specs.declared.state.Showing.{Showing}
-use Rattle.task_state.specs.declared.state.TaskState.{TaskState}
-use Rattle.grs_known.specs.Items.{RunItem, lists, history, rows_in}
-use Rattle.grs_known.specs.Known.{outstanding}
-use Rattle.grs_known.specs.Past.{has_own, Past, past_of, Speaks}
-use Rattle.grs_known.specs.Told.{LineAgrees, TellsWait, tells_control}
-use Rattle.grs_known.proofs.known.Knowing.{one}
+use Rattle.grs_world.proofs.Common.{[], ◌&&◌, ◌++◌, ◌+◌, ◌<◌, ◌||◌, ◌∙◌, ◌∷◌, ◌≡◌, among-front, and_parts, Answer}
+use Rattle.grs_world.proofs.Common.{answer_to, ap, append-nil, append_assoc, arith, ask, Asked, askers, Bool, by_test}
+use Rattle.grs_world.proofs.Common.{C00, C08, cases_Bool, Code, Coded, cond, decide, Deck, Deq, Did, did-line, did-none}
+use Rattle.grs_world.proofs.Common.{did-outstanding, did-phase, did-rows, did-telling, Display, end_step, Ended, Enq}
+use Rattle.grs_world.proofs.Common.{entries_for, false, follows, goes_on, has_most, has_res, here-kept, here-other}
+use Rattle.grs_world.proofs.Common.{HistEntry, history, is_among, is_home_at, is_leaving, is_look, is_res_of, is_some}
+use Rattle.grs_world.proofs.Common.{is_systems, is_task, is_unsent, IsAskedBy, IsAskedFor, IsGood, IsHere, IsHistory}
+use Rattle.grs_world.proofs.Common.{IsLooks, IsLooksBy, IsOpenBy, IsOurs, IsOutstanding, IsRec, IsReq, IsTask}
+use Rattle.grs_world.proofs.Common.{known-all, length, line_asked, line_entries, lines_of, List, list_all, list_any}
+use Rattle.grs_world.proofs.Common.{list_of, lists, Local, Look, look, look_around, look_home, looks_asked, made_item}
+use Rattle.grs_world.proofs.Common.{map, may_go, MayFollow, Meaning, nat_le, new_owners, NodeState, None, none, not}
+use Rattle.grs_world.proofs.Common.{one, only, Opens, Option, or_left, or_other, or_right, outstanding, owns, owns-may}
+use Rattle.grs_world.proofs.Common.{part, Past, past_of, Phase, phase_seen, phase_step, post, quiet_good, ready_step}
+use Rattle.grs_world.proofs.Common.{Rec, record_of, refl, Release, replay, replied, Req, Res, res_wanted, Row, RunItem}
+use Rattle.grs_world.proofs.Common.{same_res, same_res-exact, same_res-itself, same_task, same_task-itself, show}
+use Rattle.grs_world.proofs.Common.{Showing, slice_get, Some, Speaks, speaks-known, stand_apart, StarPart, state_of}
+use Rattle.grs_world.proofs.Common.{StaysGood, subst, suc, sym, SysId, take_line, task-open, task_step, TaskId}
+use Rattle.grs_world.proofs.Common.{TaskState, TasksView, tell_code, tell_new, tell_rows, telling, tells_control}
+use Rattle.grs_world.proofs.Common.{ToldBy, ToldLine, true, wait, Want, with_line, with_outstanding, with_phase}
+use Rattle.grs_world.proofs.Common.{with_rows, with_tasks, zero, ℕ}
+use Rattle.grs_base.specs.State.{is_full, enq_code, deq_reply}
+use Rattle.grs_legal.specs.Asks.{AsksEnq, AsksDeq, AsksRelease, asks_in, home_asks}
+use Rattle.grs_known.specs.Items.{rows_in}
+use Rattle.grs_known.specs.Past.{has_own}
+use Rattle.grs_known.specs.Told.{LineAgrees, TellsWait}
 use Rattle.grs_known.proofs.known.Following.{has-known, is_full-known, may_follow, may_look}
-use Rattle.grs_known.proofs.known.Histories.{IsHistory, MayFollow, made_item, follows, live-push, wants-round, has-may}
-use Rattle.grs_known.proofs.known.Histories.{owns-may}
-use Rattle.grs_known.proofs.known.Knows.{IsOutstanding, known-all, knows-closed, speaks-known, owns-still}
-use Rattle.grs_known.proofs.known.Knows.{entry-decided, looks-decided}
+use Rattle.grs_known.proofs.known.Histories.{live-push, wants-round, has-may}
+use Rattle.grs_known.proofs.known.Knows.{knows-closed, owns-still, entry-decided, looks-decided}
 use Rattle.grs_known.proofs.ring.Reading.{owner-behind}
 use Rattle.grs_known.proofs.lists.Facts.{all-more}
-use Rattle.grs_known.proofs.lists.Owners.{is_among}
-use Rattle.grs_known.proofs.lists.Parts.{part, is_res_of, own-one_system, answer_to-part}
-use Rattle.grs_known.proofs.lists.Shows.{is_look, look-own}
-use Rattle.grs_known.proofs.lists.Truths.{or_other}
+use Rattle.grs_known.proofs.lists.Parts.{own-one_system, answer_to-part}
+use Rattle.grs_known.proofs.lists.Shows.{look-own}
 use Rattle.grs_known.proofs.tasks.Asked.{Asks, next-asked}
-use Rattle.grs_known.proofs.tasks.Invariant.{IsRec, may_pass, IsTask, has_res, is_unsent}
+use Rattle.grs_known.proofs.tasks.Invariant.{may_pass}
 use Rattle.grs_known.proofs.tasks.Keys.{has_res-own}
 use Rattle.grs_known.proofs.tasks.Looks.{next-home}
 use Rattle.grs_known.proofs.tasks.Others.{task-leaving, task-told}
 use Rattle.grs_known.proofs.tasks.Records.{found, not_found}
 use Rattle.grs_known.proofs.tasks.Speaking.{has-speaks}
 use Rattle.grs_known.proofs.tasks.Steps.{task-skipped, task-waited, task-held, task-ending, next-ending, task-ended}
-use Rattle.grs_known.proofs.system.Askers.{among-front, apart-push}
-use Rattle.grs_known.proofs.system.Asking.{line_asked, phase_seen, unasked, IsAtLines, IsAskedFor, IsLooks, IsLooksBy}
-use Rattle.grs_known.proofs.system.Asking.{IsOpenBy, Opens, IsReq, IsAskedBy, asked-absent, asked-none, sent-absent}
-use Rattle.grs_known.proofs.system.Asking.{held-none, stays-open, task-open}
+use Rattle.grs_known.proofs.system.Askers.{apart-push}
+use Rattle.grs_known.proofs.system.Asking.{unasked, IsAtLines, asked-absent, asked-none, sent-absent, held-none}
+use Rattle.grs_known.proofs.system.Asking.{stays-open}
 use Rattle.grs_world.proofs.system.AtNode.{opens_of, Seen, MayFix, own_ask, own_look, QuietStep, keeps, fixes}
 use Rattle.grs_world.proofs.system.AtNode.{fix-history, part-look, part-same}
-use Rattle.grs_known.proofs.system.Did.{Did, did-none, did-line, did-phase, did-outstanding, did-rows, did-telling}
 use Rattle.grs_known.proofs.system.Displays.{looks-begun, shown-at_once}
-use Rattle.grs_known.proofs.system.Events.{StaysGood, Decides, Looks, task-closed, enq-good, deq-good, release-good}
-use Rattle.grs_known.proofs.system.Good.{IsGood, Untold, here-kept, here-other, home-ours, ours-home}
+use Rattle.grs_known.proofs.system.Events.{Decides, Looks, task-closed, enq-good, deq-good, release-good}
+use Rattle.grs_known.proofs.system.Good.{Untold, home-ours, ours-home}
 use Rattle.grs_world.proofs.system.Meant.{is_own, IsHome, lines_own}
-use Rattle.grs_known.proofs.system.Ours.{IsOurs, IsHere, ours-line, agrees-ours}
-use Rattle.grs_known.proofs.system.Says.{is_home_at, askers, stand_apart, ToldBy, none, more}
-use Rattle.grs_known.proofs.system.Turns.{quiet_good, state-is, plain-task}
+use Rattle.grs_known.proofs.system.Ours.{ours-line, agrees-ours}
+use Rattle.grs_known.proofs.system.Says.{more}
+use Rattle.grs_known.proofs.system.Turns.{state-is, plain-task}
+use Rattle.grs_legal.specs.declared.meaning.Meaning.TheVariants as lines
+use Rattle.grs_wire.specs.declared.history.HistEntry.TheVariants as entries
+use Rattle.grs_wire.specs.declared.request.Answer.TheVariants as answers
+use Rattle.grs_wire.specs.declared.request.Fixed.TheVariants as fixing
+use Rattle.grs_wire.specs.declared.told.Verb.TheVariants as verbs
+use Rattle.task_state.specs.declared.state.Phase.TheVariants as phases
 
 -- one request more behind the open ones
 asked-push_own : (t : TaskId) (o : Option Asked) (qs : List Req) (q : Req) → is_among t (askers qs) ≡ false → IsReq q o

@@ -1,39 +1,20 @@
 -- A system processes the removal of another by its table.
-use Rattle.std.proofs.Common.{◌≡◌, ℕ, Bool, true, false, cond, not, List, [], ◌∷◌, ◌++◌, Some, refl, ap, sym, ◌∙◌}
-use Rattle.std.specs.Prelude.{filter, is_some}
-use Rattle.grs_base.specs.Lists.{owns}
-use Rattle.grs_base.specs.Rows.{rows_of}
-use Rattle.grs_base.specs.State.{State, list_of, is_systems, is_of_other, remove_state}
-use Rattle.grs_base.specs.declared.resource.Elem.{Elem}
-use Rattle.grs_base.specs.declared.resource.Res.{Res}
-use Rattle.grs_base.specs.declared.resource.Row.{Row}
-use Rattle.grs_base.specs.declared.resource.SysId.{SysId}
-use Rattle.grs_base.specs.declared.resource.TaskId.{TaskId}
-use Rattle.grs_legal.specs.Asks.{lines_of}
-use Rattle.grs_node.specs.Node.{NodeState, process_removal}
-use Rattle.grs_wire.specs.History.{after_fixed}
-use Rattle.grs_wire.specs.declared.deck.Deck.{Deck}
-use Rattle.grs_wire.specs.declared.request.Fixed.TheVariants as fixing
-use Rattle.grs_wire.specs.declared.request.Req.{Req}
-use Rattle.grs_wire.specs.declared.told.ToldLine.{ToldLine}
+use Rattle.grs_world.proofs.Common.{[], ◌++◌, ◌∙◌, ◌∷◌, ◌≡◌, after_fixed, ap, AreLists, Bool, cond, Deck, Elem, false}
+use Rattle.grs_world.proofs.Common.{filter, filter-cons_left, freed, here-kept, history, is_among, is_of, is_some}
+use Rattle.grs_world.proofs.Common.{is_systems, IsGood, IsHistory, lines_of, List, list_of, lists, lists-push}
+use Rattle.grs_world.proofs.Common.{NodeState, none, not, Opens, owns, refl, remove_state, Req, Res, rounds, Row}
+use Rattle.grs_world.proofs.Common.{rows-lists, rows_of, RunItem, Some, State, StaysGood, sym, SysId, TaskId, TasksView}
+use Rattle.grs_world.proofs.Common.{tell_freed, tell_new, ToldBy, ToldLine, true, ℕ}
+use Rattle.grs_base.specs.State.{is_of_other}
+use Rattle.grs_node.specs.Node.{process_removal}
 use Rattle.grs_wire.proofs.RemoveLaws.{list_of-remove}
-use Rattle.freed_owners.specs.Freed.{newcomers, freed}
-use Rattle.system_purge.specs.Purge.{tell_freed}
-use Rattle.task_state.specs.Replies.{tell_new}
-use Rattle.task_state.specs.View.{TasksView}
-use Rattle.grs_known.specs.Items.{RunItem, is_of, rounds, lists, history}
-use Rattle.grs_known.proofs.known.Histories.{IsHistory}
-use Rattle.grs_known.proofs.known.ItemLaws.{lists-push}
-use Rattle.grs_known.proofs.lists.Facts.{filter-cons_left}
-use Rattle.grs_known.proofs.lists.Owners.{is_among, picked-owns}
-use Rattle.grs_known.proofs.lists.Rows.{AreLists, rows-lists}
+use Rattle.freed_owners.specs.Freed.{newcomers}
+use Rattle.grs_known.proofs.lists.Owners.{picked-owns}
 use Rattle.grs_known.proofs.ring.Due.{owns_left}
-use Rattle.grs_known.proofs.system.Asking.{Opens}
-use Rattle.grs_known.proofs.system.Events.{StaysGood, tells_good}
-use Rattle.grs_known.proofs.system.Good.{IsGood, here-kept}
-use Rattle.grs_known.proofs.system.Says.{ToldBy, none}
+use Rattle.grs_known.proofs.system.Events.{tells_good}
 use Rattle.grs_known.proofs.system.Telling.{StillOwns}
 use Rattle.grs_world.proofs.system.AtNode.{opens_of, Seen}
+use Rattle.grs_wire.specs.declared.request.Fixed.TheVariants as fixing
 
 -- whoever gets control by a removal owns by what it leaves of the list
 freed-owns : (n : ℕ) (r : Res) (es : List Elem) (u : TaskId) → is_among u (freed n r es) ≡ true

@@ -1,4 +1,5 @@
-use Rattle.std.proofs.Common.{refl, rules}
+use Rattle.grs_world.proofs.Common.{refl}
+use Rattle.std.proofs.Common.{rules}
 use Rattle.grs_medium.specs.TurnReplies.{refusal_reply}
 use Rattle.grs_world.proofs.code.Turns.{chosen-refused, refused-ends}
 use Rattle.grs_world.proofs.chosen.refused_turn.Goals as goal

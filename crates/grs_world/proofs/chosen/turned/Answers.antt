@@ -1,7 +1,4 @@
-use Rattle.std.proofs.Common.{◌≡◌, Some, cond, length, take, refl}
-use Rattle.grs_wire.specs.Unseen.{unseen}
-use Rattle.grs_base.specs.Limits.{most_additions}
-use Rattle.grs_wire.specs.declared.deck.Choice.TheVariants.{Turn}
+use Rattle.grs_world.proofs.Common.{◌≡◌, cond, length, most_additions, refl, Some, take, Turn, unseen}
 use Rattle.grs_wire.specs.declared.medium.Reply.TheVariants.{Turned}
 use Rattle.grs_world.proofs.code.Logged.{finished-node, finished-done, finished-some}
 use Rattle.grs_world.proofs.code.Turns.{chosen-given}

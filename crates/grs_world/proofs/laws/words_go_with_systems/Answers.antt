@@ -1,6 +1,6 @@
 use Rattle.grs_world.proofs.gather.Managed.{words_managed}
-use Rattle.grs_world.proofs.laws.words_go_with_systems.Goals as goal
 use Rattle.grs_world.proofs.move.Roles.{every_word}
+use Rattle.grs_world.proofs.laws.words_go_with_systems.Goals as goal
 
 pub returns-clause-managed : goal.returns-clause-managed
 returns-clause-managed c = words_managed

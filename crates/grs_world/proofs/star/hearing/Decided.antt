@@ -1,41 +1,15 @@
 -- A system decides a request of its own task: the task is told the answer, own tasks that became owners are told, and
 -- those of other systems are still to be told.
-use Rattle.std.proofs.Common.{inl, inr, ◌≡◌, ◌≢◌, ◌≤◌, ℕ, suc, Bool, true, false, List, [], ◌∷◌, ◌++◌, Option, Some}
-use Rattle.std.proofs.Common.{None, refl, ap, sym, ◌∙◌, subst, append-nil}
-use Rattle.std.specs.Prelude.{◌⊎◌, ◌==◌, is_some}
-use Rattle.std.proofs.lemmas.Bool.{and_parts, eqb-true, eqb-false}
-use Rattle.std.proofs.lemmas.Option.{same_Some}
-use Rattle.contention_mgr.specs.Manager.{Managed, after_request, entry_wanted, managed_at}
-use Rattle.lock_structure.specs.Entries.{entry_of_res}
-use Rattle.grs_base.specs.Lists.{has_task, owns}
-use Rattle.grs_base.specs.Same.{same_task}
-use Rattle.grs_base.specs.State.{is_systems, list_of}
-use Rattle.grs_base.specs.declared.resource.Res.{Res}
-use Rattle.grs_base.specs.declared.resource.SysId.{SysId}
-use Rattle.grs_base.specs.declared.resource.TaskId.{TaskId}
-use Rattle.grs_base.proofs.SameLaws.{same_task-exact, same_task-itself}
-use Rattle.grs_medium.specs.Medium.{inbox}
-use Rattle.grs_node.specs.Node.{NodeState}
-use Rattle.grs_node.specs.Star.{StarPart, request_of}
-use Rattle.grs_wire.specs.Wants.{after_want, answer_to, new_owners, res_wanted}
-use Rattle.grs_wire.specs.declared.deck.Deck.{Deck}
-use Rattle.grs_wire.specs.declared.request.Fixed.TheVariants as fixing
-use Rattle.grs_wire.specs.declared.request.Want.{Want}
-use Rattle.star_client.specs.Client.{tell_answer_ranked}
-use Rattle.task_state.specs.Replies.{tell_new}
-use Rattle.task_state.specs.View.{TasksView, is_sent, is_task, state_of}
-use Rattle.task_state.specs.declared.state.Asked.{Asked}
-use Rattle.task_state.specs.declared.state.TaskState.{TaskState}
-use Rattle.grs_known.specs.Items.{RunItem, items, lists, mine}
-use Rattle.grs_known.proofs.known.Histories.{made_item}
-use Rattle.grs_known.proofs.known.ItemLaws.{lists-push}
-use Rattle.grs_known.proofs.lists.All.{owns-has}
-use Rattle.grs_known.proofs.lists.Owners.{is_among}
-use Rattle.grs_known.proofs.lists.Truths.{false_by, no_truth}
-use Rattle.grs_known.proofs.system.Ours.{same_place}
-use Rattle.grs_known.proofs.system.Says.{askers, is_home_at}
-use Rattle.grs_known.proofs.tasks.Invariant.{has_res}
-use Rattle.grs_known.proofs.records.Marks.{is_marked}
+use Rattle.grs_world.proofs.Common.{[], ◌++◌, ◌==◌, ◌∙◌, ◌∷◌, ◌≡◌, ◌≢◌, ◌≤◌, after_request, after_want, and_parts}
+use Rattle.grs_world.proofs.Common.{answer_to, ap, append-nil, Asked, askers, Bool, Deck, entry_of_res, entry_wanted}
+use Rattle.grs_world.proofs.Common.{eqb-false, eqb-true, false, false_by, fixed_by, has, has_res, has_task, inbox, inl}
+use Rattle.grs_world.proofs.Common.{inr, is_among, is_home_at, is_marked, is_sent, is_some, is_systems, is_task, items}
+use Rattle.grs_world.proofs.Common.{List, list_of, lists, lists-push, made_item, Managed, managed_at, mine, new_owners}
+use Rattle.grs_world.proofs.Common.{no_truth, NodeState, None, Option, owns, owns-has, placed, refl, request_of, Res}
+use Rattle.grs_world.proofs.Common.{res_wanted, RunItem, same_place, same_Some, same_task, same_task-exact}
+use Rattle.grs_world.proofs.Common.{same_task-itself, Some, StarPart, state_of, subst, suc, sym, SysId, TaskId}
+use Rattle.grs_world.proofs.Common.{TaskState, TasksView, tell_answer_ranked, tell_new, true, Turnout, Want, World, ℕ}
+use Rattle.std.specs.Prelude.{◌⊎◌}
 use Rattle.grs_world.proofs.star.Heard.{StaysHeard, enq_count, grants, had_by, hears, sent_by}
 use Rattle.grs_world.proofs.star.Members.{IsPart, has_manager}
 use Rattle.grs_world.proofs.star.Systems.{ours}
@@ -49,9 +23,8 @@ use Rattle.grs_world.proofs.star.hearing.Managing.{gained-then, next-then, untol
 use Rattle.grs_world.proofs.star.hearing.Own.{hands-kept, own-addressed, own-owner, owner-by, request-kept}
 use Rattle.grs_world.proofs.star.hearing.Passing.{Grown, Hearable, Requested, enq_count-grown, heard-placed}
 use Rattle.grs_world.proofs.star.hearing.Passing.{is_untold_by, own-recorded-ready, untold-here, untold-own}
-use Rattle.grs_world.specs.World.{World, Turnout, fixed_by, placed}
-use Rattle.grs_wire.specs.Masks.{has}
 use Rattle.grs_world.proofs.run.Site.{Site, own-site}
+use Rattle.grs_wire.specs.declared.request.Fixed.TheVariants as fixing
 
 -- two tasks of a system are one, or stand at two places
 pub one-place : (deck : Deck) (w : World) (g : IsWhole deck w) (s : ℕ) (n : NodeState) → Site w s n → (t u : TaskId)

@@ -1,42 +1,18 @@
 -- Which elements of a system's tasks are on record: all but the one whose item is still to come, which is of an entry
 -- that another system manages.
-use Rattle.std.proofs.Common.{inl, inr, ◌≡◌, ℕ, Bool, true, false, cond, List, [], ◌∷◌, map, Option, Some, None, refl}
-use Rattle.std.proofs.Common.{ap, sym, ◌∙◌, subst}
+use Rattle.grs_world.proofs.Common.{[], ◌∙◌, ◌∷◌, ◌≡◌, Answer, answer_to, Answered, ap, Asked, askers, blank, Bool}
+use Rattle.grs_world.proofs.Common.{cond, Deck, entries_for, entry_of_res, entry_wanted, false, has_res, has_task, inl}
+use Rattle.grs_world.proofs.Common.{inr, is_among, is_distinct, is_home_at, is_look, is_sent, IsHistory, IsOpenBy}
+use Rattle.grs_world.proofs.Common.{IsOutstanding, last_of, List, list_all, list_of, lists, Mail, map, mine, no_truth}
+use Rattle.grs_world.proofs.Common.{NodeState, None, one, Option, outstanding, past_of, refl, replies_are_answers}
+use Rattle.grs_world.proofs.Common.{reply_in, Req, Res, res_wanted, RunItem, same_Some, same_task-itself, Some}
+use Rattle.grs_world.proofs.Common.{speaks-known, State, state_of, subst, sym, TaskId, true, ℕ}
 use Rattle.std.specs.Prelude.{◌⊎◌}
-use Rattle.std.proofs.lemmas.Option.{same_Some}
-use Rattle.contention_mgr.specs.Manager.{entry_wanted}
-use Rattle.lock_structure.specs.Entries.{entry_of_res}
-use Rattle.grs_base.specs.Lists.{has_task}
-use Rattle.grs_base.specs.State.{State, list_of}
-use Rattle.grs_base.specs.declared.resource.Res.{Res}
-use Rattle.grs_base.specs.declared.resource.TaskId.{TaskId}
-use Rattle.grs_base.proofs.SameLaws.{same_task-itself}
-use Rattle.grs_node.specs.Node.{NodeState}
-use Rattle.grs_wire.specs.History.{entries_for}
-use Rattle.grs_wire.specs.Wants.{answer_to, res_wanted}
-use Rattle.grs_wire.specs.declared.deck.Deck.{Deck}
-use Rattle.grs_wire.specs.declared.medium.Mail.{Mail}
-use Rattle.grs_wire.specs.declared.medium.Mail.TheVariants.{Answered}
-use Rattle.grs_wire.specs.declared.request.Answer.{Answer}
-use Rattle.grs_wire.specs.declared.request.Fixed.TheVariants as fixing
-use Rattle.grs_wire.specs.declared.request.Req.{Req}
-use Rattle.task_state.specs.View.{state_of, is_sent}
-use Rattle.task_state.specs.declared.state.Asked.{Asked}
-use Rattle.grs_known.specs.Items.{RunItem, mine, lists, reply_in}
-use Rattle.grs_known.proofs.known.ItemLaws.{replies_are_answers}
-use Rattle.grs_known.specs.Known.{outstanding, last_of}
-use Rattle.grs_known.specs.Past.{past_of}
 use Rattle.grs_known.proofs.known.Following.{has-known}
-use Rattle.grs_known.proofs.known.Histories.{IsHistory}
-use Rattle.grs_known.proofs.known.Blank.{blank, no-answer}
-use Rattle.grs_known.proofs.known.Knowing.{one}
-use Rattle.grs_known.proofs.known.Knows.{IsOutstanding, speaks-known}
-use Rattle.grs_known.proofs.lists.Owners.{is_among}
-use Rattle.grs_known.proofs.lists.Truths.{no_truth}
-use Rattle.grs_known.proofs.system.Asking.{IsOpenBy, records-unasked}
+use Rattle.grs_known.proofs.known.Blank.{no-answer}
+use Rattle.grs_known.proofs.system.Asking.{records-unasked}
 use Rattle.grs_known.proofs.system.Busy.{busy-behind, busy-idle, busy-looks}
-use Rattle.grs_known.proofs.system.Says.{askers, is_home_at}
-use Rattle.grs_known.proofs.tasks.Invariant.{has_res, is_distinct, key}
+use Rattle.grs_known.proofs.tasks.Invariant.{key}
 use Rattle.grs_known.proofs.tasks.Keys.{has_res-own}
 use Rattle.grs_world.proofs.star.Ghosts.{ghosted}
 use Rattle.grs_world.proofs.star.Mailed.{sent-among}
@@ -48,9 +24,8 @@ use Rattle.grs_world.proofs.star.hearing.Mails.{answers}
 use Rattle.grs_world.proofs.system.AtNode.{opens_of}
 use Rattle.grs_world.proofs.system.Puts.{home-task}
 use Rattle.grs_world.proofs.star.Answering.{want-looks}
-use Rattle.grs_known.proofs.lists.Shows.{is_look}
 use Rattle.grs_world.proofs.star.Under.{res-entry}
-use Rattle.std.specs.List.{list_all}
+use Rattle.grs_wire.specs.declared.request.Fixed.TheVariants as fixing
 
 -- An item of task t that is still to come, of the entry of resource r, which another system manages: it is what the
 -- task's outstanding request asked.

@@ -1,48 +1,32 @@
 -- What a request gives: to its own task an element, and control by what it is answered; to others control, of which a
 -- manager keeps whom it has still to tell; and how the next rank goes with the number of requests that could queue an
 -- element.
-use Rattle.std.proofs.Common.{◌≡◌, ◌<◌, ◌≤◌, ◌+◌, ℕ, suc, Bool, true, false, cond, not, ◌&&◌, ◌||◌, List, [], ◌∷◌, ◌++◌}
-use Rattle.std.proofs.Common.{length, Option, Some, None, refl, ap, sym, ◌∙◌, subst, arith}
-use Rattle.std.specs.Prelude.{◌==◌, filter, is_some, nat_le, unwrap_or, slice_get, slice_set}
-use Rattle.std.specs.Option.{option_map_or}
-use Rattle.std.proofs.lemmas.Bool.{and_from, eqb-true, eq-eqb}
-use Rattle.std.proofs.lemmas.Bool.Decides.{nat_tests}
-use Rattle.std.proofs.lemmas.List.{length-set}
-use Rattle.std.proofs.lemmas.Option.{same_Some, slice_get_within}
+use Rattle.grs_world.proofs.Common.{[], ◌&&◌, ◌++◌, ◌+◌, ◌<◌, ◌==◌, ◌||◌, ◌∙◌, ◌∷◌, ◌≡◌, ◌≤◌, after_request}
+use Rattle.grs_world.proofs.Common.{after_telling, after_want, and_from, answer_to, ap, arith, Bool, cond, Ctl, Deq}
+use Rattle.grs_world.proofs.Common.{Elem, Enq, entry_of_res, entry_wanted, eq-eqb, eqb-true, false, filter, has_task}
+use Rattle.grs_world.proofs.Common.{is_among, is_entry, is_granted, is_some, items_of, kept_at, kept_for, last_number}
+use Rattle.grs_world.proofs.Common.{length, length-set, List, list_of, Look, Managed, managed_at, managed_of}
+use Rattle.grs_world.proofs.Common.{ManagerView, nat_le, nat_tests, new_owners, no_elements, no_truth, None, not}
+use Rattle.grs_world.proofs.Common.{Option, option_map_or, owns, owns-has, plain, Ranked, refl, Release, Res}
+use Rattle.grs_world.proofs.Common.{res_wanted, Ret, RunItem, same_res, same_res-exact, same_Some, same_task, settled}
+use Rattle.grs_world.proofs.Common.{slice_get, slice_get_within, slice_set, Some, standing_of, State, subst, suc, sym}
+use Rattle.grs_world.proofs.Common.{TaskId, true, unwrap_or, Want, with_entry, ℕ}
 use Rattle.contention_mgr.specs.Elements.{holds}
 use Rattle.contention_mgr.specs.Laws.{gains, untold_at}
-use Rattle.contention_mgr.specs.Manager.{Managed, ManagerView, Ranked, after_request, after_telling, entry_wanted}
-use Rattle.contention_mgr.specs.Manager.{items_of, kept_at, kept_for, managed_at, managed_of, plain, queues, rank_for}
-use Rattle.contention_mgr.specs.Manager.{settled, told, with_entry, enqueued, given_up, no_elements}
+use Rattle.contention_mgr.specs.Manager.{queues, rank_for, told, enqueued, given_up}
 use Rattle.contention_mgr.proofs.ItemLemmas.{holds-list}
 use Rattle.contention_mgr.proofs.OwnLemmas.{gainers_are_untold, telling_tells, untold_follow}
-use Rattle.lock_structure.specs.Entries.{entry_of_res, is_entry}
-use Rattle.grs_base.specs.Limits.{last_number}
-use Rattle.grs_base.specs.Lists.{can_have, decide_enq, enq_decision, has_task, is_owner, list_after, list_without, owns}
-use Rattle.grs_base.specs.Lists.{standing_of}
-use Rattle.grs_base.specs.Same.{same_res, same_task}
-use Rattle.grs_base.specs.State.{State, list_of, without}
+use Rattle.grs_base.specs.Lists.{can_have, decide_enq, enq_decision, is_owner, list_after, list_without}
+use Rattle.grs_base.specs.State.{without}
 use Rattle.grs_base.specs.declared.decision.Effect.{Effect}
 use Rattle.grs_base.specs.declared.decision.Effect.TheVariants.{Nothing, Append, MakeExclusive}
 use Rattle.grs_base.specs.declared.decision.Standing.TheVariants.{Absent}
-use Rattle.grs_base.specs.declared.resource.Ctl.{Ctl}
-use Rattle.grs_base.specs.declared.resource.Elem.{Elem}
-use Rattle.grs_base.specs.declared.resource.Res.{Res}
-use Rattle.grs_base.specs.declared.resource.Ret.{Ret}
-use Rattle.grs_base.specs.declared.resource.TaskId.{TaskId}
 use Rattle.grs_base.proofs.ListLaws.{has_task-append, has_task-exclusive, has_task-filter, is_owner-standing}
-use Rattle.grs_base.proofs.SameLaws.{same_res-exact}
 use Rattle.grs_base.proofs.StateLaws.{appends_absent, list_at-without, list_of-effect, only_owner, res_equality}
-use Rattle.grs_wire.specs.Wants.{after_want, answer_to, became_owners, became_owners_of, new_owners, res_wanted}
-use Rattle.grs_wire.specs.declared.request.Want.{Want}
-use Rattle.grs_wire.specs.declared.request.Want.TheVariants.{Enq, Deq, Release, Look}
+use Rattle.grs_wire.specs.Wants.{became_owners, became_owners_of}
 use Rattle.grs_wire.proofs.WantLaws.{absent-has, list_of-want_other, speaks_of}
-use Rattle.task_state.specs.Replies.{is_granted}
-use Rattle.grs_known.specs.Items.{RunItem}
-use Rattle.grs_known.proofs.lists.All.{owns-has}
-use Rattle.grs_known.proofs.lists.Owners.{is_among, is_among-became}
+use Rattle.grs_known.proofs.lists.Owners.{is_among-became}
 use Rattle.grs_known.proofs.lists.Requests.{owns-push}
-use Rattle.grs_known.proofs.lists.Truths.{no_truth}
 use Rattle.grs_world.proofs.star.Roles.{kept-set}
 use Rattle.grs_world.proofs.star.Heard.{enq_count, grants, is_enq, is_enq_want}
 

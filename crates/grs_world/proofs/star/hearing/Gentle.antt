@@ -1,68 +1,38 @@
 -- What becomes of the tasks of a system, as far as sent requests and resources of the whole complex go: where control
 -- is told, where a task goes on by itself, and where an answer is told.
-use Rattle.std.proofs.Common.{◌≡◌, ◌≢◌, ◌+◌, ℕ, zero, suc, Bool, true, false, cond, ◌&&◌, ◌||◌, List, [], ◌∷◌, ◌++◌}
-use Rattle.std.proofs.Common.{Option}
-use Rattle.std.proofs.Common.{Some, None, refl, ap, sym, ◌∙◌, subst}
-use Rattle.std.specs.Prelude.{◌==◌, get_or, slice_get}
-use Rattle.std.proofs.lemmas.Bool.{and_from, eqb-true, eqb-false}
-use Rattle.std.proofs.lemmas.Option.{same_Some}
-use Rattle.grs_base.specs.Same.{same_res, same_task}
-use Rattle.grs_base.specs.Looks.{look}
-use Rattle.grs_base.specs.State.{is_systems}
-use Rattle.grs_base.specs.declared.decision.Code.{Code}
-use Rattle.grs_base.specs.declared.decision.Code.TheVariants.{C00, C04, C08, C14, C18, Wait, End}
-use Rattle.grs_base.specs.declared.resource.Ctl.{Ctl}
-use Rattle.grs_base.specs.declared.resource.Ctl.TheVariants as ctls
-use Rattle.grs_base.specs.declared.look.Filter.{Filter}
-use Rattle.grs_base.specs.declared.look.Place.TheVariants.{Local}
-use Rattle.grs_base.specs.declared.resource.Res.{Res}
-use Rattle.grs_base.specs.declared.resource.Ret.{Ret}
-use Rattle.grs_base.specs.declared.resource.Row.{Row}
-use Rattle.grs_base.specs.declared.resource.SysId.{SysId}
-use Rattle.grs_base.specs.declared.resource.TaskId.{TaskId}
-use Rattle.grs_base.proofs.SameLaws.{same_res-exact, same_res-itself, same_task-exact}
-use Rattle.grs_legal.specs.declared.meaning.Display.{Display}
-use Rattle.grs_legal.specs.declared.meaning.Meaning.{Meaning}
-use Rattle.grs_legal.specs.declared.meaning.Meaning.TheVariants as lines
-use Rattle.grs_node.specs.Node.{NodeState, Step, ask, decide, end_step, phase_step, post, ready_step, take_line}
-use Rattle.grs_node.specs.Node.{task_step, wait, with_tasks, posted, looks_asked, look_home, look_around, show}
-use Rattle.grs_wire.specs.Wants.{new_owners, res_wanted, is_for_all}
-use Rattle.grs_wire.specs.declared.request.Answer.{Answer}
-use Rattle.grs_wire.specs.declared.request.Answer.TheVariants.{Coded as CodedAnswer, Rows}
-use Rattle.grs_wire.specs.declared.request.Want.{Want}
-use Rattle.grs_wire.specs.declared.request.Want.TheVariants.{Enq, Deq, Release, Look}
-use Rattle.grs_wire.specs.declared.told.ToldLine.{ToldLine}
-use Rattle.grs_wire.specs.declared.told.Verb.TheVariants as verbs
-use Rattle.grs_wire.specs.declared.told.ToldLine.TheVariants as told
-use Rattle.grs_wire.proofs.WantLaws.{by_test}
-use Rattle.star_client.specs.Client.{tell_answer_ranked, unrecorded, with_rank_of}
-use Rattle.task_state.specs.Replies.{after_code, is_changed, is_granted, is_queued, phase_after, phase_asking, recalled}
-use Rattle.task_state.specs.Replies.{replied, tell_all, tell_answer, tell_code, tell_control, tell_new, tell_untold}
-use Rattle.task_state.specs.Replies.{answered as answered_by, looked, goes_on_looking, next_asked, tell_rows}
-use Rattle.task_state.specs.View.{TasksView, code_in, is_sent, is_task, new_task, on_record, record_of, state_of}
-use Rattle.task_state.specs.View.{telling, with_last, with_last_by, with_line, with_phase, with_rank, without_first}
-use Rattle.task_state.specs.View.{with_rows}
-use Rattle.task_state.specs.declared.state.Asked.{Asked}
-use Rattle.task_state.specs.declared.state.Phase.{Phase}
-use Rattle.task_state.specs.declared.state.Phase.TheVariants as phases
-use Rattle.task_state.specs.declared.state.Rec.{Rec}
-use Rattle.task_state.specs.declared.state.Showing.{Showing}
-use Rattle.task_state.specs.declared.state.TaskState.{TaskState}
-use Rattle.task_state.proofs.ViewLaws.{is_task-telling, state_of-telling}
-use Rattle.grs_known.proofs.lists.Facts.{any-last, any-more}
-use Rattle.grs_known.proofs.lists.Owners.{is_among}
-use Rattle.grs_known.proofs.lists.Truths.{false_by, no_truth}
-use Rattle.grs_known.proofs.system.Did.{Did, did-after_code_deq, did-after_code_enq, did-after_code_release, did-line}
-use Rattle.grs_known.proofs.system.Did.{did-none, did-outstanding, did-phase, did-rows, did-shown, did-state}
-use Rattle.grs_known.proofs.system.Did.{did-telling}
+use Rattle.grs_world.proofs.Common.{[], ◌&&◌, ◌++◌, ◌+◌, ◌==◌, ◌||◌, ◌∙◌, ◌∷◌, ◌≡◌, ◌≢◌, after_code, and_from, Answer}
+use Rattle.grs_world.proofs.Common.{any-last, any-more, ap, ask, Asked, Bool, by_test, C00, C04, C08, C14, Code}
+use Rattle.grs_world.proofs.Common.{code_in, cond, controlled, Ctl, decide, Deq, Did, did-line, did-none}
+use Rattle.grs_world.proofs.Common.{did-outstanding, did-phase, did-rows, did-shown, did-telling, Display, End}
+use Rattle.grs_world.proofs.Common.{end_step, Enq, eqb-false, eqb-true, false, false_by, Filter, get_or}
+use Rattle.grs_world.proofs.Common.{goes_on_looking, has_res, is_among, is_distinct, is_for_all, is_granted, is_marked}
+use Rattle.grs_world.proofs.Common.{is_sent, is_systems, is_task, is_task-telling, List, Local, Look, look, look_around}
+use Rattle.grs_world.proofs.Common.{look_home, looked, looks_asked, Meaning, new_owners, new_task, no_truth, NodeState}
+use Rattle.grs_world.proofs.Common.{None, on_record, Option, Phase, phase_step, post, posted, ready_step, Rec, recalled}
+use Rattle.grs_world.proofs.Common.{record_of, refl, Release, replied, Res, res_wanted, Ret, Row, Rows, same_res}
+use Rattle.grs_world.proofs.Common.{same_res-exact, same_res-itself, same_Some, same_task, same_task-exact, show}
+use Rattle.grs_world.proofs.Common.{Showing, slice_get, Some, state_of, state_of-telling, Step, subst, suc, sym, SysId}
+use Rattle.grs_world.proofs.Common.{take_line, task_step, TaskId, TaskState, TasksView, tell_all, tell_answer}
+use Rattle.grs_world.proofs.Common.{tell_answer_ranked, tell_code, tell_control, tell_new, tell_rows, tell_untold}
+use Rattle.grs_world.proofs.Common.{telling, ToldLine, true, unrecorded, Wait, wait, Want, with_line, with_phase}
+use Rattle.grs_world.proofs.Common.{with_rank, with_rank_of, with_rows, with_tasks, zero, ℕ}
+use Rattle.grs_base.specs.declared.decision.Code.TheVariants.{C18}
+use Rattle.grs_wire.specs.declared.request.Answer.TheVariants.{Coded as CodedAnswer}
+use Rattle.task_state.specs.Replies.{is_changed, is_queued, phase_after, phase_asking, answered as answered_by}
+use Rattle.task_state.specs.Replies.{next_asked}
+use Rattle.task_state.specs.View.{with_last, with_last_by, without_first}
+use Rattle.grs_known.proofs.system.Did.{did-after_code_deq, did-after_code_enq, did-after_code_release, did-state}
 use Rattle.grs_known.proofs.tasks.Asked.{told_after}
 use Rattle.grs_known.proofs.tasks.Decided.{enq_records}
-use Rattle.grs_known.proofs.tasks.Invariant.{has_res, is_distinct}
 use Rattle.grs_known.proofs.tasks.Keys.{gone-without}
 use Rattle.grs_known.proofs.tasks.Records.{found_has}
-use Rattle.grs_known.proofs.records.Control.{Controlled, controlled, hears-has, hears-marked, hears-marks, hears-phase}
-use Rattle.grs_known.proofs.records.Marks.{is_marked}
+use Rattle.grs_known.proofs.records.Control.{Controlled, hears-has, hears-marked, hears-marks, hears-phase}
 use Rattle.grs_world.proofs.star.Heard.{grants}
+use Rattle.grs_base.specs.declared.resource.Ctl.TheVariants as ctls
+use Rattle.grs_legal.specs.declared.meaning.Meaning.TheVariants as lines
+use Rattle.grs_wire.specs.declared.told.Verb.TheVariants as verbs
+use Rattle.grs_wire.specs.declared.told.ToldLine.TheVariants as told
+use Rattle.task_state.specs.declared.state.Phase.TheVariants as phases
 
 -- ---- tasks that lose nothing
 -- From one state to another no request becomes a sent one, and of the resources of the whole complex the same are on

@@ -1,22 +1,11 @@
 -- What is heard of the mails of an inbox: where more come behind them, and where none answers a task.
-use Rattle.std.proofs.Common.{inl, inr, ◌≡◌, Bool, true, false, cond, not, ◌&&◌, ◌||◌, ℕ, List, [], ◌∷◌, ◌++◌, refl, ap}
-use Rattle.std.proofs.Common.{sym, ◌∙◌, subst, append_assoc}
-use Rattle.std.specs.Prelude.{nat_le, ◌⊎◌}
-use Rattle.std.specs.List.{list_any}
-use Rattle.std.proofs.lemmas.Bool.{and_from, or_left, or_right}
-use Rattle.grs_base.specs.Limits.{last_number}
-use Rattle.grs_base.specs.Same.{same_res, same_task}
-use Rattle.grs_base.specs.declared.resource.Res.{Res}
-use Rattle.grs_base.specs.declared.resource.TaskId.{TaskId}
-use Rattle.grs_base.proofs.SameLaws.{same_res-itself, same_task-itself}
+use Rattle.grs_world.proofs.Common.{[], ◌&&◌, ◌++◌, ◌||◌, ◌∙◌, ◌∷◌, ◌≡◌, and_from, Answer, Answered, ap, append_assoc}
+use Rattle.grs_world.proofs.Common.{askers, Bool, cond, Deck, false, Granted, inl, inr, is_among, last_number, List}
+use Rattle.grs_world.proofs.Common.{list_any, Mail, nat_le, not, Notice, or_left, or_right, Part, refl, Req, Res}
+use Rattle.grs_world.proofs.Common.{same_res, same_res-itself, same_task, same_task-itself, subst, sym, TaskId, true, ℕ}
+use Rattle.std.specs.Prelude.{◌⊎◌}
 use Rattle.grs_known.specs.Known.{is_answer_to}
-use Rattle.grs_known.proofs.lists.Owners.{is_among}
-use Rattle.grs_known.proofs.system.Says.{askers}
-use Rattle.grs_wire.specs.declared.deck.Deck.{Deck}
-use Rattle.grs_wire.specs.declared.medium.Mail.{Mail}
-use Rattle.grs_wire.specs.declared.medium.Mail.TheVariants.{Request, Answered, Granted, Notice, Part}
-use Rattle.grs_wire.specs.declared.request.Answer.{Answer}
-use Rattle.grs_wire.specs.declared.request.Req.{Req}
+use Rattle.grs_wire.specs.declared.medium.Mail.TheVariants.{Request}
 use Rattle.grs_world.proofs.star.Heard.{AreAddressed, grants, hears, is_timely}
 use Rattle.grs_world.proofs.star.Systems.{news_of, requests_in}
 

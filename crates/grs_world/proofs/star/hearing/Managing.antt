@@ -1,23 +1,11 @@
 -- A manager decides a request by its lists of the entry, which are what all lists have of it: whom it has still to tell
 -- then.
-use Rattle.std.proofs.Common.{◌≡◌, ◌≢◌, ◌≤◌, ℕ, suc, Bool, true, false, not, ◌&&◌, List, [], ◌∷◌, ◌++◌, length, Some}
-use Rattle.std.proofs.Common.{refl, ap, sym, ◌∙◌, subst, arith}
-use Rattle.std.specs.Prelude.{is_some}
-use Rattle.std.proofs.lemmas.Bool.{ne_eqb}
+use Rattle.grs_world.proofs.Common.{[], ◌&&◌, ◌++◌, ◌∙◌, ◌∷◌, ◌≡◌, ◌≢◌, ◌≤◌, after_request, after_want, Alike, ap}
+use Rattle.grs_world.proofs.Common.{arith, Bool, Deck, entry_of_res, entry_wanted, false, is_entry, is_some, items_of}
+use Rattle.grs_world.proofs.Common.{length, List, list_of, Managed, managed_at, ne_eqb, not, owns, plain, refl, Res}
+use Rattle.grs_world.proofs.Common.{RunItem, same_task, Some, StarPart, State, subst, suc, sym, TaskId, true, Want, ℕ}
 use Rattle.contention_mgr.specs.Laws.{is_elsewhere, owns_by}
-use Rattle.contention_mgr.specs.Manager.{Managed, after_request, entry_wanted, items_of, managed_at, plain}
-use Rattle.lock_structure.specs.Entries.{entry_of_res, is_entry}
-use Rattle.grs_base.specs.Lists.{owns}
-use Rattle.grs_base.specs.Same.{same_task}
-use Rattle.grs_base.specs.State.{State, list_of}
-use Rattle.grs_base.specs.declared.resource.Res.{Res}
-use Rattle.grs_base.specs.declared.resource.TaskId.{TaskId}
-use Rattle.grs_node.specs.Star.{StarPart}
-use Rattle.grs_wire.specs.Wants.{after_want}
-use Rattle.grs_wire.specs.declared.deck.Deck.{Deck}
-use Rattle.grs_wire.specs.declared.request.Want.{Want}
-use Rattle.grs_known.specs.Items.{RunItem}
-use Rattle.grs_known.proofs.lists.Alike.{Alike, alike-want}
+use Rattle.grs_known.proofs.lists.Alike.{alike-want}
 use Rattle.grs_world.proofs.star.Heard.{enq_count, is_enq, is_enq_want}
 use Rattle.grs_world.proofs.star.Members.{IsPart}
 use Rattle.grs_world.proofs.star.Under.{entry-same, in_entry, list-under, res-entry, under, under-want}

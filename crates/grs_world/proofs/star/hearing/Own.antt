@@ -1,27 +1,11 @@
 -- What is still to be heard of a system's own tasks, where its inbox stays as it is; and the events that leave all
 -- mail, what the system holds, and the lists of the resources of the whole complex.
-use Rattle.std.proofs.Common.{inl, inr, ◌≡◌, ◌≢◌, ◌≤◌, ℕ, suc, Bool, true, List, [], ◌++◌, Some, ap, sym, ◌∙◌, subst}
-use Rattle.std.proofs.Common.{append-nil}
+use Rattle.grs_world.proofs.Common.{[], ◌++◌, ◌∙◌, ◌≡◌, ◌≢◌, ◌≤◌, ap, append-nil, askers, Bool, Deck, fixed_by, has}
+use Rattle.grs_world.proofs.Common.{has_res, has_task, inbox, inl, inr, is_among, is_home_at, is_systems, items, List}
+use Rattle.grs_world.proofs.Common.{list_any, list_of, Managed, managed_at, no_truth, NodeState, owns, placed, put_here}
+use Rattle.grs_world.proofs.Common.{Res, RunItem, same_Some, Some, StarPart, state_of, subst, suc, sym, SysId, TaskId}
+use Rattle.grs_world.proofs.Common.{true, Turnout, World, ℕ}
 use Rattle.std.specs.Prelude.{◌⊎◌}
-use Rattle.std.specs.List.{list_any}
-use Rattle.std.proofs.lemmas.Option.{same_Some}
-use Rattle.contention_mgr.specs.Manager.{Managed, managed_at}
-use Rattle.grs_base.specs.Lists.{has_task, owns}
-use Rattle.grs_base.specs.State.{is_systems, list_of}
-use Rattle.grs_base.specs.declared.resource.Res.{Res}
-use Rattle.grs_base.specs.declared.resource.SysId.{SysId}
-use Rattle.grs_base.specs.declared.resource.TaskId.{TaskId}
-use Rattle.grs_medium.specs.Medium.{inbox}
-use Rattle.grs_node.specs.Node.{NodeState}
-use Rattle.grs_node.specs.Star.{StarPart}
-use Rattle.grs_wire.specs.declared.deck.Deck.{Deck}
-use Rattle.task_state.specs.View.{state_of}
-use Rattle.grs_known.specs.Items.{RunItem, items}
-use Rattle.grs_known.proofs.lists.Owners.{is_among}
-use Rattle.grs_known.proofs.lists.Placed.{put_here}
-use Rattle.grs_known.proofs.lists.Truths.{no_truth}
-use Rattle.grs_known.proofs.system.Says.{askers, is_home_at}
-use Rattle.grs_known.proofs.tasks.Invariant.{has_res}
 use Rattle.grs_world.proofs.star.Heard.{AreAddressed, IsHeard, enq_count, had_by, had_with, hears, is_timely, sent_by}
 use Rattle.grs_world.proofs.star.Heard.{sent_with, StaysHeard}
 use Rattle.grs_world.proofs.star.Members.{all_lists}
@@ -30,8 +14,6 @@ use Rattle.grs_world.proofs.star.Worlds.{IsWhole, in_hands}
 use Rattle.grs_world.proofs.star.hearing.Gentle.{Gentle, GentleTo}
 use Rattle.grs_world.proofs.star.hearing.Passing.{Grown, Hearable, Requested, handed-here, handed-own, heard-placed}
 use Rattle.grs_world.proofs.star.hearing.Passing.{is_untold_by, lists_then, untold-here, untold-own}
-use Rattle.grs_world.specs.World.{World, Turnout, fixed_by, placed}
-use Rattle.grs_wire.specs.Masks.{has}
 use Rattle.grs_world.proofs.run.Site.{Site}
 
 module _ (deck : Deck) (w : World) (g : IsWhole deck w) (c : SysId) (n : NodeState) (at : Site w c.0 n) (o : Turnout)

@@ -1,43 +1,23 @@
 -- What an event of one system has to show for what is still to be heard, beside what is the same for all events: that
 -- of its own tasks, and of what was in its hands; and that nothing is lost then.
-use Rattle.std.proofs.Common.{inl, inr, ◌≡◌, ◌≢◌, ◌≤◌, ℕ, suc, Bool, true, false, cond, ◌&&◌, ◌||◌, List, [], ◌∷◌, ◌++◌}
-use Rattle.std.proofs.Common.{length, Some, refl, ap, sym, ◌∙◌, subst, arith, append-nil, ◌<◌}
-use Rattle.std.specs.Prelude.{◌⊎◌, ◌==◌, filter, slice_get}
-use Rattle.std.specs.List.{list_any}
-use Rattle.std.proofs.lemmas.Bool.{and_parts, eqb-true, eqb-false}
-use Rattle.std.proofs.lemmas.Option.{same_Some}
-use Rattle.contention_mgr.specs.Manager.{Managed, is_of, items_of, managed_at, managed_of}
-use Rattle.grs_base.specs.Lists.{has_task, owns}
-use Rattle.grs_base.specs.Same.{same_task}
-use Rattle.grs_base.specs.State.{State, is_systems, list_of}
-use Rattle.grs_base.specs.declared.resource.Res.{Res}
-use Rattle.grs_base.specs.declared.resource.SysId.{SysId}
-use Rattle.grs_base.specs.declared.resource.TaskId.{TaskId}
-use Rattle.grs_base.proofs.SameLaws.{same_task-exact}
-use Rattle.grs_medium.specs.Medium.{inbox}
-use Rattle.grs_node.specs.Node.{NodeState}
-use Rattle.grs_node.specs.Star.{StarPart}
-use Rattle.grs_wire.specs.declared.deck.Deck.{Deck}
-use Rattle.grs_wire.specs.declared.medium.Mail.{Mail}
-use Rattle.grs_wire.specs.declared.request.Req.{Req}
-use Rattle.task_state.specs.View.{state_of}
-use Rattle.grs_known.specs.Items.{RunItem, items, items_from, lists, mine}
-use Rattle.grs_known.proofs.known.Histories.{items-append}
-use Rattle.grs_known.proofs.lists.Owners.{is_among}
-use Rattle.grs_known.proofs.lists.Placed.{put_here, put_other}
-use Rattle.grs_known.proofs.system.Says.{askers, is_home_at}
-use Rattle.grs_known.proofs.tasks.Invariant.{has_res}
+use Rattle.grs_world.proofs.Common.{[], ◌&&◌, ◌++◌, ◌<◌, ◌==◌, ◌||◌, ◌∙◌, ◌∷◌, ◌≡◌, ◌≢◌, ◌≤◌, and_parts, ap, append-nil}
+use Rattle.grs_world.proofs.Common.{arith, askers, Bool, cond, Deck, eqb-false, eqb-true, false, filter, fixed_by, has}
+use Rattle.grs_world.proofs.Common.{has_res, has_task, inbox, inbox_of, inl, inr, is_among, is_home_at, is_systems}
+use Rattle.grs_world.proofs.Common.{items, items-append, items_from, items_of, length, List, list_any, list_of, lists}
+use Rattle.grs_world.proofs.Common.{Mail, Managed, managed_at, managed_of, mine, NodeState, owns, placed, put_here}
+use Rattle.grs_world.proofs.Common.{put_other, refl, Req, Res, RunItem, same_Some, same_task, same_task-exact}
+use Rattle.grs_world.proofs.Common.{slice_get, Some, StarPart, State, state_of, subst, suc, sym, SysId, TaskId, true}
+use Rattle.grs_world.proofs.Common.{Turnout, with_mail, World, ℕ}
+use Rattle.std.specs.Prelude.{◌⊎◌}
+use Rattle.contention_mgr.specs.Manager.{is_of}
 use Rattle.grs_world.proofs.star.Heard.{AreAddressed, IsHeard, IsInHands, IsUntold, enq_count, had_by, had_with, hears}
 use Rattle.grs_world.proofs.star.Heard.{is_enq, is_timely, sent_by, sent_with, IsAddressed}
 use Rattle.grs_world.proofs.star.Members.{all_lists}
 use Rattle.grs_world.proofs.star.Worlds.{AllHands, IsHand, IsWhole, in_hands, are_live}
 use Rattle.grs_world.proofs.star.hearing.Elements.{IsDueOn, due-sent, recorded-or-due}
 use Rattle.grs_world.proofs.star.hearing.Mails.{addressed-grown, among-grown, any-grown, hears-grown}
-use Rattle.grs_world.specs.World.{World, Turnout, fixed_by, placed}
-use Rattle.grs_wire.specs.Masks.{has}
 use Rattle.grs_world.proofs.run.Site.{Site, own-site, other-site, each_site}
 use Rattle.grs_world.proofs.star.Boxes.{by_box}
-use Rattle.grs_medium.specs.Inboxes.{inbox_of, with_mail}
 
 -- more mails came to an inbox, each under its entry
 abbrev pub Grown : Deck → List Mail → List Mail → Type 0

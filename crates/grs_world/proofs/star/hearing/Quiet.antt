@@ -1,30 +1,12 @@
 -- Events that leave all mail: nothing happens, a task goes on by itself, or a system gives up its interest in an entry.
-use Rattle.std.proofs.Common.{◌≡◌, ◌≤◌, ℕ, suc, true, false, ◌&&◌, List, [], ◌∷◌, ◌++◌, length, Some, refl, ap, sym}
-use Rattle.std.proofs.Common.{◌∙◌, subst, arith}
-use Rattle.std.specs.Prelude.{◌==◌}
-use Rattle.std.proofs.lemmas.Bool.{and_parts}
-use Rattle.contention_mgr.specs.Manager.{Managed, items_of, managed_at}
-use Rattle.grs_base.specs.Same.{same_res}
-use Rattle.grs_base.specs.State.{is_systems, list_of, State}
-use Rattle.grs_base.specs.declared.resource.Res.{Res}
-use Rattle.grs_base.specs.declared.resource.SysId.{SysId}
-use Rattle.grs_base.specs.declared.resource.TaskId.{TaskId}
-use Rattle.grs_base.proofs.SameLaws.{same_res-exact}
-use Rattle.grs_legal.specs.Asks.{lines_of}
-use Rattle.grs_medium.specs.Inboxes.{inbox_of}
-use Rattle.grs_medium.specs.Medium.{MediumState, inbox}
-use Rattle.grs_node.specs.Node.{NodeState, is_of_deck, goes_on, may_go, task_step}
-use Rattle.grs_node.specs.Star.{StarPart, left_at, is_done_with}
-use Rattle.grs_wire.specs.declared.deck.Deck.{Deck}
-use Rattle.grs_wire.specs.declared.request.Fixed.TheVariants as fixing
-use Rattle.grs_wire.specs.declared.request.Want.{Want}
-use Rattle.grs_wire.specs.declared.request.Want.TheVariants.{Enq, Deq, Release, Look}
+use Rattle.grs_world.proofs.Common.{[], ◌&&◌, ◌++◌, ◌==◌, ◌∙◌, ◌∷◌, ◌≡◌, ◌≤◌, after_fixed, and_parts, ap, arith, Deck}
+use Rattle.grs_world.proofs.Common.{Deq, Enq, false, false_by, Fixed, fixed_by, goes_on, goes_round, inbox, inbox_of}
+use Rattle.grs_world.proofs.Common.{is_done_with, is_of_deck, is_systems, is_task, items, items_of, left_at, length}
+use Rattle.grs_world.proofs.Common.{lines_of, List, list_of, lists, lists-push, Look, made_item, Managed, managed_at}
+use Rattle.grs_world.proofs.Common.{may_go, MediumState, no_truth, NodeState, placed, refl, Release, Res, RunItem}
+use Rattle.grs_world.proofs.Common.{same_res, same_res-exact, Some, StarPart, State, state_of, subst, suc, sym, SysId}
+use Rattle.grs_world.proofs.Common.{task_step, TaskId, true, Want, wants_round, World, ℕ}
 use Rattle.grs_wire.proofs.WantLaws.{list_of-want_other, speaks_of}
-use Rattle.task_state.specs.View.{is_task, state_of}
-use Rattle.grs_known.specs.Items.{RunItem, items, lists, wants_round, goes_round}
-use Rattle.grs_known.proofs.known.Histories.{made_item}
-use Rattle.grs_known.proofs.known.ItemLaws.{lists-push}
-use Rattle.grs_known.proofs.lists.Truths.{false_by, no_truth}
 use Rattle.grs_world.proofs.star.Heard.{StaysHeard, enq_count}
 use Rattle.grs_world.proofs.star.Members.{IsMember, all_lists}
 use Rattle.grs_world.proofs.star.OwnEvents.{Task, idle_task, local_task}
@@ -34,10 +16,8 @@ use Rattle.grs_world.proofs.star.hearing.Gains.{giving-next, giving-untold}
 use Rattle.grs_world.proofs.star.hearing.Gentle.{Gentle, gentle-none, gentle-task}
 use Rattle.grs_world.proofs.star.hearing.Own.{Holds, heard-calm}
 use Rattle.grs_world.proofs.star.hearing.Passing.{enq_count-grown}
-use Rattle.grs_world.specs.World.{World, fixed_by, placed}
-use Rattle.grs_wire.specs.declared.request.Fixed.{Fixed}
-use Rattle.grs_wire.specs.History.{after_fixed}
 use Rattle.grs_world.proofs.run.Site.{Site}
+use Rattle.grs_wire.specs.declared.request.Fixed.TheVariants as fixing
 
 -- the same part
 pub holds-same : (p : StarPart) (T T' : List RunItem) → enq_count T ≤ enq_count T'

@@ -1,35 +1,12 @@
 -- A system sends a request of its own task to the manager of its entry: it is in that system's hands.
-use Rattle.std.proofs.Common.{inl, inr, ◌≡◌, ◌≢◌, ◌≤◌, ◌<◌, ℕ, suc, Bool, true, false, List, [], ◌∷◌, ◌++◌, length}
-use Rattle.std.proofs.Common.{Some, refl, ap, sym, ◌∙◌, subst, arith}
-use Rattle.std.specs.Prelude.{◌==◌, get_or}
-use Rattle.std.proofs.lemmas.Bool.{eqb-true, eqb-false, or_left}
-use Rattle.std.proofs.lemmas.Option.{same_Some}
-use Rattle.contention_mgr.specs.Manager.{ManagerView, entry_wanted, managed_at}
-use Rattle.grs_base.specs.Lists.{has_task, owns}
-use Rattle.grs_base.specs.Same.{same_task}
-use Rattle.grs_base.specs.State.{list_of}
-use Rattle.grs_base.specs.declared.resource.Res.{Res}
-use Rattle.grs_base.specs.declared.resource.SysId.{SysId}
-use Rattle.grs_base.specs.declared.resource.TaskId.{TaskId}
-use Rattle.grs_base.proofs.SameLaws.{same_task-exact, same_task-itself}
-use Rattle.grs_medium.specs.Inboxes.{with_mail}
-use Rattle.grs_medium.specs.Medium.{MediumState, inbox}
-use Rattle.grs_node.specs.Node.{NodeState}
-use Rattle.grs_node.specs.Star.{StarPart, request_of}
-use Rattle.grs_wire.specs.declared.deck.Deck.{Deck}
-use Rattle.grs_wire.specs.declared.medium.Mail.{Mail}
+use Rattle.grs_world.proofs.Common.{[], ◌++◌, ◌<◌, ◌==◌, ◌∙◌, ◌∷◌, ◌≡◌, ◌≢◌, ◌≤◌, ap, arith, Asked, askers, Bool, Deck}
+use Rattle.grs_world.proofs.Common.{entry_wanted, eqb-false, eqb-true, false, fixed_by, get_or, has_res, has_task}
+use Rattle.grs_world.proofs.Common.{inbox, inl, inr, is_among, is_home_at, is_marked, is_sent, is_task, items, length}
+use Rattle.grs_world.proofs.Common.{List, list_of, lists, Mail, managed_at, ManagerView, MediumState, no_truth}
+use Rattle.grs_world.proofs.Common.{NodeState, or_left, owns, placed, refl, request_of, Res, same_place, same_Some}
+use Rattle.grs_world.proofs.Common.{same_task, same_task-exact, same_task-itself, Some, StarPart, state_of, subst, suc}
+use Rattle.grs_world.proofs.Common.{sym, SysId, TaskId, TaskState, true, Turnout, with_mail, with_phase, World, ℕ}
 use Rattle.grs_wire.specs.declared.medium.Mail.TheVariants.{Request}
-use Rattle.task_state.specs.View.{is_sent, is_task, state_of, with_phase}
-use Rattle.task_state.specs.declared.state.Asked.{Asked}
-use Rattle.task_state.specs.declared.state.Phase.TheVariants as phases
-use Rattle.task_state.specs.declared.state.TaskState.{TaskState}
-use Rattle.grs_known.specs.Items.{items, lists}
-use Rattle.grs_known.proofs.lists.Owners.{is_among}
-use Rattle.grs_known.proofs.lists.Truths.{no_truth}
-use Rattle.grs_known.proofs.system.Ours.{same_place}
-use Rattle.grs_known.proofs.system.Says.{askers, is_home_at}
-use Rattle.grs_known.proofs.tasks.Invariant.{has_res}
-use Rattle.grs_known.proofs.records.Marks.{is_marked}
 use Rattle.grs_world.proofs.star.Heard.{IsInHands, StaysHeard, enq_count}
 use Rattle.grs_world.proofs.star.Members.{all_lists}
 use Rattle.grs_world.proofs.star.Systems.{ours, requests_in}
@@ -38,9 +15,9 @@ use Rattle.grs_world.proofs.star.hearing.Gentle.{phase-others, phase-records}
 use Rattle.grs_world.proofs.star.hearing.Mails.{among-last, requests-grown}
 use Rattle.grs_world.proofs.star.hearing.Own.{hands-kept, own-addressed, owner-by, request-kept}
 use Rattle.grs_world.proofs.star.hearing.Passing.{Grown, Requested, heard-placed, is_untold_by, untold-here, box-grown}
-use Rattle.grs_world.specs.World.{World, Turnout, fixed_by, placed}
 use Rattle.grs_world.proofs.run.Site.{Site, site-below, other-site}
 use Rattle.grs_world.proofs.star.Boxes.{its-box, other-box}
+use Rattle.task_state.specs.declared.state.Phase.TheVariants as phases
 
 module _ (deck : Deck) (w : World) (g : IsWhole deck w) (c : SysId) (n : NodeState) (at : Site w c.0 n) (words : List ℕ)
     (flags : ℕ) (t : TaskId) (home : is_home_at deck c.0 t ≡ true) (here : is_task n.tasks t ≡ true) (a : Asked)

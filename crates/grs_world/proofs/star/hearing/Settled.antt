@@ -1,42 +1,17 @@
 -- A manager settles a request of another system: the asker's answer comes, own tasks that became owners are told, and
 -- those of other systems are still to be told.
-use Rattle.std.proofs.Common.{inl, inr, ◌≡◌, ◌≢◌, ◌≤◌, ℕ, suc, Bool, true, false, ◌||◌, List, [], ◌∷◌, ◌++◌, Option}
-use Rattle.std.proofs.Common.{Some, None, refl, ap, sym, ◌∙◌, subst, arith, ◌<◌, length}
-use Rattle.std.specs.Prelude.{◌⊎◌, ◌==◌, drop, is_some, nat_le}
-use Rattle.std.specs.List.{list_any}
-use Rattle.std.proofs.lemmas.Bool.{and_from, and_parts, eqb-true}
-use Rattle.std.proofs.lemmas.Option.{same_Some}
-use Rattle.contention_mgr.specs.Manager.{Managed, after_request, entry_wanted, kept_for, managed_at, managed_for}
-use Rattle.lock_structure.specs.Entries.{entry_of_res}
-use Rattle.grs_base.specs.Limits.{last_number}
-use Rattle.grs_base.specs.Lists.{has_task, owns}
-use Rattle.grs_base.specs.Same.{same_task}
-use Rattle.grs_base.specs.State.{is_systems, list_of}
-use Rattle.grs_base.specs.declared.resource.Res.{Res}
-use Rattle.grs_base.specs.declared.resource.SysId.{SysId}
-use Rattle.grs_base.specs.declared.resource.TaskId.{TaskId}
-use Rattle.grs_base.proofs.SameLaws.{same_task-exact, same_task-itself}
-use Rattle.grs_medium.specs.Inboxes.{with_mail}
-use Rattle.grs_medium.specs.Medium.{MediumState, inbox}
-use Rattle.grs_node.specs.Node.{NodeState}
-use Rattle.grs_node.specs.Star.{StarPart, owners_by, rank_of}
-use Rattle.grs_wire.specs.Wants.{after_want, answer_to, new_owners, res_wanted}
-use Rattle.grs_wire.specs.declared.deck.Deck.{Deck}
-use Rattle.grs_wire.specs.declared.medium.Mail.{Mail}
-use Rattle.grs_wire.specs.declared.medium.Mail.TheVariants.{Answered}
-use Rattle.grs_wire.specs.declared.request.Fixed.TheVariants as fixing
-use Rattle.grs_wire.specs.declared.request.Req.{Req}
-use Rattle.task_state.specs.Replies.{tell_new}
-use Rattle.task_state.specs.View.{state_of}
-use Rattle.grs_known.specs.Items.{RunItem, items, lists, mine}
-use Rattle.grs_known.proofs.known.Histories.{made_item}
-use Rattle.grs_known.proofs.known.ItemLaws.{lists-push}
-use Rattle.grs_known.proofs.lists.All.{owns-has}
-use Rattle.grs_known.proofs.lists.Facts.{any-last}
-use Rattle.grs_known.proofs.lists.Owners.{is_among}
-use Rattle.grs_known.proofs.lists.Truths.{false_by, no_truth, task_swap}
-use Rattle.grs_known.proofs.system.Says.{askers, is_home_at}
-use Rattle.grs_known.proofs.tasks.Invariant.{has_res}
+use Rattle.grs_world.proofs.Common.{[], ◌++◌, ◌<◌, ◌==◌, ◌||◌, ◌∙◌, ◌∷◌, ◌≡◌, ◌≢◌, ◌≤◌, after_request, after_want}
+use Rattle.grs_world.proofs.Common.{and_from, and_parts, answer_to, Answered, any-last, ap, arith, askers, Bool, Deck}
+use Rattle.grs_world.proofs.Common.{entry_of_res, entry_wanted, eqb-true, false, false_by, fixed_by, has, has_res}
+use Rattle.grs_world.proofs.Common.{has_task, inbox, inl, inr, is_among, is_home_at, is_some, is_systems, items}
+use Rattle.grs_world.proofs.Common.{kept_for, last_number, length, List, list_any, list_of, lists, lists-push}
+use Rattle.grs_world.proofs.Common.{made_item, Mail, Managed, managed_at, MediumState, mine, nat_le, new_owners}
+use Rattle.grs_world.proofs.Common.{no_truth, NodeState, None, Option, owners_by, owns, owns-has, placed, rank_of, refl}
+use Rattle.grs_world.proofs.Common.{Req, Res, res_wanted, RunItem, same_Some, same_task, same_task-exact}
+use Rattle.grs_world.proofs.Common.{same_task-itself, Some, StarPart, state_of, subst, suc, sym, SysId, task_swap}
+use Rattle.grs_world.proofs.Common.{TaskId, tell_new, true, Turnout, with_mail, World, ℕ}
+use Rattle.std.specs.Prelude.{◌⊎◌, drop}
+use Rattle.contention_mgr.specs.Manager.{managed_for}
 use Rattle.grs_world.proofs.star.Heard.{StaysHeard, enq_count, had_by, hears, is_timely}
 use Rattle.grs_world.proofs.star.Members.{IsPart}
 use Rattle.grs_world.proofs.star.Systems.{requests_in}
@@ -50,10 +25,9 @@ use Rattle.grs_world.proofs.star.hearing.Managing.{gained-then, next-then, untol
 use Rattle.grs_world.proofs.star.hearing.Own.{own-addressed, owner-kept, request-kept}
 use Rattle.grs_world.proofs.star.hearing.Passing.{Grown, Hearable, Requested, enq_count-grown, handed-here}
 use Rattle.grs_world.proofs.star.hearing.Passing.{heard-placed, is_untold_by, untold-here, box-grown}
-use Rattle.grs_world.specs.World.{World, Turnout, fixed_by, placed}
-use Rattle.grs_wire.specs.Masks.{has}
 use Rattle.grs_world.proofs.run.Site.{Site, own-site}
 use Rattle.grs_world.proofs.star.Boxes.{its-box, other-box}
+use Rattle.grs_wire.specs.declared.request.Fixed.TheVariants as fixing
 
 module _ (deck : Deck) (w : World) (g : IsWhole deck w) (c : SysId) (n : NodeState) (at : Site w c.0 n) (p : StarPart)
     (star : n.star ≡ Some p) (fits : IsPart deck w.medium.words (lists (items w.fixed)) c.0 p) (q : Req) (qs : List Req)

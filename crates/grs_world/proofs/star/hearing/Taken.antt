@@ -1,54 +1,25 @@
 -- A system takes the first mail of its inbox: a request is held, an answer makes the record that is due, and control
 -- marks one.
-use Rattle.std.proofs.Common.{inl, inr, ◌≡◌, ◌≢◌, ◌≤◌, ℕ, suc, Bool, true, false, cond, ◌&&◌, ◌||◌, List, [], ◌∷◌, ◌++◌}
-use Rattle.std.proofs.Common.{length, Some, refl, ap, sym, ◌∙◌, subst, append-nil, append_assoc, arith}
-use Rattle.std.specs.Prelude.{◌⊎◌, ◌==◌, drop, get_or, is_some, nat_le, nat_lt}
-use Rattle.std.specs.List.{list_any}
-use Rattle.std.proofs.lemmas.Bool.{and_from, and_parts, and_right, eq-eqb, or_left, or_right}
-use Rattle.std.proofs.lemmas.Bool.Decides.{nat_tests}
-use Rattle.std.proofs.lemmas.Option.{same_Some}
-use Rattle.contention_mgr.specs.Manager.{ManagerView, entry_wanted, managed_at}
-use Rattle.lock_structure.specs.Entries.{is_entry}
-use Rattle.grs_base.specs.Limits.{last_number}
-use Rattle.grs_base.specs.Lists.{can_have, deq_code, enq_decision, has_task, owns, standing_of}
-use Rattle.grs_base.specs.Same.{same_res, same_task}
-use Rattle.grs_base.specs.State.{State, is_systems, list_of}
-use Rattle.grs_base.specs.declared.decision.Code.{Code}
-use Rattle.grs_base.specs.declared.decision.Code.TheVariants.{C00, C04, C08, C14, C18, Wait, End}
+use Rattle.grs_world.proofs.Common.{[], ◌&&◌, ◌++◌, ◌==◌, ◌||◌, ◌∙◌, ◌∷◌, ◌≡◌, ◌≢◌, ◌≤◌, after_mail, and_from}
+use Rattle.grs_world.proofs.Common.{and_parts, and_right, Answer, answer_to, Answered, ap, append-nil, append_assoc}
+use Rattle.grs_world.proofs.Common.{arith, Asked, askers, Bool, C00, C04, C08, C14, Code, cond, Deck, Deq, End, Enq}
+use Rattle.grs_world.proofs.Common.{entry_for, entry_wanted, eq-eqb, false, false_by, fixed_by, get_or, Granted, has}
+use Rattle.grs_world.proofs.Common.{has_effect, has_res, has_task, inbox, inl, inr, is_among, is_entry, is_for_deck}
+use Rattle.grs_world.proofs.Common.{is_home_at, is_marked, is_of_deck, is_sent, is_some, is_systems, is_task}
+use Rattle.grs_world.proofs.Common.{is_task-system, items, last_number, length, lines_of, List, list_any, list_of}
+use Rattle.grs_world.proofs.Common.{lists, Look, Mail, managed_at, ManagerView, manages, MediumState, nat_le, nat_lt}
+use Rattle.grs_world.proofs.Common.{nat_tests, no_truth, NodeState, or_left, or_right, owns, owns-has, placed, refl}
+use Rattle.grs_world.proofs.Common.{Release, Req, Res, res_wanted, Ret, same_res, same_res-exact, same_Some, same_task}
+use Rattle.grs_world.proofs.Common.{same_task-exact, Some, standing_of, StarPart, State, state_of, subst, suc, sym}
+use Rattle.grs_world.proofs.Common.{SysId, TaskId, TaskState, TasksView, tell_answer_any_ranked, tell_answer_ranked}
+use Rattle.grs_world.proofs.Common.{tell_control, true, Turnout, Wait, Want, without_first, World, ℕ}
+use Rattle.std.specs.Prelude.{◌⊎◌, drop}
+use Rattle.grs_base.specs.Lists.{can_have, deq_code, enq_decision}
+use Rattle.grs_base.specs.declared.decision.Code.TheVariants.{C18}
 use Rattle.grs_base.specs.declared.decision.Standing.{Standing}
 use Rattle.grs_base.specs.declared.decision.Standing.TheVariants.{Exclusive, OnlyShared, AmongShared, Waits, Absent}
-use Rattle.grs_base.specs.declared.resource.Res.{Res}
-use Rattle.grs_base.specs.declared.resource.Ret.{Ret}
-use Rattle.grs_base.specs.declared.resource.SysId.{SysId}
-use Rattle.grs_base.specs.declared.resource.TaskId.{TaskId}
-use Rattle.grs_base.proofs.SameLaws.{same_res-exact, same_task-exact}
-use Rattle.grs_legal.specs.Asks.{lines_of}
-use Rattle.grs_medium.specs.Inboxes.{without_first}
-use Rattle.grs_medium.specs.Medium.{MediumState, inbox}
-use Rattle.grs_node.specs.Node.{NodeState, is_for_deck, is_of_deck}
-use Rattle.grs_node.specs.Star.{StarPart, entry_for, manages}
-use Rattle.grs_wire.specs.Wants.{answer_to, res_wanted}
-use Rattle.grs_wire.specs.declared.deck.Deck.{Deck}
-use Rattle.grs_wire.specs.declared.medium.Mail.{Mail}
-use Rattle.grs_wire.specs.declared.medium.Mail.TheVariants.{Request, Answered, Granted}
-use Rattle.grs_wire.specs.declared.request.Answer.{Answer}
-use Rattle.grs_wire.specs.declared.request.Req.{Req}
-use Rattle.grs_wire.specs.declared.request.Want.{Want}
-use Rattle.grs_wire.specs.declared.request.Want.TheVariants.{Enq, Deq, Release, Look}
-use Rattle.star_client.specs.Client.{after_mail, can_get, deq_codes, enq_codes, has_effect, has_sent, is_awaited}
-use Rattle.star_client.specs.Client.{is_code_of, same_code, tell_answer_any_ranked, tell_answer_ranked}
-use Rattle.task_state.specs.Replies.{tell_control}
-use Rattle.task_state.specs.View.{TasksView, is_sent, is_task, state_of}
-use Rattle.task_state.specs.declared.state.Asked.{Asked}
-use Rattle.task_state.specs.declared.state.TaskState.{TaskState}
-use Rattle.task_state.proofs.ViewLaws.{is_task-system}
-use Rattle.grs_known.specs.Items.{items, lists}
-use Rattle.grs_known.proofs.lists.All.{owns-has}
-use Rattle.grs_known.proofs.lists.Owners.{is_among}
-use Rattle.grs_known.proofs.lists.Truths.{false_by, no_truth}
-use Rattle.grs_known.proofs.system.Says.{askers, is_home_at}
-use Rattle.grs_known.proofs.tasks.Invariant.{has_res}
-use Rattle.grs_known.proofs.records.Marks.{is_marked}
+use Rattle.grs_wire.specs.declared.medium.Mail.TheVariants.{Request}
+use Rattle.star_client.specs.Client.{can_get, deq_codes, enq_codes, has_sent, is_awaited, is_code_of, same_code}
 use Rattle.grs_world.proofs.star.Heard.{AreAddressed, IsAddressed, StaysHeard, enq_count, grants, had_by, hears}
 use Rattle.grs_world.proofs.star.Heard.{is_timely}
 use Rattle.grs_world.proofs.star.Members.{IsPart, all_lists, has_manager}
@@ -64,8 +35,6 @@ use Rattle.grs_world.proofs.star.hearing.Mails.{hears-behind, hears-first, hears
 use Rattle.grs_world.proofs.star.hearing.Own.{own-owner, own-request}
 use Rattle.grs_world.proofs.star.hearing.Passing.{Grown, Hearable, Requested, handed-here, handed-own, heard-placed}
 use Rattle.grs_world.proofs.star.hearing.Passing.{is_untold_by, own-recorded-ready, untold-here, untold-own}
-use Rattle.grs_world.specs.World.{World, Turnout, fixed_by, placed}
-use Rattle.grs_wire.specs.Masks.{has}
 use Rattle.grs_world.proofs.star.Shown.{AreApart, can-show}
 use Rattle.grs_world.proofs.run.Site.{Site, site-below}
 use Rattle.grs_world.proofs.star.Boxes.{taken-box, untaken-box}

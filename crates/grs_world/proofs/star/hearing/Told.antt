@@ -1,30 +1,10 @@
 -- A manager tells an owner of another system: it hears that where it has a record, or its answer comes before.
-use Rattle.std.proofs.Common.{inl, inr, ◌≡◌, ◌≢◌, ◌≤◌, ◌<◌, ℕ, suc, Bool, true, false, ◌&&◌, [], ◌∷◌, ◌++◌, length}
-use Rattle.std.proofs.Common.{Some, refl, ap, sym, ◌∙◌, subst, arith}
-use Rattle.std.specs.Prelude.{◌==◌}
-use Rattle.std.proofs.lemmas.Bool.{and_parts, eqb-true}
-use Rattle.std.proofs.lemmas.Option.{same_Some}
-use Rattle.contention_mgr.specs.Manager.{after_telling, managed_at}
-use Rattle.grs_base.specs.Lists.{has_task, owns}
-use Rattle.grs_base.specs.Same.{same_res, same_task}
-use Rattle.grs_base.specs.State.{is_systems, list_of}
-use Rattle.grs_base.specs.declared.resource.Res.{Res}
-use Rattle.grs_base.specs.declared.resource.SysId.{SysId}
-use Rattle.grs_base.specs.declared.resource.TaskId.{TaskId}
-use Rattle.grs_base.proofs.SameLaws.{same_res-exact, same_task-exact}
-use Rattle.grs_medium.specs.Inboxes.{with_mail}
-use Rattle.grs_medium.specs.Medium.{MediumState, inbox}
-use Rattle.grs_node.specs.Node.{NodeState}
-use Rattle.grs_node.specs.Star.{StarPart}
-use Rattle.grs_wire.specs.declared.deck.Deck.{Deck}
-use Rattle.grs_wire.specs.declared.medium.Mail.TheVariants.{Granted}
-use Rattle.task_state.specs.View.{state_of}
-use Rattle.grs_known.specs.Items.{items, lists}
-use Rattle.grs_known.proofs.lists.All.{owns-has}
-use Rattle.grs_known.proofs.lists.Owners.{is_among}
-use Rattle.grs_known.proofs.lists.Truths.{no_truth}
-use Rattle.grs_known.proofs.system.Says.{askers, is_home_at}
-use Rattle.grs_known.proofs.tasks.Invariant.{has_res}
+use Rattle.grs_world.proofs.Common.{[], ◌&&◌, ◌++◌, ◌<◌, ◌==◌, ◌∙◌, ◌∷◌, ◌≡◌, ◌≢◌, ◌≤◌, after_telling, and_parts, ap}
+use Rattle.grs_world.proofs.Common.{arith, askers, Bool, Deck, eqb-true, false, fixed_by, Granted, has_res, has_task}
+use Rattle.grs_world.proofs.Common.{inbox, inl, inr, is_among, is_home_at, is_systems, items, length, list_of, lists}
+use Rattle.grs_world.proofs.Common.{managed_at, MediumState, no_truth, NodeState, owns, owns-has, placed, refl, Res}
+use Rattle.grs_world.proofs.Common.{same_res, same_res-exact, same_Some, same_task, same_task-exact, Some, StarPart}
+use Rattle.grs_world.proofs.Common.{state_of, subst, suc, sym, SysId, TaskId, true, Turnout, with_mail, World, ℕ}
 use Rattle.grs_world.proofs.star.Heard.{StaysHeard, enq_count, hears}
 use Rattle.grs_world.proofs.star.Members.{all_lists}
 use Rattle.grs_world.proofs.star.Worlds.{IsWhole, in_hands, items-none}
@@ -33,7 +13,6 @@ use Rattle.grs_world.proofs.star.hearing.Gentle.{gentle-none}
 use Rattle.grs_world.proofs.star.hearing.Mails.{hears-granted}
 use Rattle.grs_world.proofs.star.hearing.Own.{hands-kept, own-addressed, owner-kept, request-kept}
 use Rattle.grs_world.proofs.star.hearing.Passing.{Grown, Hearable, heard-placed, is_untold_by, untold-here, box-grown}
-use Rattle.grs_world.specs.World.{World, Turnout, fixed_by, placed}
 use Rattle.grs_world.proofs.run.Site.{Site}
 use Rattle.grs_world.proofs.star.Boxes.{its-box, other-box}
 

@@ -1,30 +1,22 @@
 -- A system's desk orders the change to star mode once more: it is told that there was one before. Or it orders the
 -- removal of a system that isn't there any more.
-use Rattle.std.proofs.Common.{◌≡◌, ◌+◌, ◌++◌, List, [], Some, ap, append-nil, false, refl, ◌∙◌}
-use Rattle.std.specs.List.{list_any}
+use Rattle.grs_world.proofs.Common.{[], ◌++◌, ◌+◌, ◌∙◌, ◌≡◌, ap, append-nil, Deck, desk_told, false, fixed_by, history}
+use Rattle.grs_world.proofs.Common.{inbox, items, List, list_any, next_order, NodeState, only, refl, removes, RunItem}
+use Rattle.grs_world.proofs.Common.{Said, Some, StarPart, SysId, World}
 use Rattle.grs_world.proofs.star.steps.Outcome.{Comes}
 use Rattle.grs_world.proofs.star.Worlds.{Hands, IsWhole, are_live, in_hands, items-none, none_fixed, whole-placed}
 use Rattle.grs_world.proofs.star.Systems.{IsSystem}
 use Rattle.grs_world.proofs.star.hearing.Gentle.{Gentle, gentle-line_told}
 use Rattle.grs_world.proofs.star.hearing.Quiet.{heard-still}
-use Rattle.grs_world.specs.World.{World, fixed_by}
 use Rattle.grs_world.proofs.system.Desks.{desk-at, desk-told}
 use Rattle.grs_world.proofs.run.Desks.{EventTells, tells_already, tells_no_such}
 use Rattle.grs_world.proofs.run.Purging.{target-fits}
 use Rattle.grs_world.proofs.run.Removals.{GoneAreRemoved}
-use Rattle.grs_wire.specs.History.{removes}
-use Rattle.grs_wire.specs.declared.deck.Deck.{Deck}
-use Rattle.grs_wire.specs.declared.told.Said.{Said}
-use Rattle.grs_wire.specs.declared.told.Said.TheVariants as saids
-use Rattle.grs_node.specs.Node.{NodeState, desk_told, next_order, only}
-use Rattle.grs_node.specs.Star.{StarPart}
-use Rattle.grs_base.specs.declared.resource.SysId.{SysId}
-use Rattle.grs_wire.specs.declared.deck.Order.TheVariants as orders
-use Rattle.grs_known.specs.Items.{RunItem, history, items}
 use Rattle.grs_medium.specs.Apply.{is_live}
-use Rattle.grs_medium.specs.Medium.{inbox}
 use Rattle.grs_world.proofs.at_rest.StarTasks.{IsDated, dated-by, keeps-telling}
 use Rattle.grs_world.proofs.run.Site.{Site}
+use Rattle.grs_wire.specs.declared.told.Said.TheVariants as saids
+use Rattle.grs_wire.specs.declared.deck.Order.TheVariants as orders
 
 module _ (deck : Deck) (w : World) (g : IsWhole deck w) (c : SysId) (n : NodeState) (at : Site w c.0 n) where
   abbrev T : List RunItem

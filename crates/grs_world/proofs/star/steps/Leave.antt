@@ -1,34 +1,13 @@
 -- A system gives up its interest in an entry, in which it has nothing on record, asks nothing and has no request of
 -- another system to settle.
-use Rattle.std.proofs.Common.{◌≡◌, ◌≢◌, ◌<◌, ℕ, Bool, true, false, cond, not, ◌&&◌, ◌||◌, List, length, Option, Some}
-use Rattle.std.proofs.Common.{None, refl, ap, sym, ◌∙◌, subst}
-use Rattle.std.specs.Prelude.{get_or, is_some, ◌==◌}
-use Rattle.std.specs.List.{list_any}
-use Rattle.std.proofs.lemmas.Bool.{and_parts, eqb-true, eqb-false, ne_eqb, and_from, not-true}
-use Rattle.std.proofs.lemmas.Option.{same_Some}
-use Rattle.std.proofs.Math.Bool.{and-true}
-use Rattle.lock_structure.specs.Entries.{entry_of_res}
-use Rattle.grs_base.specs.Lists.{has_task}
-use Rattle.grs_base.specs.State.{is_systems, list_of}
-use Rattle.grs_base.specs.declared.resource.Res.{Res}
-use Rattle.grs_base.specs.declared.resource.SysId.{SysId}
-use Rattle.grs_base.specs.declared.resource.TaskId.{TaskId}
-use Rattle.grs_known.specs.Items.{RunItem, items}
+use Rattle.grs_world.proofs.Common.{◌&&◌, ◌<◌, ◌==◌, ◌||◌, ◌∙◌, ◌≡◌, ◌≢◌, and-true, and_from, and_parts, ap, Bool, cond}
+use Rattle.grs_world.proofs.Common.{Deck, entry_of_res, eqb-false, eqb-true, false, fixing_none, get_or, has}
+use Rattle.grs_world.proofs.Common.{has_interest, has_task, inbox, interest, is_busy_in, is_done_with, is_interested}
+use Rattle.grs_world.proofs.Common.{is_manager, is_res_of, is_some, is_systems, items, leave_reply, left_at, left_words}
+use Rattle.grs_world.proofs.Common.{length, lines_of, List, list_any, list_of, manager_at, MediumState, ne_eqb}
+use Rattle.grs_world.proofs.Common.{NodeState, None, not, not-true, Option, refl, Req, Res, RunItem, same_Some, Some}
+use Rattle.grs_world.proofs.Common.{StarPart, still-told, subst, sym, SysId, TaskId, true, with_star, word_at, World, ℕ}
 use Rattle.grs_known.proofs.known.Histories.{has-may}
-use Rattle.grs_known.proofs.lists.Parts.{is_res_of}
-use Rattle.grs_legal.specs.Asks.{lines_of}
-use Rattle.grs_medium.specs.Medium.{MediumState, inbox}
-use Rattle.grs_node.specs.Node.{NodeState, with_star}
-use Rattle.grs_node.specs.Star.{StarPart, has_interest, is_busy_in, is_done_with, left_at, fixing_none}
-use Rattle.grs_wire.specs.LockWords.{interest, is_manager, leave_reply}
-use Rattle.grs_wire.specs.Masks.{has}
-use Rattle.grs_wire.specs.declared.deck.Deck.{Deck}
-use Rattle.grs_wire.specs.declared.medium.Reply.TheVariants as replies
-use Rattle.grs_wire.specs.declared.request.Req.{Req}
-use Rattle.grs_world.specs.World.{World}
-use Rattle.grs_known.proofs.told.News.{still-told}
-use Rattle.lock_structure.specs.Laws.{is_interested, manager_at}
-use Rattle.lock_structure.specs.Words.{left_words, word_at}
 use Rattle.lock_structure.proofs.LawProofs.{leave_manages, leave_parts, manager_is_kept}
 use Rattle.grs_world.proofs.star.Plain.{may_leave}
 use Rattle.grs_world.proofs.star.Elements.{is_near_res, near-has, near-words}
@@ -44,6 +23,7 @@ use Rattle.grs_world.proofs.star.steps.Outcome.{IsOutcome}
 use Rattle.grs_world.proofs.star.steps.Words.{hands-words, others-keep}
 use Rattle.grs_world.proofs.run.Desks.{tells_tasks}
 use Rattle.grs_world.proofs.run.Site.{Site}
+use Rattle.grs_wire.specs.declared.medium.Reply.TheVariants as replies
 
 module _ (deck : Deck) (some : 0 < deck.entries) (w : World) (g : IsWhole deck w) (c : SysId) (inside : c.0 < 8)
     (n : NodeState) (at : Site w c.0 n) where

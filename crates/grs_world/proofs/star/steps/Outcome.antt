@@ -1,15 +1,8 @@
 -- What an event of one system comes to, where it changes neither words nor mail: a flag of rest, or the removed systems
 -- that its system knows.
-use Rattle.std.proofs.Common.{◌≡◌, ℕ, [], ◌++◌, Some, refl, ap, sym, ◌∙◌, subst}
-use Rattle.grs_base.specs.declared.resource.SysId.{SysId}
-use Rattle.grs_known.specs.Items.{history, items}
-use Rattle.grs_medium.specs.Inboxes.{inbox_of}
-use Rattle.grs_medium.specs.Medium.{MediumState, inbox}
-use Rattle.grs_node.specs.Node.{NodeState, only}
-use Rattle.grs_node.specs.Star.{StarPart}
-use Rattle.grs_wire.specs.declared.deck.Deck.{Deck}
-use Rattle.grs_world.specs.World.{World, Turnout, fixed_by, placed}
-use Rattle.grs_known.proofs.told.News.{still-told}
+use Rattle.grs_world.proofs.Common.{[], ◌++◌, ◌∙◌, ◌≡◌, ap, Deck, fixed_by, history, inbox, inbox_of, items}
+use Rattle.grs_world.proofs.Common.{MediumState, NodeState, only, placed, refl, Some, StarPart, still-told, subst, sym}
+use Rattle.grs_world.proofs.Common.{SysId, Turnout, World, ℕ}
 use Rattle.grs_world.proofs.star.Elements.{AreNear}
 use Rattle.grs_world.proofs.star.Members.{IsStep, all_lists}
 use Rattle.grs_world.proofs.star.Systems.{IsSystem, system-known}

@@ -1,49 +1,21 @@
 -- A request of one of its tasks is sent: it is decided by the system itself, where it manages the entry or nobody does,
 -- or goes to the manager of its entry.
-use Rattle.std.proofs.Common.{suc, ◌≤◌, ◌≡◌, ◌<◌, ◌||◌, ◌&&◌, ℕ, Bool, true, false, not, List, [], ◌∷◌, ◌++◌, length}
-use Rattle.std.proofs.Common.{Option, Some, None, refl, ap, sym, ◌∙◌, subst, arith}
-use Rattle.std.specs.Prelude.{◌==◌, is_some}
-use Rattle.std.proofs.lemmas.Bool.{and_parts, eqb-false, eq-eqb, and_from}
-use Rattle.contention_mgr.specs.Manager.{Managed, managed_at, plain, items_of, kept_for, entry_wanted, after_request}
-use Rattle.grs_base.specs.Lists.{owns}
-use Rattle.grs_base.specs.Same.{same_task}
-use Rattle.grs_base.specs.State.{State, list_of}
-use Rattle.grs_base.specs.declared.resource.Res.{Res}
-use Rattle.grs_base.specs.declared.resource.SysId.{SysId}
-use Rattle.grs_base.specs.declared.resource.TaskId.{TaskId}
-use Rattle.grs_legal.specs.Asks.{lines_of}
-use Rattle.grs_legal.specs.declared.meaning.Meaning.{Meaning}
-use Rattle.grs_medium.specs.Inboxes.{with_mail}
-use Rattle.grs_medium.specs.Medium.{awake, inbox}
-use Rattle.grs_node.specs.Node.{NodeState, may_send, is_of_deck, is_to_send, with_star}
-use Rattle.grs_node.specs.Star.{StarPart, request_of, entry_for, manages, with_interest, decide_own, lists_for}
-use Rattle.grs_node.specs.Star.{answer_for, owners_by, rank_of, fixing_none}
-use Rattle.lock_structure.specs.Entries.{is_entry}
-use Rattle.grs_wire.specs.Wants.{answer_to, new_owners, res_wanted}
-use Rattle.grs_wire.specs.declared.deck.Deck.{Deck}
-use Rattle.grs_wire.specs.declared.medium.Mail.TheVariants as mails
-use Rattle.grs_wire.specs.declared.request.Fixed.TheVariants as fixing
-use Rattle.grs_wire.specs.declared.request.Req.{Req}
-use Rattle.lock_structure.specs.Laws.{manager_at}
-use Rattle.lock_structure.specs.Words.{submitted_words}
-use Rattle.star_client.specs.Client.{tell_answer_ranked}
-use Rattle.task_state.specs.Replies.{tell_new}
-use Rattle.task_state.specs.View.{TasksView, is_task, is_sent, state_of, with_phase}
-use Rattle.task_state.specs.declared.state.Asked.{Asked}
-use Rattle.task_state.specs.declared.state.Phase.{Phase}
-use Rattle.task_state.specs.declared.state.Phase.TheVariants as phases
-use Rattle.task_state.proofs.ViewLaws.{is_task-system}
-use Rattle.grs_known.specs.Items.{RunItem, lists, items}
-use Rattle.grs_known.proofs.known.Histories.{made_item}
-use Rattle.grs_known.proofs.known.ItemLaws.{lists-push}
-use Rattle.grs_known.proofs.lists.Owners.{is_among, new-owns}
-use Rattle.grs_world.specs.World.{World}
-use Rattle.grs_known.proofs.system.Asking.{are_sent}
+use Rattle.grs_world.proofs.Common.{[], ◌&&◌, ◌++◌, ◌<◌, ◌==◌, ◌||◌, ◌∙◌, ◌∷◌, ◌≡◌, ◌≤◌, after_request, Alike, and_from}
+use Rattle.grs_world.proofs.Common.{and_parts, answer_for, answer_to, ap, are_sent, arith, Asked, askers, awake, Bool}
+use Rattle.grs_world.proofs.Common.{decide_own, Deck, entry_for, entry_wanted, eq-eqb, eqb-false, false, fixing_none}
+use Rattle.grs_world.proofs.Common.{inbox, is_among, is_entry, is_home_at, is_of_deck, is_sent, is_some, is_task}
+use Rattle.grs_world.proofs.Common.{is_task-system, is_to_send, IsOurs, items, items_of, kept_for, length, lines_of}
+use Rattle.grs_world.proofs.Common.{List, list_of, lists, lists-push, made_item, Managed, managed_at, manager_at}
+use Rattle.grs_world.proofs.Common.{manages, may_send, Meaning, new_owners, NodeState, None, not, Option, owners_by}
+use Rattle.grs_world.proofs.Common.{owns, Phase, plain, rank_of, refl, Req, request_of, Res, res_wanted, RunItem}
+use Rattle.grs_world.proofs.Common.{same_task, Some, StarPart, State, state_of, submitted_words, subst, suc, sym, SysId}
+use Rattle.grs_world.proofs.Common.{TaskId, TasksView, tell_answer_ranked, tell_new, true, with_interest, with_mail}
+use Rattle.grs_world.proofs.Common.{with_phase, with_star, World, ℕ}
+use Rattle.grs_node.specs.Star.{lists_for}
+use Rattle.grs_known.proofs.lists.Owners.{new-owns}
 use Rattle.grs_world.proofs.star.Plain.{begun}
 use Rattle.grs_world.proofs.system.AtNode.{opens_of}
-use Rattle.grs_known.proofs.system.Ours.{IsOurs}
 use Rattle.grs_world.proofs.system.Puts.{home-task}
-use Rattle.grs_known.proofs.system.Says.{is_home_at, askers}
 use Rattle.grs_world.proofs.star.Events.{begun_part}
 use Rattle.grs_world.proofs.star.Ghosts.{ghosted}
 use Rattle.grs_world.proofs.star.Members.{IsPart, IsMember, manager-here, all_lists}
@@ -56,8 +28,11 @@ use Rattle.grs_world.proofs.star.Worlds.{IsWhole}
 use Rattle.grs_world.proofs.star.hearing.Decided.{heard-decided}
 use Rattle.grs_world.proofs.star.hearing.Gains.{beginning-next, beginning-untold, untold_of}
 use Rattle.grs_world.proofs.star.steps.Outcome.{Comes}
-use Rattle.grs_known.proofs.lists.Alike.{Alike, answer-alike, owners-alike}
+use Rattle.grs_known.proofs.lists.Alike.{answer-alike, owners-alike}
 use Rattle.grs_world.proofs.run.Site.{Site}
+use Rattle.grs_wire.specs.declared.medium.Mail.TheVariants as mails
+use Rattle.grs_wire.specs.declared.request.Fixed.TheVariants as fixing
+use Rattle.task_state.specs.declared.state.Phase.TheVariants as phases
 
 -- a task whose request waits to be sent has sent none
 waits-free : (t : TaskId) (p : Phase) (qs : List Req) → is_to_send p ≡ true → are_sent t p qs ≡ true

@@ -1,31 +1,15 @@
 -- A manager settles the request that it holds first: it answers by its own lists of the entry, which are the history's.
-use Rattle.std.proofs.Common.{◌≡◌, ◌++◌, true, List, [], ◌∷◌, Option, Some, None, refl, ap, sym, ◌∙◌, subst}
-use Rattle.std.specs.Prelude.{drop, slice_get}
-use Rattle.std.proofs.lemmas.Option.{same_Some}
-use Rattle.contention_mgr.specs.Manager.{Managed, plain, items_of, kept_for, entry_wanted, after_request, rank_for}
-use Rattle.grs_base.specs.Lists.{owns}
-use Rattle.grs_base.specs.State.{list_of}
-use Rattle.grs_base.specs.declared.resource.SysId.{SysId}
-use Rattle.grs_base.specs.declared.resource.TaskId.{TaskId}
-use Rattle.grs_known.specs.Items.{RunItem, history, items, lists}
-use Rattle.grs_known.proofs.known.Histories.{MayFollow, made_item}
-use Rattle.grs_known.proofs.known.ItemLaws.{lists-push}
-use Rattle.grs_known.proofs.lists.Owners.{is_among, new-owns}
-use Rattle.grs_medium.specs.Inboxes.{with_mail}
-use Rattle.grs_medium.specs.Medium.{MediumState, awake}
-use Rattle.grs_node.specs.Node.{NodeState, with_star}
-use Rattle.grs_node.specs.Star.{StarPart, answer_for, lists_for, owners_by, rank_of}
-use Rattle.grs_wire.specs.Wants.{answer_to, new_owners, res_wanted}
-use Rattle.grs_wire.specs.declared.deck.Deck.{Deck}
-use Rattle.grs_wire.specs.declared.medium.Mail.TheVariants as mails
-use Rattle.grs_wire.specs.declared.request.Answer.{Answer}
-use Rattle.grs_wire.specs.declared.request.Fixed.TheVariants as fixes
-use Rattle.grs_wire.specs.declared.request.Req.{Req}
-use Rattle.grs_wire.specs.declared.request.Want.{Want}
-use Rattle.grs_wire.specs.declared.request.Want.TheVariants.{Enq, Deq, Release, Look}
-use Rattle.grs_world.specs.World.{World, fixed_by}
-use Rattle.grs_known.proofs.told.News.{ToldNews, told-news}
-use Rattle.task_state.specs.Replies.{tell_new}
+use Rattle.grs_world.proofs.Common.{[], ◌++◌, ◌∙◌, ◌∷◌, ◌≡◌, after_request, Alike, Answer, answer_for, answer_to, ap}
+use Rattle.grs_world.proofs.Common.{awake, Deck, Deq, Enq, entry_wanted, fixed_by, history, is_among, items, items_of}
+use Rattle.grs_world.proofs.Common.{kept_for, List, list_of, lists, lists-push, Look, made_item, Managed, MayFollow}
+use Rattle.grs_world.proofs.Common.{MediumState, new_owners, NodeState, None, Option, owners_by, owns, plain, rank_of}
+use Rattle.grs_world.proofs.Common.{refl, Release, Req, Res, res_wanted, RunItem, same_Some, slice_get, Some, StarPart}
+use Rattle.grs_world.proofs.Common.{subst, sym, SysId, TaskId, tell_new, told-news, ToldNews, true, Want, with_mail}
+use Rattle.grs_world.proofs.Common.{with_star, World}
+use Rattle.std.specs.Prelude.{drop}
+use Rattle.contention_mgr.specs.Manager.{rank_for}
+use Rattle.grs_known.proofs.lists.Owners.{new-owns}
+use Rattle.grs_node.specs.Star.{lists_for}
 use Rattle.grs_world.proofs.star.Plain.{settled_first}
 use Rattle.grs_world.proofs.star.Members.{IsMember, all_lists}
 use Rattle.grs_world.proofs.star.Settling.{follows-now, hand, manager-after, whole-settled}
@@ -34,11 +18,12 @@ use Rattle.grs_world.proofs.star.Under.{under, answer-under, entry-same, owners-
 use Rattle.grs_world.proofs.star.Worlds.{IsHand, IsWhole, are_live, items-one}
 use Rattle.grs_world.proofs.star.hearing.Settled.{heard-settled}
 use Rattle.grs_world.proofs.star.steps.Outcome.{Comes}
-use Rattle.grs_known.proofs.lists.Alike.{Alike, answer-alike, owners-alike}
+use Rattle.grs_known.proofs.lists.Alike.{answer-alike, owners-alike}
 use Rattle.grs_world.proofs.run.Desks.{tells_tasks}
 use Rattle.grs_world.proofs.at_rest.StarTasks.{dated-by, keeps-new}
-use Rattle.grs_base.specs.declared.resource.Res.{Res}
 use Rattle.grs_world.proofs.run.Site.{Site}
+use Rattle.grs_wire.specs.declared.medium.Mail.TheVariants as mails
+use Rattle.grs_wire.specs.declared.request.Fixed.TheVariants as fixes
 
 -- what gives something up puts nothing into a list
 rank-plain : (o : Option Managed) (t : TaskId) (w : Want) → gives_want w ≡ true → rank_for o t w ≡ 0

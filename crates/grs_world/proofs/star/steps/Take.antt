@@ -1,36 +1,15 @@
 -- A system in star mode takes the first mail of its inbox.
-use Rattle.std.proofs.Common.{◌≡◌, ◌≢◌, ◌<◌, inl, inr, ℕ, Bool, true, false, cond, not, ◌&&◌, ◌||◌, List, [], ◌∷◌, ◌++◌}
-use Rattle.std.proofs.Common.{length, Some, refl, ap, sym, ◌∙◌, subst, arith, append_assoc}
-use Rattle.std.specs.Prelude.{drop, filter, ◌==◌}
-use Rattle.std.proofs.lemmas.Bool.{and_parts, eqb-true, and_from, not-true, or_parts}
-use Rattle.std.proofs.lemmas.Option.{same_Some}
-use Rattle.grs_base.specs.Same.{same_task}
-use Rattle.grs_base.specs.declared.resource.Res.{Res}
-use Rattle.grs_base.specs.declared.resource.SysId.{SysId}
-use Rattle.grs_base.specs.declared.resource.TaskId.{TaskId}
-use Rattle.grs_base.proofs.SameLaws.{same_task-exact}
-use Rattle.grs_medium.specs.Inboxes.{without_first}
-use Rattle.grs_medium.specs.Medium.{MediumState, inbox, awake}
-use Rattle.grs_node.specs.Node.{NodeState, with_star, is_of_deck, is_for_deck, names_of_deck}
-use Rattle.grs_node.specs.Star.{StarPart, StarStep, entry_for, manages, fixing_none}
-use Rattle.lock_structure.specs.Entries.{is_entry}
-use Rattle.grs_wire.specs.declared.deck.Deck.{Deck}
-use Rattle.grs_wire.specs.declared.medium.Mail.{Mail}
-use Rattle.grs_wire.specs.declared.medium.Mail.TheVariants.{Request, Answered, Granted, Notice, Part}
-use Rattle.grs_wire.specs.declared.request.Answer.{Answer}
-use Rattle.grs_wire.specs.declared.request.Req.{Req}
-use Rattle.grs_wire.proofs.WantLaws.{by_test}
-use Rattle.star_client.specs.Client.{after_mail}
-use Rattle.task_state.specs.Replies.{tell_control}
-use Rattle.task_state.specs.View.{TasksView}
-use Rattle.grs_known.specs.Items.{RunItem, mine, history, items}
-use Rattle.grs_known.specs.Parts.{put_at}
-use Rattle.grs_known.proofs.lists.Owners.{is_among}
-use Rattle.grs_known.proofs.lists.Truths.{no_truth, false_by, task_swap}
-use Rattle.grs_known.proofs.lists.Placed.{put_here, put_other}
-use Rattle.grs_world.specs.World.{World, Turnout, placed}
-use Rattle.grs_known.proofs.told.News.{ToldNews, told-news}
-use Rattle.grs_known.proofs.system.Says.{askers, stand_apart, none}
+use Rattle.grs_world.proofs.Common.{[], ◌&&◌, ◌++◌, ◌<◌, ◌==◌, ◌||◌, ◌∙◌, ◌∷◌, ◌≡◌, ◌≢◌, after_mail, and_from}
+use Rattle.grs_world.proofs.Common.{and_parts, Answer, Answered, ap, append_assoc, arith, askers, awake, Bool, by_test}
+use Rattle.grs_world.proofs.Common.{cond, Deck, entry_for, eqb-true, false, false_by, filter, fixing_none, Granted}
+use Rattle.grs_world.proofs.Common.{history, inbox, inl, inr, is_among, is_entry, is_for_deck, is_of_deck, items}
+use Rattle.grs_world.proofs.Common.{length, List, Mail, manages, MediumState, mine, names_of_deck, no_truth, NodeState}
+use Rattle.grs_world.proofs.Common.{none, not, not-true, Notice, or_parts, Part, placed, put_at, put_here, put_other}
+use Rattle.grs_world.proofs.Common.{refl, Req, Res, RunItem, same_Some, same_task, same_task-exact, Some, stand_apart}
+use Rattle.grs_world.proofs.Common.{StarPart, StarStep, subst, sym, SysId, task_swap, TaskId, TasksView, tell_control}
+use Rattle.grs_world.proofs.Common.{told-news, ToldNews, true, Turnout, with_star, without_first, World, ℕ}
+use Rattle.std.specs.Prelude.{drop}
+use Rattle.grs_wire.specs.declared.medium.Mail.TheVariants.{Request}
 use Rattle.grs_world.proofs.star.Plain.{take_mail, took_mail}
 use Rattle.grs_world.proofs.star.Answering.{others_of, without_asker, mine-others}
 use Rattle.grs_world.proofs.star.Mailed.{TookAnswer, learns, leaves, took-request, took-control, took-answer, not_here}

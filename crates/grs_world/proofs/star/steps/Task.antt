@@ -1,20 +1,12 @@
 -- A task of a system in star mode goes on by itself.
-use Rattle.std.proofs.Common.{◌≡◌, [], ◌++◌, ap, sym, ◌∙◌, subst, true, refl}
-use Rattle.grs_base.specs.declared.resource.SysId.{SysId}
-use Rattle.grs_base.specs.declared.resource.TaskId.{TaskId}
-use Rattle.grs_medium.specs.Medium.{inbox}
-use Rattle.grs_node.specs.Node.{NodeState, Step, may_go, task_step}
-use Rattle.grs_wire.specs.declared.deck.Deck.{Deck}
-use Rattle.grs_known.specs.Items.{history, items}
-use Rattle.grs_world.specs.World.{World, fixed_by}
-use Rattle.grs_known.proofs.told.News.{ToldNews, told-news}
+use Rattle.grs_world.proofs.Common.{[], ◌++◌, ◌∙◌, ◌≡◌, ap, Deck, fixed_by, history, inbox, items, lines_of, may_go}
+use Rattle.grs_world.proofs.Common.{NodeState, refl, stays-task, Step, subst, sym, SysId, task_step, TaskId, told-news}
+use Rattle.grs_world.proofs.Common.{ToldNews, true, World}
 use Rattle.grs_world.proofs.star.OwnEvents.{Task, idle_task, local_task, system-task}
 use Rattle.grs_world.proofs.star.Worlds.{IsWhole, items-none, items-one, whole-task}
 use Rattle.grs_world.proofs.star.hearing.Quiet.{heard-task}
 use Rattle.grs_world.proofs.star.steps.Outcome.{Comes}
-use Rattle.grs_node.proofs.Keeping.{stays-task}
 use Rattle.grs_world.proofs.run.Desks.{tells_tasks}
-use Rattle.grs_legal.specs.Asks.{lines_of}
 use Rattle.grs_world.proofs.at_rest.Ring.{distinct-at}
 use Rattle.grs_world.proofs.at_rest.StarTasks.{IsDated, dated-task}
 use Rattle.grs_world.proofs.star.Ghosts.{ghosted}

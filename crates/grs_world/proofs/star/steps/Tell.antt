@@ -1,35 +1,17 @@
 -- A manager tells an owner of another system that it owns.
-use Rattle.std.proofs.Common.{◌<◌, ◌≡◌, ◌≢◌, ℕ, Bool, true, false, not, List, [], ◌∷◌, ◌++◌, length, Option, Some, None}
-use Rattle.std.proofs.Common.{refl, ap, sym, ◌∙◌, subst, arith}
-use Rattle.std.specs.Prelude.{◌==◌, is_some}
-use Rattle.std.specs.Option.{option_map}
-use Rattle.std.proofs.lemmas.Bool.{and_parts, eqb-false, eq-eqb, and_from, not-true}
-use Rattle.std.proofs.lemmas.Option.{same_Some}
-use Rattle.contention_mgr.specs.Manager.{Ranked, Managed, plain, items_of, first_untold, owner_of, managed_at}
-use Rattle.lock_structure.specs.Entries.{entry_of_res}
+use Rattle.grs_world.proofs.Common.{[], ◌++◌, ◌<◌, ◌==◌, ◌∙◌, ◌∷◌, ◌≡◌, ◌≢◌, Alike, and_from, and_parts, Answered, ap}
+use Rattle.grs_world.proofs.Common.{arith, awake, Bool, Deck, entry_of_res, eq-eqb, eqb-false, false, false_by}
+use Rattle.grs_world.proofs.Common.{fixing_none, Granted, inbox, is_home_at, is_interested, is_some, items, items_of}
+use Rattle.grs_world.proofs.Common.{length, lines_of, List, list_of, lists, Mail, Managed, managed_at, MediumState}
+use Rattle.grs_world.proofs.Common.{no_truth, NodeState, None, not, not-true, Notice, Option, option_map, owns}
+use Rattle.grs_world.proofs.Common.{owns-has, owns-may, Part, placed, plain, Ranked, refl, Res, RunItem, same_Some}
+use Rattle.grs_world.proofs.Common.{Some, StarPart, State, still-told, subst, sym, SysId, TaskId, to_tell, true}
+use Rattle.grs_world.proofs.Common.{Turnout, with_mail, with_star, World, ℕ}
+use Rattle.contention_mgr.specs.Manager.{first_untold, owner_of}
 use Rattle.contention_mgr.proofs.LawProofs.{first_is_untold}
 use Rattle.contention_mgr.proofs.OwnLemmas.{first_untold_owns}
-use Rattle.grs_base.specs.Lists.{owns}
-use Rattle.grs_base.specs.State.{State, list_of}
-use Rattle.grs_base.specs.declared.resource.Res.{Res}
-use Rattle.grs_base.specs.declared.resource.SysId.{SysId}
-use Rattle.grs_base.specs.declared.resource.TaskId.{TaskId}
-use Rattle.grs_legal.specs.Asks.{lines_of}
-use Rattle.grs_medium.specs.Inboxes.{with_mail}
-use Rattle.grs_medium.specs.Medium.{MediumState, inbox, awake}
-use Rattle.grs_node.specs.Node.{NodeState, with_star}
-use Rattle.grs_node.specs.Star.{StarPart, to_tell, told_by, fixing_none}
-use Rattle.grs_wire.specs.declared.deck.Deck.{Deck}
-use Rattle.grs_wire.specs.declared.medium.Mail.{Mail}
-use Rattle.grs_wire.specs.declared.medium.Mail.TheVariants.{Request, Answered, Granted, Notice, Part}
-use Rattle.lock_structure.specs.Laws.{is_interested}
-use Rattle.grs_known.specs.Items.{RunItem, lists, items}
-use Rattle.grs_known.proofs.known.Histories.{owns-may}
-use Rattle.grs_known.proofs.lists.All.{owns-has}
-use Rattle.grs_known.proofs.lists.Truths.{false_by, no_truth}
-use Rattle.grs_world.specs.World.{World, Turnout, placed}
-use Rattle.grs_known.proofs.system.Says.{is_home_at}
-use Rattle.grs_known.proofs.told.News.{still-told}
+use Rattle.grs_node.specs.Star.{told_by}
+use Rattle.grs_wire.specs.declared.medium.Mail.TheVariants.{Request}
 use Rattle.grs_world.proofs.star.Elements.{near-has}
 use Rattle.grs_world.proofs.star.Members.{IsPart, has_manager, one-manages}
 use Rattle.grs_world.proofs.star.Systems.{IsSystem, IsAway, near_at, requests_in, system-granted}
@@ -39,7 +21,6 @@ use Rattle.grs_world.proofs.star.Worlds.{live-below}
 use Rattle.grs_world.proofs.star.Heard.{StaysHeard}
 use Rattle.grs_world.proofs.star.hearing.Told.{heard-told}
 use Rattle.grs_world.proofs.star.steps.Outcome.{Comes, part}
-use Rattle.grs_known.proofs.lists.Alike.{Alike}
 use Rattle.grs_world.proofs.run.Desks.{tells_tasks}
 use Rattle.grs_world.proofs.run.Site.{Site}
 use Rattle.grs_world.proofs.star.Boxes.{other-box, by_box}

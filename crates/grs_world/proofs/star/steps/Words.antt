@@ -1,9 +1,5 @@
 -- The words change for one system alone: what is said of the others, and of the requests in a system's hands, stays.
-use Rattle.std.proofs.Common.{◌≡◌, ◌≢◌, ℕ, true, List, [], ◌∷◌, ◌∙◌, Bool}
-use Rattle.grs_base.specs.State.{State}
-use Rattle.grs_known.specs.Items.{RunItem}
-use Rattle.grs_wire.specs.declared.deck.Deck.{Deck}
-use Rattle.grs_wire.specs.declared.request.Req.{Req}
+use Rattle.grs_world.proofs.Common.{[], ◌∙◌, ◌∷◌, ◌≡◌, ◌≢◌, Bool, Deck, List, Req, RunItem, State, true, ℕ}
 use Rattle.grs_world.proofs.star.Members.{Moves, has_manager}
 use Rattle.grs_world.proofs.star.Systems.{Keeps}
 use Rattle.grs_world.proofs.star.Worlds.{AllHands, Hands, IsHand}

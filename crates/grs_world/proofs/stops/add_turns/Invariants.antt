@@ -1,4 +1,4 @@
-use Rattle.std.proofs.Common.{◌≡◌, ◌++◌}
+use Rattle.grs_world.proofs.Common.{◌++◌, ◌≡◌}
 use Rattle.grs_world.proofs.stops.add_turns.Given as goal
 
 abbrev pub invariant-loop-turn : goal.invariant-loop-turn

@@ -1,5 +1,4 @@
-use Rattle.std.proofs.Common.{◌≡◌, ◌++◌, drop}
-use Rattle.grs_world.specs.Stopped.{cut}
+use Rattle.grs_world.proofs.Common.{◌++◌, ◌≡◌, cut, drop}
 use Rattle.grs_world.proofs.stops.cut.Given as goal
 
 abbrev pub invariant-loop-event : goal.invariant-loop-event

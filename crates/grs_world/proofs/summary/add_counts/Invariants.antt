@@ -1,4 +1,4 @@
-use Rattle.std.proofs.Common.{◌≡◌, ◌++◌, map, take}
+use Rattle.grs_world.proofs.Common.{◌++◌, ◌≡◌, map, take}
 use Rattle.grs_world.proofs.summary.add_counts.Given as goal
 
 abbrev pub invariant-loop-unit : goal.invariant-loop-unit

@@ -1,5 +1,4 @@
-use Rattle.std.proofs.Common.{◌≡◌, ◌≤◌}
-use Rattle.grs_world.specs.Stopped.{live_below}
+use Rattle.grs_world.proofs.Common.{◌≡◌, ◌≤◌, live_below}
 use Rattle.grs_world.proofs.summary.live_count.Given as goal
 
 abbrev pub invariant-loop-place : goal.invariant-loop-place

@@ -1,4 +1,4 @@
-use Rattle.std.proofs.Common.{◌≡◌, drop}
+use Rattle.grs_world.proofs.Common.{◌≡◌, drop}
 use Rattle.grs_world.specs.Running.{none_busy, busy_at}
 use Rattle.grs_world.proofs.summary.none_busy.Given as goal
 

@@ -1,5 +1,5 @@
-use Rattle.std.proofs.Common.{◌≡◌, ◌++◌, drop}
-use Rattle.grs_world.specs.Running.{nodes_of, units_of}
+use Rattle.grs_world.proofs.Common.{◌++◌, ◌≡◌, drop, nodes_of}
+use Rattle.grs_world.specs.Running.{units_of}
 use Rattle.grs_world.proofs.summary.units_of.Given as goal
 
 abbrev pub invariant-loop-node : goal.invariant-loop-node

@@ -1,5 +1,4 @@
-use Rattle.std.proofs.Common.{◌≡◌, ◌++◌}
-use Rattle.grs_world.specs.World.{fixed_by}
+use Rattle.grs_world.proofs.Common.{◌++◌, ◌≡◌, fixed_by}
 use Rattle.grs_world.proofs.world.add_fixed.Given as goal
 
 abbrev pub invariant-loop-one : goal.invariant-loop-one

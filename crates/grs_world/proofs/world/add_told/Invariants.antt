@@ -1,5 +1,4 @@
-use Rattle.std.proofs.Common.{◌≡◌, ◌++◌}
-use Rattle.grs_world.specs.World.{told_by}
+use Rattle.grs_world.proofs.Common.{◌++◌, ◌≡◌, told_by}
 use Rattle.grs_world.proofs.world.add_told.Given as goal
 
 abbrev pub invariant-loop-line : goal.invariant-loop-line

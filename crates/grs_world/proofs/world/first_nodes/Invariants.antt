@@ -1,6 +1,5 @@
-use Rattle.std.proofs.Common.{◌≡◌, take, length}
-use Rattle.grs_world.specs.Running.{nodes_of, AreOf, AreNumbered}
-use Rattle.grs_world.specs.World.{first_nodes}
+use Rattle.grs_world.proofs.Common.{◌≡◌, first_nodes, length, nodes_of, take}
+use Rattle.grs_world.specs.Running.{AreOf, AreNumbered}
 use Rattle.grs_world.proofs.world.first_nodes.Given as goal
 
 abbrev pub invariant-loop-place : goal.invariant-loop-place

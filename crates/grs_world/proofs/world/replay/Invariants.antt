@@ -1,5 +1,4 @@
-use Rattle.std.proofs.Common.{◌≡◌, drop}
-use Rattle.grs_world.specs.World.{run_from, run}
+use Rattle.grs_world.proofs.Common.{◌≡◌, drop, run, run_from}
 use Rattle.grs_world.proofs.world.replay.Given as goal
 
 abbrev pub invariant-loop-event : goal.invariant-loop-event

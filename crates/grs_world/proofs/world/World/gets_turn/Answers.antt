@@ -1,10 +1,6 @@
-use Rattle.std.proofs.Common.{◌≡◌, true, ap, refl, subst, sym, ◌∙◌}
-use Rattle.grs_node.specs.Node.{prepare}
-use Rattle.grs_wire.specs.declared.deck.Choice.TheVariants.{Turn}
-use Rattle.grs_world.specs.Removing.{call_in, reply_by, reply_of}
-use Rattle.grs_world.specs.Running.{Running, is_live, nodes_of}
-use Rattle.grs_world.specs.Stopped.{is_turned, turn_of}
-use Rattle.grs_world.specs.World.{World}
+use Rattle.grs_world.proofs.Common.{◌∙◌, ◌≡◌, ap, call_in, is_live, is_turned, nodes_of, prepare, refl, reply_by}
+use Rattle.grs_world.proofs.Common.{reply_of, subst, sym, true, Turn, turn_of, World}
+use Rattle.grs_world.specs.Running.{Running}
 use Rattle.grs_world.proofs.code.Lapped.{served-at}
 use Rattle.grs_world.proofs.world.World.gets_turn.Goals as goal
 

@@ -1,5 +1,5 @@
-use Rattle.std.proofs.Common.{◌*◌, sym, ◌∙◌}
-use Rattle.grs_world.specs.Stopped.{lap, live_count}
+use Rattle.grs_world.proofs.Common.{◌*◌, ◌∙◌, lap, sym}
+use Rattle.grs_world.specs.Stopped.{live_count}
 use Rattle.grs_world.proofs.code.Lapped.{lap-more}
 use Rattle.grs_world.proofs.world.World.lap.Goals as goal
 

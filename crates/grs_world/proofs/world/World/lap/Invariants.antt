@@ -1,6 +1,5 @@
-use Rattle.std.proofs.Common.{◌≡◌, ◌≤◌, ◌+◌, ◌*◌, ◌++◌, length}
-use Rattle.grs_world.specs.Stopped.{lap, lap_from, live_count, next_of}
-use Rattle.grs_world.specs.World.{run_from}
+use Rattle.grs_world.proofs.Common.{◌*◌, ◌++◌, ◌+◌, ◌≡◌, ◌≤◌, lap, length, run_from}
+use Rattle.grs_world.specs.Stopped.{lap_from, live_count, next_of}
 use Rattle.grs_world.proofs.world.World.lap.Given as goal
 
 abbrev pub invariant-turns : goal.invariant-turns
