@@ -6,17 +6,17 @@ use Rattle.grs_world.proofs.Common.{lines_of, List, Local, ltb-true, map, Meanin
 use Rattle.grs_world.proofs.Common.{option_map, Place, refl, replay, Res, same_task-exact, scripts_of, Slice, slice_get}
 use Rattle.grs_world.proofs.Common.{slice_get-past, slice_get_within, Some, subst, suc, sym, SysId, TaskId, true, Wait}
 use Rattle.grs_world.proofs.Common.{zero, ℕ}
-use Rattle.std.specs.Prelude.{IsSomeAnd}
-use Rattle.std.specs.Option.{option_or}
-use Rattle.grs_base.specs.State.{queued_by}
-use Rattle.grs_base.specs.declared.rnl.Lists.{Lists}
 use Rattle.grs_legal.specs.Asks.{Ask, AsksRelease, AsksLook, asks_in, lines_in, home_asks, looks_in, meaning_of}
 use Rattle.grs_legal.specs.Asks.{slice_asks}
-use Rattle.grs_legal.specs.Legal.{IsLegal, MayAsk, MayStand, ask_in, end_code, is_of_line}
-use Rattle.grs_node.proofs.Places.{slice_get-map}
 use Rattle.grs_wire.specs.History.{code_of}
-use Rattle.grs_wire.specs.declared.history.HistEntry.TheVariants.{Enq, Deq, Release, Look, Remove}
+use Rattle.std.specs.Prelude.{IsSomeAnd}
+use Rattle.grs_legal.specs.Legal.{IsLegal, MayAsk, MayStand, ask_in, end_code, is_of_line}
+use Rattle.std.specs.Option.{option_or}
 use Rattle.grs_known.proofs.lists.Facts.{filter-push_kept, filter-push_left}
+use Rattle.grs_base.specs.State.{queued_by}
+use Rattle.grs_base.specs.declared.rnl.Lists.{Lists}
+use Rattle.grs_node.proofs.Places.{slice_get-map}
+use Rattle.grs_wire.specs.declared.history.HistEntry.TheVariants.{Enq, Deq, Release, Look, Remove}
 use Rattle.grs_base.specs.declared.line.Line.TheVariants as written
 use Rattle.grs_legal.specs.declared.meaning.Meaning.TheVariants as lines
 

@@ -16,16 +16,20 @@ use Rattle.grs_world.proofs.Common.{take-none, TaskId, TaskState, TasksView, tel
 use Rattle.grs_world.proofs.Common.{zero, ℕ}
 use Rattle.std.proofs.Common.{leb, leb-true, leb-false, length-drop, length-take}
 use Rattle.std.specs.Prelude.{drop}
-use Rattle.std.proofs.lemmas.Map.Views.{any-filter_same}
 use Rattle.grs_legal.specs.Asks.{asks_in, is_silent, looks_in}
-use Rattle.grs_legal.specs.Legal.{ask_in, end_among, entries_of, last_entry}
+use Rattle.grs_known.proofs.tasks.Invariant.{IsHeld, IsInPhase, IsHeldLine, IsWaitFor, code_bound}
+use Rattle.grs_known.specs.Told.{AgreesOf, asked_at, asks_at, entries_of_line, is_end_of, is_code_before}
 use Rattle.grs_wire.specs.History.{code_of}
 use Rattle.grs_known.proofs.known.ItemLaws.{entries_are_of_items}
 use Rattle.grs_known.proofs.known.Knows.{knows-closed}
+use Rattle.grs_legal.specs.Legal.{ask_in, end_among, entries_of, last_entry}
+use Rattle.grs_world.specs.Agree.{AgreesBy, AllAgree, moment}
+use Rattle.grs_world.specs.AtRest.{DisplaysAreTold, IsThere, OwnersAreTold, RepliesAreTold, is_coded, is_waiting}
+use Rattle.grs_world.specs.AtRest.{IsWaiting, TasksWait, first_uncoded, is_next, is_uncoded, is_wait, stands_at}
+use Rattle.grs_world.specs.AtRest.{waits_at, waits_on}
 use Rattle.grs_known.proofs.system.Asking.{unasked-none}
-use Rattle.grs_known.proofs.tasks.Invariant.{IsHeld, IsInPhase, IsHeldLine, IsWaitFor, code_bound}
 use Rattle.grs_known.specs.Past.{has_own}
-use Rattle.grs_known.specs.Told.{AgreesOf, asked_at, asks_at, entries_of_line, is_end_of, is_code_before}
+use Rattle.std.proofs.lemmas.Map.Views.{any-filter_same}
 use Rattle.grs_node.specs.Log.{end_in}
 use Rattle.grs_wire.specs.declared.seen.TaskEnd.TheVariants.{Ended}
 use Rattle.grs_known.proofs.known.Knowing.{all_is_known}
@@ -41,10 +45,6 @@ use Rattle.grs_world.proofs.at_rest.Steps.{AllDate, one-task}
 use Rattle.grs_known.proofs.tasks.UpToDate.{is_code_at, is_end_at, is_placed, is_kept}
 use Rattle.grs_known.specs.Passed.{has_code, passed_by}
 use Rattle.grs_world.proofs.run.Runs.{GoodTold}
-use Rattle.grs_world.specs.Agree.{AgreesBy, AllAgree, moment}
-use Rattle.grs_world.specs.AtRest.{DisplaysAreTold, IsThere, OwnersAreTold, RepliesAreTold, is_coded, is_waiting}
-use Rattle.grs_world.specs.AtRest.{IsWaiting, TasksWait, first_uncoded, is_next, is_uncoded, is_wait, stands_at}
-use Rattle.grs_world.specs.AtRest.{waits_at, waits_on}
 use Rattle.grs_wire.specs.declared.history.HistEntry.TheVariants as entries
 use Rattle.grs_wire.specs.declared.told.ToldLine.TheVariants as told
 use Rattle.task_state.specs.declared.state.Phase.TheVariants as phases
@@ -277,10 +277,10 @@ module _ (deck : Deck) (es : List Event) (right : IsHistory deck (items (run dec
   abbrev P : List RunItem
   P = items (run deck es).fixed
 
-  hist_is : hist deck es ≡ history (items (run deck es).fixed)
+  hist_is : hist deck es ≡ history P
   hist_is = sym (items_are_history (run deck es).fixed).0
 
-  lists_are : (r : Res) → list_of (lists_after deck es) r ≡ list_of (lists (items (run deck es).fixed)) r
+  lists_are : (r : Res) → list_of (lists_after deck es) r ≡ list_of (lists P) r
   lists_are r = ap (λ s. list_of s r) (ap (replay deck.limit) hist_is ∙ sym (replayed deck P right))
 
   -- a task of a live system, where it is
@@ -321,16 +321,16 @@ module _ (deck : Deck) (es : List Event) (right : IsHistory deck (items (run dec
     abbrev y : TaskState
     y = state_of found.0.tasks t
 
-    idle : (state_of found.0.tasks t).outstanding ≡ None
+    idle : y.outstanding ≡ None
     idle = k.idle t ls ours
 
-    here_is : IsHere deck k.opens (items (run deck es).fixed) found.0.tasks.told t ls (state_of found.0.tasks t)
+    here_is : IsHere deck k.opens P found.0.tasks.told t ls y
     here_is = k.good.tasks.each t ls ours
 
     abbrev p : Past
     p = past_of t here_is.known (items (run deck es).fixed)
 
-    speaks : Speaks deck.limit t p (history (items (run deck es).fixed))
+    speaks : Speaks deck.limit t p (history P)
     speaks =
         speaks-known deck P t here_is.known right here_is.knows.live here_is.knows.right
         (knows-closed P t y.outstanding here_is.known idle here_is.knows)
@@ -339,7 +339,7 @@ module _ (deck : Deck) (es : List Event) (right : IsHistory deck (items (run dec
     entries_are : line_entries t (hist deck es) ≡ p.asked
     entries_are = ap (line_entries t) hist_is ∙ speaks.asked
 
-    task_is : IsTask ls p found.0.tasks.told (λ r. false) t (state_of found.0.tasks t)
+    task_is : IsTask ls p found.0.tasks.told (λ r. false) t y
     task_is =
         subst (λ o. IsTask ls p n.tasks.told (λ r. is_leaving r o) t y) idle
         (subst (λ x. IsTask ls p n.tasks.told (λ r. is_leaving r y.outstanding) t x) (unasked-none y idle) here_is.task)
@@ -357,8 +357,7 @@ module _ (deck : Deck) (es : List Event) (right : IsHistory deck (items (run dec
     all-told q home h = told-same q home ∙ h
 
     -- each line up to the one that it is done with has its code line
-    code-told : (j m : ℕ) → passed_by None (state_of found.0.tasks t).phase (state_of found.0.tasks t).line ≡ m → 0 < j
-        → j ≤ m → has_code (slice_get ls (j - 1)) ≡ true
+    code-told : (j m : ℕ) → passed_by None y.phase y.line ≡ m → 0 < j → j ≤ m → has_code (slice_get ls (j - 1)) ≡ true
         → list_any (is_code_of t j) (lines_of_told (run deck es).told) ≡ true
     code-told j m is low l has =
         code-exact deck n.tasks t ls there.lines ours.here es [] (run deck es).told j (g.agree orders)
@@ -381,23 +380,22 @@ module _ (deck : Deck) (es : List Event) (right : IsHistory deck (items (run dec
         list_any (is_code_of t j) (lines_of_told (run deck es).told) ≡ true
     stood-told j low has stands no_wait not_held = by_phase y.phase refl
       where
-        within : j ≤ (state_of found.0.tasks t).line
+        within : j ≤ y.line
         within = go (leb y.line (j - 1)) refl
           where
-            count : length p.asked ≡ length (asks_of (take (state_of found.0.tasks t).line ls))
+            count : length p.asked ≡ length (asks_of (take y.line ls))
             count = task_is.count (k.calm t ls ours).1
 
-            go : (b : Bool) → leb (state_of found.0.tasks t).line (j - 1) ≡ b → j ≤ (state_of found.0.tasks t).line
+            go : (b : Bool) → leb y.line (j - 1) ≡ b → j ≤ y.line
             go false e = let past : j - 1 < y.line = leb-false y.line (j - 1) e in omega (arith, past)
             go true e =
                 absurd (omega (arith, more-asks y.line (j - 1) (leb-true y.line (j - 1) e) ls, stands, count))
 
-        date : (m : ℕ) → passed_by None (state_of found.0.tasks t).phase (state_of found.0.tasks t).line ≡ m → j ≤ m
+        date : (m : ℕ) → passed_by None y.phase y.line ≡ m → j ≤ m
             → list_any (is_code_of t j) (lines_of_told (run deck es).told) ≡ true
         date m is l = code-told j m is low l has
 
-        by_phase : (q : Phase) → (state_of found.0.tasks t).phase ≡ q
-            → list_any (is_code_of t j) (lines_of_told (run deck es).told) ≡ true
+        by_phase : (q : Phase) → y.phase ≡ q → list_any (is_code_of t j) (lines_of_told (run deck es).told) ≡ true
         by_phase phases.Ready e = absurd (let f : true ≡ false = sym (ap goes_on e) ∙ (k.calm t ls ours).0 in cc)
         by_phase (phases.Ending c) e = absurd (let f : true ≡ false = sym (ap goes_on e) ∙ (k.calm t ls ours).0 in cc)
         by_phase phases.ToSend e = absurd (let f : true ≡ false = sym (ap is_unsent e) ∙ (k.calm t ls ours).1 in cc)
@@ -406,18 +404,18 @@ module _ (deck : Deck) (es : List Event) (right : IsHistory deck (items (run dec
         by_phase (phases.HeldLine r) e =
             date (y.line - 1) (ap (λ q. passed_by None q y.line) e) (omega (arith, within, low, apart))
           where
-            hl : IsHeldLine ls p found.0.tasks.told t (state_of found.0.tasks t).line r
+            hl : IsHeldLine ls p found.0.tasks.told t y.line r
             hl = subst (IsInPhase ls p n.tasks.told t y.line) e task_is.phase
 
-            apart : j ≢ (state_of found.0.tasks t).line
+            apart : j ≢ y.line
             apart same = no_wait r (subst (λ i. IsWaitFor r (slice_get ls (i - 1))) (sym same) hl.at)
         by_phase phases.HeldAnswer e =
             date (y.line - 1) (ap (λ q. passed_by None q y.line) e) (omega (arith, within, low, apart))
           where
-            held : IsHeld ls p found.0.tasks.told t (state_of found.0.tasks t).line
+            held : IsHeld ls p found.0.tasks.told t y.line
             held = subst (IsInPhase ls p n.tasks.told t y.line) e task_is.phase
 
-            apart : j ≢ (state_of found.0.tasks t).line
+            apart : j ≢ y.line
             apart same = not_held (subst (IsHeld ls p n.tasks.told t) (sym same) held)
 
     -- a reply was told
@@ -492,27 +490,25 @@ module _ (deck : Deck) (es : List Event) (right : IsHistory deck (items (run dec
 
     -- ---- it waits
     -- on record is what it has
-    has_element : (r : Res) → has_res r (state_of found.0.tasks t).records ≡ true
-        → has_task (list_of (lists_after deck es) r) t ≡ true
+    has_element : (r : Res) → has_res r y.records ≡ true → has_task (list_of (lists_after deck es) r) t ≡ true
     has_element r has = ap (λ (hs : List HistEntry). has_task (list_of (replay deck.limit hs) r) t) hist_is
         ∙ (has_task-own (replay deck.limit (history P)) t r
         ∙ (ap (has_own r) speaks.own ∙ (sym (has_res-own r y.records p.own task_is.keys) ∙ has)))
 
     -- and what isn't marked it doesn't own
-    unowned : (r : Res) → (is_marked r (state_of found.0.tasks t).records ≡ true → ⊥)
-        → owns (list_of (lists_after deck es) r) t ≡ false
+    unowned : (r : Res) → (is_marked r y.records ≡ true → ⊥) → owns (list_of (lists_after deck es) r) t ≡ false
     unowned r none =
         false_by (owns (list_of (lists_after deck es) r) t)
         (λ own. absurd (none (k.marked t ls r ours (ap (λ xs. owns xs t) (sym (lists_are r)) ∙ own))))
 
-    end_is : task_end (run deck es).medium.removed (run deck es).nodes t ≡ end_in (state_of found.0.tasks t).phase
+    end_is : task_end (run deck es).medium.removed (run deck es).nodes t ≡ end_in y.phase
     end_is =
         ap (end_at (run deck es).medium.removed t) found.1
         ∙ (ap (λ b. cond b (end_removed (end_of n.tasks t)) (end_of n.tasks t)) alive
         ∙ ap (λ b. cond b (end_in y.phase) ends.Open) ours.here)
 
     -- at a WAIT line
-    held_line : (r : Res) → (state_of found.0.tasks t).phase ≡ phases.HeldLine r → IsWaiting deck es t ls
+    held_line : (r : Res) → y.phase ≡ phases.HeldLine r → IsWaiting deck es t ls
     held_line r e = record {
       res = r;
       held =
@@ -524,10 +520,10 @@ module _ (deck : Deck) (es : List Event) (right : IsHistory deck (items (run dec
       shown = end_is ∙ ap end_in e;
     }
       where
-        unmarked : is_unmarked r (state_of found.0.tasks t).records ≡ true
+        unmarked : is_unmarked r y.records ≡ true
         unmarked = subst (λ q. is_kept q y.records ≡ true) e (k.date t ls there.lines ours.here).held
 
-        hl : IsHeldLine ls p found.0.tasks.told t (state_of found.0.tasks t).line r
+        hl : IsHeldLine ls p found.0.tasks.told t y.line r
         hl = subst (IsInPhase ls p n.tasks.told t y.line) e task_is.phase
 
         line_at : (o : Option Meaning) → IsWaitFor r o
@@ -540,12 +536,11 @@ module _ (deck : Deck) (es : List Event) (right : IsHistory deck (items (run dec
         line_at (Some (lines.Wait q))
             w = (lines.Wait q, refl, refl, subst (λ z. same_res r z ≡ true) (sym w) (same_res-itself r), refl)
 
-        found_line : (l : Meaning) × (slice_get ls ((state_of found.0.tasks t).line - 1) ≡ Some l) × (asks_in l ≡ [])
-            × (waits_at r (slice_get ls ((state_of found.0.tasks t).line - 1)) ≡ true)
-            × (is_wait (slice_get ls ((state_of found.0.tasks t).line - 1)) ≡ true)
+        found_line : (l : Meaning) × (slice_get ls (y.line - 1) ≡ Some l) × (asks_in l ≡ [])
+            × (waits_at r (slice_get ls (y.line - 1)) ≡ true) × (is_wait (slice_get ls (y.line - 1)) ≡ true)
         found_line = line_at (slice_get ls (y.line - 1)) hl.at
 
-        count : length p.asked ≡ length (asks_of (take ((state_of found.0.tasks t).line - 1) ls))
+        count : length p.asked ≡ length (asks_of (take (y.line - 1) ls))
         count =
             let back : y.line - 1 + 1 ≡ y.line = omega (arith, hl.begun) in
             task_is.count (k.calm t ls ours).1
@@ -553,14 +548,13 @@ module _ (deck : Deck) (es : List Event) (right : IsHistory deck (items (run dec
             ∙ ap (λ xs. length xs) (asks-same ls (y.line - 1) found_line.0 found_line.1 found_line.2))
 
         -- it has no code line, and each WAIT line before has one
-        none_yet : list_any (is_code_of t (state_of found.0.tasks t).line) (lines_of_told (run deck es).told) ≡ false
+        none_yet : list_any (is_code_of t y.line) (lines_of_told (run deck es).told) ≡ false
         none_yet =
             told-same (is_code_of t y.line) (code_of-home t y.line)
             ∙ uncoded t y.line n.tasks.told
             (subst (λ q. list_all (is_code_before t (code_bound q y.line)) n.tasks.told ≡ true) e task_is.codes)
 
-        before : (j : ℕ) → 1 ≤ j → j < (state_of found.0.tasks t).line
-            → is_uncoded t ls (lines_of_told (run deck es).told) j ≡ false
+        before : (j : ℕ) → 1 ≤ j → j < y.line → is_uncoded t ls (lines_of_told (run deck es).told) j ≡ false
         before j low l = go (is_wait (slice_get ls (j - 1))) refl
           where
             go : (b : Bool) → is_wait (slice_get ls (j - 1)) ≡ b
@@ -570,7 +564,7 @@ module _ (deck : Deck) (es : List Event) (right : IsHistory deck (items (run dec
                 ap not (code-told j (y.line - 1) (ap (λ q. passed_by None q y.line) e) (omega (arith, low))
                 (omega (arith, l)) (wait-code (slice_get ls (j - 1)) f))
 
-        first : first_uncoded t ls (lines_of_told (run deck es).told) ≡ Some (state_of found.0.tasks t).line
+        first : first_uncoded t ls (lines_of_told (run deck es).told) ≡ Some y.line
         first =
             first-found (is_uncoded t ls (lines_of_told (run deck es).told)) 1 (length ls) y.line
             (omega (arith, hl.begun)) (omega (arith, slice_get_within ls (y.line - 1) found_line.0 found_line.1))
@@ -578,7 +572,7 @@ module _ (deck : Deck) (es : List Event) (right : IsHistory deck (items (run dec
             (not (list_any (is_code_of t y.line) (lines_of_told (run deck es).told))) found_line.4 (ap not none_yet))
             before
 
-        next : is_next ls p.asked (state_of found.0.tasks t).line ≡ true
+        next : is_next ls p.asked y.line ≡ true
         next =
             and_from (not (is_some (end_among p.asked))) (length (asks_of (take (y.line - 1) ls)) == length p.asked)
             (ap (λ o. not (is_some o)) hl.going.no_code) (eq-eqb _ _ (sym count))
@@ -590,7 +584,7 @@ module _ (deck : Deck) (es : List Event) (right : IsHistory deck (items (run dec
             (and_from (waits_at r (slice_get ls (y.line - 1))) (is_next ls p.asked y.line) found_line.3 next))
 
     -- by its last answer
-    held_answer : (state_of found.0.tasks t).phase ≡ phases.HeldAnswer → IsWaiting deck es t ls
+    held_answer : y.phase ≡ phases.HeldAnswer → IsWaiting deck es t ls
     held_answer e = record {
       res = w.res;
       held =
@@ -607,16 +601,16 @@ module _ (deck : Deck) (es : List Event) (right : IsHistory deck (items (run dec
       shown = end_is ∙ ap end_in e;
     }
       where
-        hd : IsHeld ls p found.0.tasks.told t (state_of found.0.tasks t).line
+        hd : IsHeld ls p found.0.tasks.told t y.line
         hd = subst (IsInPhase ls p n.tasks.told t y.line) e task_is.phase
 
-        learned_is : learned t here_is.known (items (run deck es).fixed) ≡ mine t (items (run deck es).fixed)
+        learned_is : learned t here_is.known P ≡ mine t P
         learned_is =
             (all_is_known t here_is.known P (known-all P t here_is.known here_is.knows.right
             (knows-closed P t y.outstanding here_is.known idle here_is.knows))
             here_is.knows.right).0
 
-        well : list_all waits_well (history (learned t here_is.known (items (run deck es).fixed))) ≡ true
+        well : list_all waits_well (history (learned t here_is.known P)) ≡ true
         well =
             ap (λ xs. list_all waits_well (history xs)) learned_is
             ∙ (ap (list_all waits_well) (sym (entries_are_of_items t P right.made))
@@ -638,7 +632,7 @@ module _ (deck : Deck) (es : List Event) (right : IsHistory deck (items (run dec
     task-waits : task_end (run deck es).medium.removed (run deck es).nodes t ≢ Ended → IsWaiting deck es t ls
     task-waits going = by_phase y.phase refl
       where
-        by_phase : (q : Phase) → (state_of found.0.tasks t).phase ≡ q → IsWaiting deck es t ls
+        by_phase : (q : Phase) → y.phase ≡ q → IsWaiting deck es t ls
         by_phase phases.Ready e = absurd (let f : true ≡ false = sym (ap goes_on e) ∙ (k.calm t ls ours).0 in cc)
         by_phase (phases.Ending c) e = absurd (let f : true ≡ false = sym (ap goes_on e) ∙ (k.calm t ls ours).0 in cc)
         by_phase phases.ToSend e = absurd (let f : true ≡ false = sym (ap is_unsent e) ∙ (k.calm t ls ours).1 in cc)

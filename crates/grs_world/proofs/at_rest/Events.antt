@@ -13,18 +13,18 @@ use Rattle.grs_world.proofs.Common.{tell_answer, tell_answer_any, tell_answer_ra
 use Rattle.grs_world.proofs.Common.{true, unrecorded, Want, with_first_look, with_list_ranks, with_outstanding}
 use Rattle.grs_world.proofs.Common.{with_phase, with_rank, with_rank_by, with_rank_of, with_ranks, zero, ℕ}
 use Rattle.std.specs.Prelude.{map}
-use Rattle.grs_node.specs.Change.{first_look, more_left}
-use Rattle.grs_node.specs.Removal.{again, has_sent_in}
-use Rattle.grs_wire.specs.contracts.request.WantPartialEq.TheImpl.{eq-value as same_want}
-use Rattle.grs_wire.specs.declared.request.Answer.TheVariants.{Coded as CodedBy}
 use Rattle.ring_mode.specs.Ring.{Side, is_asked}
-use Rattle.star_client.specs.Client.{can_get}
-use Rattle.task_state.proofs.ViewLaws.{is_task-state}
 use Rattle.grs_known.proofs.system.Did.{did-state}
-use Rattle.grs_known.proofs.tasks.Answered.{IsAnswerTo, answer-told}
-use Rattle.grs_world.proofs.at_rest.Steps.{AllDate, date-did, date-new, date-own, placed-here}
+use Rattle.task_state.proofs.ViewLaws.{is_task-state}
 use Rattle.grs_known.proofs.tasks.UpToDate.{AreCoded, HasUnit, IsLeft, IsUpToDate, any-date, any-wanted, is_kept}
 use Rattle.grs_known.proofs.tasks.UpToDate.{more-told}
+use Rattle.grs_node.specs.Change.{first_look, more_left}
+use Rattle.grs_wire.specs.declared.request.Answer.TheVariants.{Coded as CodedBy}
+use Rattle.grs_node.specs.Removal.{again, has_sent_in}
+use Rattle.star_client.specs.Client.{can_get}
+use Rattle.grs_wire.specs.contracts.request.WantPartialEq.TheImpl.{eq-value as same_want}
+use Rattle.grs_known.proofs.tasks.Answered.{IsAnswerTo, answer-told}
+use Rattle.grs_world.proofs.at_rest.Steps.{AllDate, date-did, date-new, date-own, placed-here}
 use Rattle.grs_known.specs.Passed.{is_at_line, passed_asking, passed_by}
 use Rattle.grs_world.proofs.at_rest.Freed.{date-freed}
 use Rattle.task_state.specs.declared.state.Phase.TheVariants as phases

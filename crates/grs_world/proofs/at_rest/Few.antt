@@ -10,17 +10,17 @@ use Rattle.grs_world.proofs.Common.{some_of, State, subst, suc, sym, SysId, Syst
 use Rattle.grs_world.proofs.Common.{zero, ℕ}
 use Rattle.std.proofs.Common.{leb-true, le-leb}
 use Rattle.std.specs.Prelude.{All, IsSomeAnd}
-use Rattle.std.proofs.lemmas.Option.{get_or_from_slice_get}
 use Rattle.grs_legal.specs.Asks.{Script, lines_at, meaning_of, scripts_at, scripts_from, scripts_in}
-use Rattle.grs_legal.specs.Legal.{IsLegal, is_of_line}
 use Rattle.grs_wire.specs.History.{look_entries}
+use Rattle.grs_known.specs.Items.{AllMade}
+use Rattle.grs_base.specs.Limits.{most_lines}
+use Rattle.grs_legal.specs.Legal.{IsLegal, is_of_line}
+use Rattle.grs_known.proofs.system.Ours.{script_at}
+use Rattle.std.proofs.lemmas.Option.{get_or_from_slice_get}
 use Rattle.grs_wire.specs.Decks.{IsBounded, IsWithin, task_count}
 use Rattle.grs_wire.specs.declared.deck.JobDef.{JobDef}
 use Rattle.grs_wire.specs.declared.deck.TaskDef.{TaskDef}
 use Rattle.grs_wire.proofs.DeckLaws.{lines_few}
-use Rattle.grs_known.proofs.system.Ours.{script_at}
-use Rattle.grs_base.specs.Limits.{most_lines}
-use Rattle.grs_known.specs.Items.{AllMade}
 use Rattle.grs_world.proofs.at_rest.AsAsked.{asked-few, asks-few, entries-asked}
 use Rattle.grs_world.proofs.star.Heard.{enq_count, is_enq, is_enq_want}
 use Rattle.grs_wire.specs.declared.history.HistEntry.TheVariants as entries
@@ -267,7 +267,7 @@ module _ (deck : Deck) (h : IsBounded deck) (hs : List HistEntry) (legal : Legal
   abbrev E : List HistEntry
   E = filter is_e hs
 
-  known : list_all (is_known deck) (filter is_e hs) ≡ true
+  known : list_all (is_known deck) E ≡ true
   known = known-enqs deck [] hs legal
 
   in-range : (xs : List HistEntry) → list_all (is_known deck) xs ≡ true → list_all (λ x. nat_lt (place x) 512) xs ≡ true
@@ -313,10 +313,10 @@ module _ (deck : Deck) (h : IsBounded deck) (hs : List HistEntry) (legal : Legal
   of-one t ls lines_t i at (entries.Look u p f rows) e k = absurd (cc)
   of-one t ls lines_t i at (entries.Remove by target) e k = absurd (cc)
 
-  class-few : (i : ℕ) → length (filter (λ x. place x == i) (filter is_e hs)) ≤ most_lines * 65
+  class-few : (i : ℕ) → length (filter (λ x. place x == i) E) ≤ most_lines * 65
   class-few i = go (filter (λ x. place x == i) E) refl
     where
-      go : (fs : List HistEntry) → filter (λ x. place x == i) (filter is_e hs) ≡ fs → length fs ≤ most_lines * 65
+      go : (fs : List HistEntry) → filter (λ x. place x == i) E ≡ fs → length fs ≤ most_lines * 65
       go [] e = omega arith
       go (y ∷ ys) e = by_first y (first-passes (λ x. place x == i) (is_known deck) E y ys known e)
         where
@@ -337,7 +337,7 @@ module _ (deck : Deck) (h : IsBounded deck) (hs : List HistEntry) (legal : Legal
           by_first (entries.Look u at f rows) k = absurd (let z : false ≡ true = k.1 in cc)
           by_first (entries.Remove by target) k = absurd (let z : false ≡ true = k.1 in cc)
 
-  pub enqs-few : length (filter is_e hs) ≤ 512 * (16384 * 65)
+  pub enqs-few : length E ≤ 512 * (16384 * 65)
   enqs-few = by_classes place (most_lines * 65) 512 E (in-range E known) class-few
 
 -- ---- so no rank is too great

@@ -7,19 +7,19 @@ use Rattle.grs_world.proofs.Common.{or_right, owns, owns-has, Phase, refl, remov
 use Rattle.grs_world.proofs.Common.{same_res, same_res-exact, same_res-itself, same_task, same_task-exact, Some, State}
 use Rattle.grs_world.proofs.Common.{state_of, subst, sym, TaskId, TasksView, tell_freed, tell_new, true, ℕ}
 use Rattle.std.specs.Prelude.{take}
+use Rattle.freed_owners.specs.Freed.{newcomers}
+use Rattle.grs_base.specs.Lists.{owners}
+use Rattle.grs_known.proofs.lists.Owners.{is_among-pick, owns-any}
+use Rattle.grs_base.specs.State.{is_of_other}
+use Rattle.grs_base.specs.Rows.{lists_from, row_of}
 use Rattle.std.specs.FinMap.{put}
 use Rattle.std.specs.FinMap.Entries.{by_order}
 use Rattle.std.specs.Ordering.{is_eq}
 use Rattle.std.specs.declared.cmp.Ordering.{Ordering}
 use Rattle.std.specs.declared.cmp.Ordering.TheVariants.{Less, Equal, Greater}
-use Rattle.grs_base.specs.Lists.{owners}
 use Rattle.grs_base.specs.ResOrder.{res_order}
-use Rattle.grs_base.specs.Rows.{lists_from, row_of}
-use Rattle.grs_base.specs.State.{is_of_other}
 use Rattle.grs_base.proofs.OrderLaws.{same_res-tie}
 use Rattle.grs_wire.proofs.RemoveLaws.{list_of-remove}
-use Rattle.freed_owners.specs.Freed.{newcomers}
-use Rattle.grs_known.proofs.lists.Owners.{is_among-pick, owns-any}
 use Rattle.grs_world.proofs.at_rest.Steps.{AllDate, date-new}
 use Rattle.grs_known.proofs.records.ToldAll.{ToldAll, told-all}
 use Rattle.task_state.specs.declared.state.Phase.TheVariants as phases

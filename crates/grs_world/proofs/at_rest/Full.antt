@@ -22,16 +22,16 @@ use Rattle.grs_world.proofs.Common.{with_line, with_list_ranks, with_outstanding
 use Rattle.grs_world.proofs.Common.{with_rank_of, with_ranks, with_rows, with_side, with_tasks, with_told}
 use Rattle.grs_world.proofs.Common.{without_record, without_rows, without_those, World, zero, ℕ}
 use Rattle.std.specs.Prelude.{◌&&◌}
-use Rattle.grs_base.specs.declared.decision.Code.TheVariants.{C18}
+use Rattle.task_state.specs.Replies.{phase_after}
+use Rattle.grs_node.specs.Node.{changed as changed_now}
 use Rattle.grs_node.specs.Star.{own_step}
+use Rattle.grs_base.specs.declared.decision.Code.TheVariants.{C18}
 use Rattle.grs_wire.specs.declared.medium.Mail.TheVariants.{Request as RequestMail, Answered as AnsweredMail}
+use Rattle.grs_wire.specs.declared.request.Answer.TheVariants.{Coded}
 use Rattle.grs_world.proofs.run.Sound.{first_of}
 use Rattle.grs_world.proofs.run.Each.{each_run}
 use Rattle.grs_world.proofs.run.Runs.{by_node}
-use Rattle.grs_node.specs.Node.{changed as changed_now}
-use Rattle.grs_wire.specs.declared.request.Answer.TheVariants.{Coded}
 use Rattle.grs_wire.specs.declared.told.Verb.{Verb}
-use Rattle.task_state.specs.Replies.{phase_after}
 use Rattle.task_state.proofs.Keeps.{count-enq, system-enq}
 use Rattle.task_state.proofs.Stays.{count-line, count-outstanding, count-phase, count-rank, count-telling, count-told}
 use Rattle.task_state.proofs.Stays.{count-no_rows, count-rows, count-without, system-line, system-no_rows}

@@ -9,19 +9,19 @@ use Rattle.grs_world.proofs.Common.{ltb-true, Meaning, nat_lt, no_truth, None, n
 use Rattle.grs_world.proofs.Common.{Rec, refl, Res, Ret, RunItem, same_res, same_res-exact, same_res-itself, same_task}
 use Rattle.grs_world.proofs.Common.{slice_get, Some, standing_of, State, subst, suc, sym, SysId, take, TaskId}
 use Rattle.grs_world.proofs.Common.{tells_control, ToldLine, true, Wait, Want, zero, ℕ}
+use Rattle.grs_legal.specs.Asks.{is_silent}
+use Rattle.grs_wire.specs.History.{code_of, look_entries}
+use Rattle.grs_known.specs.Told.{asked_at, entries_behind, is_code_before, is_control, is_post_of, queued_last, queues}
+use Rattle.grs_known.specs.Told.{queues_at}
+use Rattle.grs_known.proofs.tasks.Invariant.{is_post_before}
+use Rattle.grs_known.specs.Items.{AllMade}
 use Rattle.std.specs.List.{range_with_len}
 use Rattle.grs_base.specs.Lists.{deq_code, enq_decision, can_have}
 use Rattle.grs_base.specs.declared.decision.Effect.TheVariants.{Append, MakeExclusive, Nothing}
 use Rattle.grs_base.specs.declared.decision.Standing.{Standing}
-use Rattle.grs_legal.specs.Asks.{is_silent}
 use Rattle.grs_legal.specs.Legal.{last_entry}
-use Rattle.grs_wire.specs.History.{code_of, look_entries}
 use Rattle.task_state.specs.Replies.{is_changed, is_queued}
-use Rattle.grs_known.proofs.tasks.Invariant.{is_post_before}
-use Rattle.grs_known.specs.Items.{AllMade}
 use Rattle.grs_known.specs.Past.{has_own, own_after, own_by_effect, own_told}
-use Rattle.grs_known.specs.Told.{asked_at, entries_behind, is_code_before, is_control, is_post_of, queued_last, queues}
-use Rattle.grs_known.specs.Told.{queues_at}
 use Rattle.grs_world.specs.AtRest.{is_waiting, waits_on}
 use Rattle.grs_wire.specs.declared.history.HistEntry.TheVariants as entries
 use Rattle.grs_wire.specs.declared.request.Fixed.TheVariants as fixes

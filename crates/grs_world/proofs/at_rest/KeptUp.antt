@@ -14,9 +14,9 @@ use Rattle.grs_world.proofs.Common.{Some, stale, standing, StarPart, StarStep, s
 use Rattle.grs_world.proofs.Common.{sym, SysId, take, take-append-drop, take_line, take_mail, task_step, TaskId}
 use Rattle.grs_world.proofs.Common.{TasksView, tell_answer_ranked, took_mail, true, Turnout, unseen, Want, with_also}
 use Rattle.grs_world.proofs.Common.{with_line, with_phase, with_tasks, without_those, World, zero, ℕ}
-use Rattle.std.specs.Prelude.{◌&&◌, drop}
 use Rattle.grs_node.specs.Node.{changed as changed_now}
 use Rattle.grs_node.specs.Star.{lists_for}
+use Rattle.std.specs.Prelude.{◌&&◌, drop}
 use Rattle.grs_wire.specs.declared.medium.Mail.TheVariants.{Request as RequestMail, Answered as AnsweredMail}
 use Rattle.grs_known.proofs.tasks.Answered.{lists-answer}
 use Rattle.grs_world.proofs.at_rest.Events.{date-again, date-any, date-entries, date-all_sent, date-one_by_one}

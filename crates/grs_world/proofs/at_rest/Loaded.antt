@@ -7,15 +7,15 @@ use Rattle.grs_world.proofs.Common.{part_by_table, refl, remove_state, Res, roun
 use Rattle.grs_world.proofs.Common.{same_res-exact, same_res-itself, same_Some, same_task, Some, standing_of, State}
 use Rattle.grs_world.proofs.Common.{subst, suc, sym, SysId, TaskId, true, Want, zero, ℕ}
 use Rattle.std.specs.Prelude.{max}
+use Rattle.grs_known.specs.Items.{lists_from}
+use Rattle.grs_base.specs.State.{after_effect, with_exclusive}
+use Rattle.grs_base.specs.Rows.{lists_of, row_of}
+use Rattle.grs_base.specs.Lists.{decide_enq, is_owner}
 use Rattle.std.specs.List.{range_with_len}
 use Rattle.contention_mgr.proofs.LoadLemmas.{greatest-append}
 use Rattle.contention_mgr.specs.Loads.{greatest, loaded}
-use Rattle.grs_base.specs.Rows.{lists_of, row_of}
-use Rattle.grs_base.specs.State.{after_effect, with_exclusive}
-use Rattle.grs_base.specs.Lists.{decide_enq, is_owner}
 use Rattle.grs_base.specs.declared.decision.Effect.{Effect}
 use Rattle.grs_base.specs.declared.decision.Effect.TheVariants.{Nothing, Append, MakeExclusive}
-use Rattle.grs_known.specs.Items.{lists_from}
 use Rattle.grs_node.proofs.TableParts.{table-kept}
 use Rattle.lock_structure.specs.RankedRows.{ranks_of}
 use Rattle.mode_migrate.proofs.Rows.{AreLists, Lists, StandApart, is_listed, lists-apart, lists-are}

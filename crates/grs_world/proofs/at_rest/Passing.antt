@@ -5,9 +5,9 @@ use Rattle.grs_world.proofs.Common.{lines_of, lines_of_told, List, list_any, lt-
 use Rattle.grs_world.proofs.Common.{node_at, NodeState, None, NoneInStar, Option, OrdersFit, refl, run, scripts_of}
 use Rattle.grs_world.proofs.Common.{slice_get, slice_get_within, Some, state_of, subst, suc, sym, SysId, TaskId}
 use Rattle.grs_world.proofs.Common.{TaskState, ToldLine, true, World, zero, ℕ}
-use Rattle.std.proofs.lemmas.Map.Views.{any-filter_same}
-use Rattle.std.proofs.lemmas.Option.{get_or_from_slice_get}
 use Rattle.grs_known.specs.Told.{is_end_of}
+use Rattle.std.proofs.lemmas.Option.{get_or_from_slice_get}
+use Rattle.std.proofs.lemmas.Map.Views.{any-filter_same}
 use Rattle.grs_known.proofs.system.Ours.{script_at}
 use Rattle.grs_world.proofs.move.Sound.{GoodRun, every_run, good_told, in_ring, in_star}
 use Rattle.grs_world.proofs.at_rest.AtEnd.{code-exact, code-home, end-exact, end-home}

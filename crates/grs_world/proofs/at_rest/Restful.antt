@@ -124,26 +124,25 @@ module _ (deck : Deck) (w : World) (g : IsChanging deck w) (h : IsRestful deck w
     there : slice_get g.view c.0 ≡ Some n
     there = view-of deck w g c.0 n at alive ∙ ap (λ (z : NodeState). Some z) (shown-star deck es c.0 n p star)
 
-    step : IsStep deck (record w { nodes = g.view }) c n (chosen deck w.medium c n choice)
+    step : IsStep deck shown c n o
     step =
         good_choice deck some (record w { nodes = g.view }) c inside n (at_site there alive) g.whole.roles
         (g.whole.roles.node c.0 n (at_site there alive))
         (usual deck (record w { nodes = g.view }) g.whole c n (at_site there alive) knows) choice kept
 
-    out : IsOutcome deck (record w { nodes = g.view }) g.whole c n (chosen deck w.medium c n choice)
+    out : IsOutcome deck shown g.whole c n o
     out =
         outcome deck some (record w { nodes = g.view }) g.whole c inside n (at_site there alive) removed knows choice
         kept step
 
-    changed : (chosen deck w.medium c n choice).step.node.star ≡ None → ⊥
+    changed : o.step.node.star ≡ None → ⊥
     changed none = absurd (let no : Some step.member.part ≡ None = sym step.member.star ∙ none in cc)
 
-    was-live : (s : ℕ) → has (chosen deck w.medium c n choice).medium.removed s ≡ false → has w.medium.removed s ≡ false
+    was-live : (s : ℕ) → has o.medium.removed s ≡ false → has w.medium.removed s ≡ false
     was-live s l = sym (ap (λ i. has i s) step.removed) ∙ l
 
-    view-star : (g' : IsChanging deck (placed w c n (chosen deck w.medium c n choice))) → (s : ℕ)
-        → has (chosen deck w.medium c n choice).medium.removed s ≡ false
-        → slice_get (set g.view c.0 (chosen deck w.medium c n choice).step.node) s ≡ slice_get g'.view s
+    view-star : (g' : IsChanging deck (placed w c n o)) → (s : ℕ) → has o.medium.removed s ≡ false
+        → slice_get (set g.view c.0 o.step.node) s ≡ slice_get g'.view s
     unfolding placed
     view-star g' =
         view-is deck (placed w c n o) g' (set g.view c.0 o.step.node)
@@ -161,28 +160,27 @@ module _ (deck : Deck) (w : World) (g : IsChanging deck w) (h : IsRestful deck w
         ∙ (view-of deck w g s m f (was-live s l)
         ∙ ap (λ (x : Message). Some (shown_at deck x.entries s m)) (sym step.message))))
 
-    same-star : (g' : IsChanging deck (placed w c n (chosen deck w.medium c n choice)))
-        → SameShown deck (placed (record w { nodes = g.view }) c n (chosen deck w.medium c n choice))
-        (record (placed w c n (chosen deck w.medium c n choice)) { nodes = g'.view })
+    same-star : (g' : IsChanging deck (placed w c n o))
+        → SameShown deck (placed shown c n o) (record (placed w c n o) { nodes = g'.view })
     unfolding placed
     same-star g' =
         same-nodes deck (placed shown c n o) (record (placed w c n o) { nodes = g'.view }) refl
         (λ s l. sym (view-star g' s l)) (λ s. refl) refl
 
-    sent-before : (s : ℕ) (t : TaskId) → sent_with (sent_of w.nodes) c n s t ≡ true → sent_of w.nodes s t ≡ true
+    sent-before : (s : ℕ) (t : TaskId) → sent_with S c n s t ≡ true → sent_of w.nodes s t ≡ true
     sent-before s t = put_one S c.0 s (sent_by n) (λ f. f t ≡ true → S s t ≡ true)
         (λ same e. ap (λ u. S u t) same ∙ (ap (λ z. sent_in z t) at ∙ (sent-star n p t star ∙ e))) (λ ne e. e)
 
     had-before : (s : ℕ) (t : TaskId) (r : Res) → had_of deck w.medium.message.entries w.nodes s t r ≡ true
-        → had_with (had_of deck w.medium.message.entries w.nodes) c n s t r ≡ true
+        → had_with H c n s t r ≡ true
     had-before s t r = put_one H c.0 s (had_by n) (λ f. H s t r ≡ true → f t r ≡ true)
         (λ same e.
         sym (had-star deck es c.0 n p t r star)
         ∙ (sym (ap (λ z. had_in deck es c.0 z t r) at) ∙ (ap (λ u. H u t r) (sym same) ∙ e)))
         (λ ne e. e)
 
-    sent-after : (s : ℕ) (t : TaskId) → sent_of (set w.nodes c.0 (chosen deck w.medium c n choice).step.node) s t ≡ true
-        → sent_with (sent_of w.nodes) c (chosen deck w.medium c n choice).step.node s t ≡ true
+    sent-after : (s : ℕ) (t : TaskId) → sent_of (set w.nodes c.0 o.step.node) s t ≡ true
+        → sent_with S c o.step.node s t ≡ true
     sent-after s t =
         put_one S c.0 s (sent_by o.step.node) (λ f. sent_of (set w.nodes c.0 o.step.node) s t ≡ true → f t ≡ true)
         (λ same e.
@@ -191,13 +189,8 @@ module _ (deck : Deck) (w : World) (g : IsChanging deck w) (h : IsRestful deck w
         ∙ (ap (λ u. sent_of (set w.nodes c.0 o.step.node) u t) (sym same) ∙ e)))
         (λ ne e. sym (ap (λ z. sent_in z t) (slice_get-set_other w.nodes c.0 s o.step.node ne)) ∙ e)
 
-    had-after : (s : ℕ) (t : TaskId) (r : Res)
-        → had_with (had_of deck w.medium.message.entries w.nodes) c (chosen deck w.medium c n choice).step.node s t r
-        ≡ true
-        →
-        had_of deck (chosen deck w.medium c n choice).medium.message.entries
-        (set w.nodes c.0 (chosen deck w.medium c n choice).step.node) s t r
-        ≡ true
+    had-after : (s : ℕ) (t : TaskId) (r : Res) → had_with H c o.step.node s t r ≡ true
+        → had_of deck o.medium.message.entries (set w.nodes c.0 o.step.node) s t r ≡ true
     had-after s t r =
         put_one H c.0 s (had_by o.step.node)
         (λ f. f t r ≡ true → had_of deck o.medium.message.entries (set w.nodes c.0 o.step.node) s t r ≡ true)
@@ -209,9 +202,7 @@ module _ (deck : Deck) (w : World) (g : IsChanging deck w) (h : IsRestful deck w
         ap (λ z. had_in deck o.medium.message.entries s z t r) (slice_get-set_other w.nodes c.0 s o.step.node ne)
         ∙ (ap (λ (x : Message). had_in deck x.entries s (slice_get w.nodes s) t r) step.message ∙ e))
 
-    before :
-        IsHeard deck (record w { nodes = g.view }) (sent_with (sent_of w.nodes) c n)
-        (had_with (had_of deck w.medium.message.entries w.nodes) c n)
+    before : IsHeard deck shown (sent_with S c n) (had_with H c n)
     before =
         heard-alike deck shown shown (same-nodes deck shown shown refl (λ s l. refl) (λ s. refl) refl) S
         (sent_with S c n) H (had_with H c n) (λ s t l home e. sent-before s t e)
@@ -219,11 +210,9 @@ module _ (deck : Deck) (w : World) (g : IsChanging deck w) (h : IsRestful deck w
 
     module _ (few : enq_count (items (w.fixed ++ fixed_by c (chosen deck w.medium c n choice).step.fixed))
         ≤ last_number) where
-      heard-star : (g' : IsChanging deck (placed w c n (chosen deck w.medium c n choice))) →
-          IsHeard deck (record (placed w c n (chosen deck w.medium c n choice)) { nodes = g'.view })
-          (sent_of (placed w c n (chosen deck w.medium c n choice)).nodes)
-          (had_of deck (placed w c n (chosen deck w.medium c n choice)).medium.message.entries
-          (placed w c n (chosen deck w.medium c n choice)).nodes)
+      heard-star : (g' : IsChanging deck (placed w c n o))
+          → IsHeard deck (record (placed w c n o) { nodes = g'.view }) (sent_of (placed w c n o).nodes)
+          (had_of deck (placed w c n o).medium.message.entries (placed w c n o).nodes)
       unfolding placed
       heard-star g' = heard-alike deck (placed shown c n o) (record (placed w c n o) { nodes = g'.view }) (same-star g')
           (sent_with S c o.step.node) (sent_of (set w.nodes c.0 o.step.node)) (had_with H c o.step.node)
@@ -231,7 +220,7 @@ module _ (deck : Deck) (w : World) (g : IsChanging deck w) (h : IsRestful deck w
           (λ s t l home e. sent-after s t e) (λ s k t r f l home wide e. had-after s t r e)
           (out.heard out.stays.whole S H few before)
 
-      pub restful-star : IsRestful deck (placed w c n (chosen deck w.medium c n choice))
+      pub restful-star : IsRestful deck (placed w c n o)
       unfolding placed
       restful-star = record {
         dated =
@@ -303,12 +292,8 @@ module _ (deck : Deck) (w : World) (g : IsChanging deck w) (h : IsRestful deck w
           ≡ (read_by deck w.medium.message.entries c.0 n).shared
       tables = shared-read deck _ n k table
 
-      view-waits :
-          (g' :
-          IsChanging deck
-          (placed w c n (record { medium = record w.medium { rest = flags }; step = record { node = k; fixed = fs } })))
-          → (s : ℕ) → has w.medium.removed s ≡ false
-          → slice_get (set g.view c.0 (shown_at deck w.medium.message.entries c.0 k)) s ≡ slice_get g'.view s
+      view-waits : (g' : IsChanging deck (placed w c n ow)) → (s : ℕ) → has w.medium.removed s ≡ false
+          → slice_get (set g.view c.0 kk) s ≡ slice_get g'.view s
       unfolding placed
       view-waits g' =
           view-is deck (placed w c n ow) g' (set g.view c.0 kk)
@@ -318,37 +303,23 @@ module _ (deck : Deck) (w : World) (g : IsChanging deck w) (h : IsRestful deck w
           (λ l. slice_get-set g.view c.0 kn kk there_waits)
           (λ s m ne f l. slice_get-set_other g.view c.0 s kk ne ∙ view-of deck w g s m f l))
 
-      star-waits :
-          (g' :
-          IsChanging deck
-          (placed w c n (record { medium = record w.medium { rest = flags }; step = record { node = k; fixed = fs } })))
-          → (shown_at deck w.medium.message.entries c.0 k).star ≡ (shown_at deck w.medium.message.entries c.0 n).star
+      star-waits : (g' : IsChanging deck (placed w c n ow)) → kk.star ≡ kn.star
       unfolding placed
       star-waits g' =
           shown-part (placed w c n ow) g' k (slice_get-set w.nodes c.0 n k at) alive free
           ∙ (ap (λ x. Some (part_by_table deck.entries (system_of c.0) x)) tables
           ∙ sym (shown-part w g n at alive alone))
 
-      has-waits :
-          (g' :
-          IsChanging deck
-          (placed w c n (record { medium = record w.medium { rest = flags }; step = record { node = k; fixed = fs } })))
-          → (t : TaskId) (r : Res) → is_home_at deck c.0 t ≡ true → is_systems r ≡ true →
-          has_res r (state_of (shown_at deck w.medium.message.entries c.0 k).tasks t).records
-          ≡ has_res r (state_of (shown_at deck w.medium.message.entries c.0 n).tasks t).records
+      has-waits : (g' : IsChanging deck (placed w c n ow)) → (t : TaskId) (r : Res) → is_home_at deck c.0 t ≡ true
+          → is_systems r ≡ true → has_res r (state_of kk.tasks t).records ≡ has_res r (state_of kn.tasks t).records
       unfolding placed
       has-waits g' t r home wide =
           shown-has (placed w c n ow) g' k (slice_get-set w.nodes c.0 n k at) alive free rd t r home wide
           ∙ (ap (λ x. has_task (list_of x r) t) tables
           ∙ sym (shown-has w g n at alive alone (h.read c.0 n at alive alone) t r home wide))
 
-      same-waits :
-          (g' :
-          IsChanging deck
-          (placed w c n (record { medium = record w.medium { rest = flags }; step = record { node = k; fixed = fs } })))
-          → SameShown deck (record w { nodes = g.view }) (record (placed w c n
-          (record { medium = record w.medium { rest = flags }; step = record { node = k; fixed = fs } }))
-          { nodes = g'.view })
+      same-waits : (g' : IsChanging deck (placed w c n ow))
+          → SameShown deck shown (record (placed w c n ow) { nodes = g'.view })
       unfolding placed
       same-waits g' = record {
         removed = refl;
@@ -364,11 +335,7 @@ module _ (deck : Deck) (w : World) (g : IsChanging deck w) (h : IsRestful deck w
       }
         where
           forth : (s : ℕ) (m : NodeState) → slice_get g.view s ≡ Some m → has w.medium.removed s ≡ false → (b : Bool)
-              → (s == c.0) ≡ b
-              → IsForth (record (placed w c n
-              (record { medium = record w.medium { rest = flags }; step = record { node = k; fixed = fs } }))
-              { nodes = g'.view })
-              s m
+              → (s == c.0) ≡ b → IsForth (record (placed w c n ow) { nodes = g'.view }) s m
           forth s m f l true e =
               let same : s ≡ c.0 = eqb-true s c.0 e in
               let is : kn ≡ m = same_Some kn m (sym there_waits ∙ (ap (slice_get g.view) (sym same) ∙ f)) in
@@ -401,23 +368,15 @@ module _ (deck : Deck) (w : World) (g : IsChanging deck w) (h : IsRestful deck w
           ∙ (sym (had-ring deck es c.0 n t r alone) ∙ (sym (ap (λ z. had_in deck es c.0 z t r) at) ∙ e))))
           (λ ne e. e)
 
-      heard-waits :
-          (g' :
-          IsChanging deck
-          (placed w c n (record { medium = record w.medium { rest = flags }; step = record { node = k; fixed = fs } })))
-          →
-          IsHeard deck (record (placed w c n
-          (record { medium = record w.medium { rest = flags }; step = record { node = k; fixed = fs } }))
-          { nodes = g'.view })
-          (sent_of (set w.nodes c.0 k)) (had_of deck w.medium.message.entries (set w.nodes c.0 k))
+      heard-waits : (g' : IsChanging deck (placed w c n ow))
+          → IsHeard deck (record (placed w c n ow) { nodes = g'.view }) (sent_of (set w.nodes c.0 k))
+          (had_of deck w.medium.message.entries (set w.nodes c.0 k))
       heard-waits g' =
           heard-alike deck shown (record (placed w c n ow) { nodes = g'.view }) (same-waits g') S
           (sent_of (set w.nodes c.0 k)) H (had_of deck es (set w.nodes c.0 k)) (λ s t l home e. sent-waits s t e)
           (λ s k' t r f l home wide e. had-waits s t r e) (h.heard g)
 
-      pub restful-waits :
-          IsRestful deck
-          (placed w c n (record { medium = record w.medium { rest = flags }; step = record { node = k; fixed = fs } }))
+      pub restful-waits : IsRestful deck (placed w c n ow)
       unfolding placed
       restful-waits = record {
         dated =
@@ -448,29 +407,26 @@ module _ (deck : Deck) (w : World) (g : IsChanging deck w) (h : IsRestful deck w
         step = only (change_to_star deck (read_by deck w.medium.message.entries c.0 n));
       }
 
-      due : IsRead deck c.0 (read_by deck w.medium.message.entries c.0 n) []
+      due : IsRead deck c.0 m []
       due = read-due deck w g c.0 n at alive alone (h.read c.0 n at alive alone)
 
-      box :
-          list_all (λ q. is_task (read_by deck w.medium.message.entries c.0 n).tasks q.task)
-          (read_by deck w.medium.message.entries c.0 n).outbox
-          ≡ true
+      box : list_all (λ q. is_task m.tasks q.task) m.outbox ≡ true
       box = read-box deck w g c.0 n at alive alone
 
       abbrev part : StarPart
       part = part_by_table deck.entries (system_of m.tasks.system) m.shared
 
-      turned-star : (change_to_star deck (read_by deck w.medium.message.entries c.0 n)).star ≡ Some part
+      turned-star : kt.star ≡ Some part
       turned-star = star-changed deck m
 
-      turned : (change_to_star deck (read_by deck w.medium.message.entries c.0 n)).star ≡ None → ⊥
+      turned : kt.star ≡ None → ⊥
       turned none = absurd (let no : Some part ≡ None = sym turned-star ∙ none in cc)
 
       view-turned :
           (g' :
           IsChanging deck (placed w c n (record {
             medium = record w.medium { message = turned_closed w.medium.message c; rest = flags };
-            step = only (change_to_star deck (read_by deck w.medium.message.entries c.0 n));
+            step = only kt;
           })))
           → (s : ℕ) → has w.medium.removed s ≡ false → slice_get g.view s ≡ slice_get g'.view s
       unfolding placed
@@ -492,13 +448,11 @@ module _ (deck : Deck) (w : World) (g : IsChanging deck w) (h : IsRestful deck w
           (g' :
           IsChanging deck (placed w c n (record {
             medium = record w.medium { message = turned_closed w.medium.message c; rest = flags };
-            step = only (change_to_star deck (read_by deck w.medium.message.entries c.0 n));
+            step = only kt;
           })))
-          →
-          SameShown deck (record w { nodes = g.view }) (record (placed w c n
-          (record {
+          → SameShown deck shown (record (placed w c n (record {
             medium = record w.medium { message = turned_closed w.medium.message c; rest = flags };
-            step = only (change_to_star deck (read_by deck w.medium.message.entries c.0 n));
+            step = only kt;
           }))
           { nodes = g'.view })
       unfolding placed
@@ -506,8 +460,7 @@ module _ (deck : Deck) (w : World) (g : IsChanging deck w) (h : IsRestful deck w
           same-nodes deck shown (record (placed w c n ot) { nodes = g'.view }) refl (λ s l. sym (view-turned g' s l))
           (λ s. refl) (ap items (append-nil w.fixed))
 
-      sent-turned : (s : ℕ) (t : TaskId) → is_home_at deck s t ≡ true
-          → sent_of (set w.nodes c.0 (change_to_star deck (read_by deck w.medium.message.entries c.0 n))) s t ≡ true
+      sent-turned : (s : ℕ) (t : TaskId) → is_home_at deck s t ≡ true → sent_of (set w.nodes c.0 kt) s t ≡ true
           → sent_of w.nodes s t ≡ true
       sent-turned s t =
           by_set w.nodes c.0 n kt at s
@@ -519,9 +472,7 @@ module _ (deck : Deck) (w : World) (g : IsChanging deck w) (h : IsRestful deck w
 
       had-turned : (s : ℕ) (t : TaskId) (r : Res) → is_home_at deck s t ≡ true → is_systems r ≡ true
           → had_of deck w.medium.message.entries w.nodes s t r ≡ true
-          → had_of deck (cleared c w.medium.message.entries)
-          (set w.nodes c.0 (change_to_star deck (read_by deck w.medium.message.entries c.0 n))) s t r
-          ≡ true
+          → had_of deck (cleared c w.medium.message.entries) (set w.nodes c.0 kt) s t r ≡ true
       had-turned s t r =
           by_set w.nodes c.0 n kt at s (λ u z.
           is_home_at deck u t ≡ true → is_systems r ≡ true → had_of deck es w.nodes u t r ≡ true
@@ -545,17 +496,14 @@ module _ (deck : Deck) (w : World) (g : IsChanging deck w) (h : IsRestful deck w
           (g' :
           IsChanging deck (placed w c n (record {
             medium = record w.medium { message = turned_closed w.medium.message c; rest = flags };
-            step = only (change_to_star deck (read_by deck w.medium.message.entries c.0 n));
+            step = only kt;
           })))
-          →
-          IsHeard deck (record (placed w c n (record {
+          → IsHeard deck (record (placed w c n (record {
             medium = record w.medium { message = turned_closed w.medium.message c; rest = flags };
-            step = only (change_to_star deck (read_by deck w.medium.message.entries c.0 n));
+            step = only kt;
           }))
           { nodes = g'.view })
-          (sent_of (set w.nodes c.0 (change_to_star deck (read_by deck w.medium.message.entries c.0 n))))
-          (had_of deck (cleared c w.medium.message.entries)
-          (set w.nodes c.0 (change_to_star deck (read_by deck w.medium.message.entries c.0 n))))
+          (sent_of (set w.nodes c.0 kt)) (had_of deck (cleared c w.medium.message.entries) (set w.nodes c.0 kt))
       heard-turned g' =
           heard-alike deck shown (record (placed w c n ot) { nodes = g'.view }) (same-turned g') S
           (sent_of (set w.nodes c.0 kt)) H (had_of deck (cleared c es) (set w.nodes c.0 kt))
@@ -565,7 +513,7 @@ module _ (deck : Deck) (w : World) (g : IsChanging deck w) (h : IsRestful deck w
       pub restful-turned :
           IsRestful deck (placed w c n (record {
             medium = record w.medium { message = turned_closed w.medium.message c; rest = flags };
-            step = only (change_to_star deck (read_by deck w.medium.message.entries c.0 n));
+            step = only kt;
           }))
       unfolding placed
       restful-turned = record {

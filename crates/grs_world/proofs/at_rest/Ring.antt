@@ -17,20 +17,20 @@ use Rattle.grs_world.proofs.Common.{set, Showing, Some, some_of, State, state_of
 use Rattle.grs_world.proofs.Common.{SysId, take-append-drop, TaskId, TaskState, TasksView, tell_freed, tell_new}
 use Rattle.grs_world.proofs.Common.{telling, ToldLine, true, Want, wants_round, with_phase, with_rows, with_state, ℕ}
 use Rattle.std.specs.Prelude.{take, drop, zero}
-use Rattle.grs_base.specs.State.{deq_reply, enq_code}
-use Rattle.gqscan.specs.Shown.{code_for}
-use Rattle.grs_node.specs.Node.{process_removal}
-use Rattle.grs_wire.specs.declared.request.Answer.TheVariants.{Coded as CodedBy}
-use Rattle.grs_wire.specs.declared.told.Verb.{Verb}
-use Rattle.task_state.specs.Replies.{phase_asking}
-use Rattle.task_state.proofs.ViewLaws.{is_task-state}
 use Rattle.grs_known.proofs.known.Histories.{live-behind, wants-round}
+use Rattle.grs_node.specs.Node.{process_removal}
+use Rattle.task_state.specs.Replies.{phase_asking}
 use Rattle.grs_known.proofs.system.Asking.{records-unasked}
+use Rattle.grs_base.specs.State.{deq_reply, enq_code}
+use Rattle.task_state.proofs.ViewLaws.{is_task-state}
+use Rattle.grs_known.proofs.tasks.UpToDate.{IsLeft}
+use Rattle.grs_known.proofs.records.Lists.{matches-records}
+use Rattle.grs_wire.specs.declared.request.Answer.TheVariants.{Coded as CodedBy}
+use Rattle.gqscan.specs.Shown.{code_for}
+use Rattle.grs_wire.specs.declared.told.Verb.{Verb}
 use Rattle.grs_known.proofs.records.Deciding.{AllKept, IsQuiet, asker-waits, foreign-kept, own-kept}
 use Rattle.grs_world.proofs.at_rest.Events.{date-all_sent, date-answer_own, date-telling}
 use Rattle.grs_world.proofs.at_rest.Steps.{AllDate, date-new}
-use Rattle.grs_known.proofs.tasks.UpToDate.{IsLeft}
-use Rattle.grs_known.proofs.records.Lists.{matches-records}
 use Rattle.grs_world.proofs.run.Growing.{asks-rounds}
 use Rattle.grs_world.proofs.run.Reading.{all-rounds, read_all, read_item}
 use Rattle.grs_world.proofs.system.AtNode.{Seen, opens_of}

@@ -7,6 +7,7 @@ use Rattle.grs_world.proofs.Common.{lists, live, map, Meaning, medium_at_end, ne
 use Rattle.grs_world.proofs.Common.{or_parts, own_requests, owns, owns-may, Phase, refl, Req, Res, RingEntry, rounds}
 use Rattle.grs_world.proofs.Common.{RunItem, slice_get, Some, state_of, subst, suc, sym, table-is, TaskId, TaskState}
 use Rattle.grs_world.proofs.Common.{TasksView, true, unseen, World, zero, ℕ}
+use Rattle.grs_world.specs.Running.{is_busy, none_busy}
 use Rattle.task_state.proofs.ViewLaws.{is_task-place}
 use Rattle.grs_known.proofs.system.Asking.{held-none}
 use Rattle.grs_world.proofs.at_rest.Events.{date-any}
@@ -18,7 +19,6 @@ use Rattle.grs_world.proofs.run.InRing.{IsRing, live-there}
 use Rattle.grs_world.proofs.run.Messages.{given-later}
 use Rattle.grs_world.proofs.run.Runs.{GoodWorld}
 use Rattle.grs_world.proofs.system.AtNode.{Seen, opens_of}
-use Rattle.grs_world.specs.Running.{is_busy, none_busy}
 use Rattle.task_state.specs.declared.state.Phase.TheVariants as phases
 
 -- ---- no system is busy
@@ -167,7 +167,7 @@ module _ (deck : Deck) (es : List Event) (w : World) (ring : IsRing deck w) (g :
             (ap (λ z. owns (list_of z r) t) seen.own
             ∙ (ap (λ zs. owns zs t) (list_of-part (is_res_of s) (lists P) r here) ∙ own))
 
-    pub still-ring : IsStill deck s (items w.fixed) n
+    pub still-ring : IsStill deck s P n
     still-ring = record {
       opens = opens_of (g.later s) (own_requests s (g.later s)) n;
       good = seen.good;

@@ -115,12 +115,11 @@ module _ (deck : Deck) (es : List Event) (w : World) (ring : IsRing deck w) (g :
   abbrev entries_now : List RingEntry
   entries_now = (turned_open w.medium.message c (take most_additions n.outbox) (live w.medium) w.medium.rest).entries
 
-  taken : take (length (take most_additions n.outbox)) (read_all n (g.later c.0)).outbox ≡ take most_additions n.outbox
+  taken : take (length out) (read_all n (g.later c.0)).outbox ≡ take most_additions n.outbox
   taken = ap (take (length out)) reads.outbox ∙ take-taken most_additions n.outbox
 
   read-turn :
-      IsRead deck c.0
-      (put_in (read_entries deck n (unseen c w.medium.message.entries)) (length (take most_additions n.outbox))).node
+      IsRead deck c.0 (put_in (read_entries deck n (unseen c w.medium.message.entries)) (length out)).node
       (still_of c.0 entries_now)
   read-turn = subst (λ m. IsRead deck c.0 (put_in m (length out)).node (still_of c.0 entries_now)) (sym node_is)
       (read-more deck c.0 (put_in (read_all n (g.later c.0)) (length out)).node

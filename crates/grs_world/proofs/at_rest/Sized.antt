@@ -14,12 +14,12 @@ use Rattle.grs_world.proofs.Common.{stays-turned, subst, switched, sym, SysId, t
 use Rattle.grs_world.proofs.Common.{took_mail, true, Turnout, unseen, Want, with_also, with_entry, with_role}
 use Rattle.grs_world.proofs.Common.{without_those, World, ℕ}
 use Rattle.std.specs.Prelude.{◌++◌}
+use Rattle.contention_mgr.specs.Manager.{managed_for, told as told_in}
+use Rattle.grs_node.specs.Star.{is_held_for, managing, not_managing}
+use Rattle.grs_node.specs.Node.{changed as changed_now}
+use Rattle.grs_node.specs.Change.{entry_by_table}
 use Rattle.std.proofs.lemmas.List.FromFn.{length-map-range_with_len}
 use Rattle.contention_mgr.specs.Loses.{after_losing, lost}
-use Rattle.contention_mgr.specs.Manager.{managed_for, told as told_in}
-use Rattle.grs_node.specs.Change.{entry_by_table}
-use Rattle.grs_node.specs.Node.{changed as changed_now}
-use Rattle.grs_node.specs.Star.{is_held_for, managing, not_managing}
 use Rattle.mode_migrate.specs.Migrate.{interest_by_table}
 use Rattle.grs_world.proofs.run.Came.{Acts, Came, Result, acted, already, began, changed, decided, informed, last_turn}
 use Rattle.grs_world.proofs.run.Came.{left, no_such, nothing, parted, removes_one, removes_star, sent}

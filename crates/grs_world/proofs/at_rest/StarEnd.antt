@@ -9,11 +9,12 @@ use Rattle.grs_world.proofs.Common.{None, not, Option, or_other, or_parts, owns,
 use Rattle.grs_world.proofs.Common.{RunItem, same_res, same_Some, same_task, same_task-exact, slice_get}
 use Rattle.grs_world.proofs.Common.{slice_get_within, Some, StarPart, state_of, subst, suc, sym, TaskId, TasksView}
 use Rattle.grs_world.proofs.Common.{true, World, zero, ℕ}
-use Rattle.contention_mgr.specs.Manager.{any_untold_at, any_untold_in, is_of, is_untold}
-use Rattle.grs_medium.specs.Inboxes.{is_empty}
+use Rattle.grs_world.specs.Running.{is_busy, none_busy}
 use Rattle.grs_node.specs.Node.{is_star_pending}
-use Rattle.grs_node.specs.Star.{is_part_pending}
 use Rattle.grs_wire.specs.Masks.{all_others}
+use Rattle.contention_mgr.specs.Manager.{any_untold_at, any_untold_in, is_of, is_untold}
+use Rattle.grs_node.specs.Star.{is_part_pending}
+use Rattle.grs_medium.specs.Inboxes.{is_empty}
 use Rattle.task_state.proofs.ViewLaws.{is_task-place}
 use Rattle.grs_known.proofs.system.Good.{ours-home}
 use Rattle.grs_world.proofs.move.Changing.{IsChanging}
@@ -26,7 +27,6 @@ use Rattle.grs_world.proofs.star.Heard.{IsHeard, IsInHands, IsUntold, hears, is_
 use Rattle.grs_world.proofs.star.Systems.{IsSystem}
 use Rattle.grs_world.proofs.star.Worlds.{in_hands}
 use Rattle.grs_world.proofs.system.AtNode.{opens_of}
-use Rattle.grs_world.specs.Running.{is_busy, none_busy}
 use Rattle.grs_world.proofs.run.Site.{at_site}
 use Rattle.task_state.specs.declared.state.Phase.TheVariants as phases
 
@@ -198,7 +198,7 @@ module _ (deck : Deck) (w : World) (g : IsChanging deck w) (h : IsRestful deck w
   H = h.heard g
 
   module _ (s : ℕ) (n : NodeState) (at : slice_get w.nodes s ≡ Some n) (alive : has w.medium.removed s ≡ false) where
-    sys : IsSystem deck w.medium.words (items w.fixed) s n (inbox w.medium s) (g.whole.later s) (g.whole.out s)
+    sys : IsSystem deck w.medium.words P s n (inbox w.medium s) (g.whole.later s) (g.whole.out s)
     sys = g.whole.system s n (at_site (there s n at alive) alive)
 
     unsent : (t : TaskId) (ls : List Meaning) → IsOurs deck s n.tasks t ls
@@ -230,7 +230,7 @@ module _ (deck : Deck) (w : World) (g : IsChanging deck w) (h : IsRestful deck w
         go phases.Ended e = refl
 
     marked-at : (t : TaskId) (ls : List Meaning) (r : Res) → IsOurs deck s n.tasks t ls
-        → owns (list_of (lists (items w.fixed)) r) t ≡ true → is_marked r (state_of n.tasks t).records ≡ true
+        → owns (list_of (lists P) r) t ≡ true → is_marked r (state_of n.tasks t).records ≡ true
     marked-at t ls r ours own = go (is_systems r) refl
       where
         place : (is_systems r || is_res_of t.system.0 r) ≡ true
@@ -261,7 +261,7 @@ module _ (deck : Deck) (w : World) (g : IsChanging deck w) (h : IsRestful deck w
             (ap (λ z. owns (list_of z r) t) sys.at.own
             ∙ (ap (λ zs. owns zs t) (list_of-part (is_res_of s) (lists P) r here) ∙ own))
 
-    pub still-star : IsStill deck s (items w.fixed) n
+    pub still-star : IsStill deck s P n
     still-star = record {
       opens = opens_of (g.whole.later s) (g.whole.out s) (ghosted n);
       good = sys.at.good;

@@ -16,12 +16,12 @@ use Rattle.grs_world.proofs.Common.{task_step, TaskId, TaskState, TasksView, tel
 use Rattle.grs_world.proofs.Common.{tell_answer_any_ranked, tell_answer_ranked, tell_code, tell_control, tell_new}
 use Rattle.grs_world.proofs.Common.{tell_rows, tell_untold, telling, ToldLine, true, unrecorded, wait, Want, with_line}
 use Rattle.grs_world.proofs.Common.{with_outstanding, with_phase, with_rank_of, with_rows, with_tasks, zero, ℕ}
-use Rattle.grs_wire.specs.declared.medium.Mail.TheVariants.{Answered as AnsweredMail}
-use Rattle.grs_wire.specs.declared.request.Answer.TheVariants.{Coded as CodedBy}
 use Rattle.star_client.specs.Client.{has_sent, is_awaited}
-use Rattle.grs_known.proofs.system.Did.{did-code}
-use Rattle.grs_known.proofs.tasks.Answered.{IsAnswerTo, KeepsRecords, lists-answer, rows-told}
 use Rattle.grs_known.proofs.records.Control.{Controlled, hears-has, hears-marked}
+use Rattle.grs_known.proofs.system.Did.{did-code}
+use Rattle.grs_wire.specs.declared.request.Answer.TheVariants.{Coded as CodedBy}
+use Rattle.grs_wire.specs.declared.medium.Mail.TheVariants.{Answered as AnsweredMail}
+use Rattle.grs_known.proofs.tasks.Answered.{IsAnswerTo, KeepsRecords, lists-answer, rows-told}
 use Rattle.grs_known.proofs.records.Deciding.{AllKept, IsQuiet, own-kept}
 use Rattle.grs_world.proofs.at_rest.Events.{can_get-answers, date-ranked, date-sent, date-telling}
 use Rattle.grs_world.proofs.at_rest.Ring.{is_local}
@@ -361,9 +361,7 @@ module _ (deck : Deck) (s : ℕ) (n : NodeState) (h : AreLocal deck s n) (u : Ta
     abbrev y : TaskState
     y = state_of n.tasks u
 
-    did-next :
-        Did n.tasks (with_line n.tasks u) u (record (state_of n.tasks u) { line = suc (state_of n.tasks u).line })
-        n.tasks.told
+    did-next : Did n.tasks (with_line n.tasks u) u (record y { line = suc y.line }) n.tasks.told
     did-next = did-line v v u y v.told ours.here (did-none v u)
 
     local-wait : (r : Res) (o : Option Rec) → AreLocal deck s (with_tasks n (wait (with_line n.tasks u) u r o))
@@ -389,8 +387,7 @@ module _ (deck : Deck) (s : ℕ) (n : NodeState) (h : AreLocal deck s n) (u : Ta
 
     -- a line that shows lists
     local-around : (d : Display) (w : TasksView) (z : TaskState) → Did n.tasks w u z n.tasks.told
-        → z.records ≡ (state_of n.tasks u).records → (count : ℕ)
-        → AreLocal deck s (look_around (with_tasks n w) u d count)
+        → z.records ≡ y.records → (count : ℕ) → AreLocal deck s (look_around (with_tasks n w) u d count)
     local-around d w z did recs zero =
         local-same (tell_rows w u d.verb) (record z { rows = [] }) _ (did-shown v w u z v.told ours.here did d.verb)
         recs

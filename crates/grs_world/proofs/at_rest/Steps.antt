@@ -13,16 +13,16 @@ use Rattle.grs_world.proofs.Common.{some_of, StarPart, State, state_of, Step, su
 use Rattle.grs_world.proofs.Common.{task_step, TaskId, TaskState, TasksView, tell_all, tell_code, tell_control}
 use Rattle.grs_world.proofs.Common.{tell_new, tell_rows, tell_untold, telling, ToldLine, true, wait, Want, with_line}
 use Rattle.grs_world.proofs.Common.{with_outstanding, with_phase, with_rows, with_tasks, zero, ℕ}
-use Rattle.gqscan.specs.Shown.{code_for}
-use Rattle.task_state.specs.View.{record_place}
+use Rattle.grs_known.proofs.records.Control.{hears-grows}
 use Rattle.grs_known.proofs.system.Did.{did-code}
+use Rattle.task_state.specs.View.{record_place}
+use Rattle.grs_known.proofs.tasks.UpToDate.{AreCoded, HasUnit, IsUpToDate, hears-date, is_code_at, is_end_at, is_kept}
+use Rattle.grs_known.proofs.tasks.UpToDate.{is_placed, more-told, unit_of}
+use Rattle.gqscan.specs.Shown.{code_for}
 use Rattle.grs_known.proofs.tasks.Asked.{any-after, told_after}
 use Rattle.grs_known.specs.Passed.{has_ended, has_code, is_at_line, passed_asking, passed_by}
 use Rattle.grs_known.proofs.tasks.Answered.{IsCoded, IsDue, answered, coded-line, is_free, shown-line}
-use Rattle.grs_known.proofs.records.Control.{hears-grows}
 use Rattle.grs_known.proofs.records.Places.{state_at}
-use Rattle.grs_known.proofs.tasks.UpToDate.{AreCoded, HasUnit, IsUpToDate, hears-date, is_code_at, is_end_at, is_kept}
-use Rattle.grs_known.proofs.tasks.UpToDate.{is_placed, more-told, unit_of}
 use Rattle.grs_legal.specs.declared.meaning.Meaning.TheVariants as lines
 use Rattle.grs_wire.specs.declared.told.ToldLine.TheVariants as told
 use Rattle.grs_wire.specs.declared.told.Verb.TheVariants as verbs
@@ -203,14 +203,7 @@ module _ (whole : Bool) (deck : Deck) (n : NodeState) (alone : whole ≡ true �
         let did1 = did-phase v v0 u x v.told here did phases.ToSend in
         let did2 = did-outstanding v (with_phase v0 u phases.ToSend) u _ v.told here did1 (Some a) in
         let z :
-        TaskState = record {
-          line = x.line;
-          phase = phases.ToSend;
-          code = x.code;
-          records = x.records;
-          outstanding = Some a;
-          rows = x.rows;
-        } in
+        TaskState = record x { phase = phases.ToSend; outstanding = Some a } in
         date-own whole deck v (with_outstanding (with_phase v0 u phases.ToSend) u (Some a)) u ms z v.told at here did2
         (λ p k. k) (record {
           closed = λ e. absurd (cc);
@@ -234,10 +227,10 @@ module _ (whole : Bool) (deck : Deck) (n : NodeState) (alone : whole ≡ true �
     abbrev y : TaskState
     y = state_of n.tasks u
 
-    closed : (state_of n.tasks u).outstanding ≡ None
+    closed : y.outstanding ≡ None
     closed = (h u ms at here).closed (ap is_unsent ready)
 
-    done : AreCoded ms n.tasks.told u (state_of n.tasks u).line
+    done : AreCoded ms n.tasks.told u y.line
     done =
         subst (λ p. AreCoded ms v.told u (cond (is_at_line p) (y.line - 1) y.line)) ready
         (subst (λ o. AreCoded ms v.told u (passed_by o y.phase y.line)) closed (h u ms at here).coded)
@@ -245,9 +238,7 @@ module _ (whole : Bool) (deck : Deck) (n : NodeState) (alone : whole ≡ true �
     abbrev x1 : TaskState
     x1 = record (state_of n.tasks u) { line = suc (state_of n.tasks u).line }
 
-    did-next :
-        Did n.tasks (with_line n.tasks u) u (record (state_of n.tasks u) { line = suc (state_of n.tasks u).line })
-        n.tasks.told
+    did-next : Did n.tasks (with_line n.tasks u) u x1 n.tasks.told
     did-next = did-line v v u y v.told here (did-none v u)
 
     back : (k : ℕ) → suc k - 1 ≡ k
@@ -256,9 +247,8 @@ module _ (whole : Bool) (deck : Deck) (n : NodeState) (alone : whole ≡ true �
     -- a line that asks nothing was taken, and its code was told if it has one
     date-silent : (w : TasksView) (z : TaskState) (T : List ToldLine) → Did n.tasks w u z T
         → ((p : ToldLine → Bool) → list_any p n.tasks.told ≡ true → list_any p T ≡ true)
-        → AreCoded ms T u (passed_by None z.phase z.line) →
-        z.outstanding ≡ None → z.records ≡ (state_of n.tasks u).records → is_kept z.phase z.records ≡ true
-        → has_ended z.phase ≡ false → AllDate whole deck w
+        → AreCoded ms T u (passed_by None z.phase z.line) → z.outstanding ≡ None → z.records ≡ y.records
+        → is_kept z.phase z.records ≡ true → has_ended z.phase ≡ false → AllDate whole deck w
     date-silent w z T did grows coded shut recs held going =
         date-own whole deck v w u ms z T at here did grows (record {
           closed = λ e. shut;
@@ -270,12 +260,12 @@ module _ (whole : Bool) (deck : Deck) (n : NodeState) (alone : whole ≡ true �
         }) h
 
     -- it is done with that line
-    done_next : (T : List ToldLine) → AreCoded ms T u (suc (state_of n.tasks u).line)
-        → AreCoded ms T u (passed_by None (state_of n.tasks u).phase (suc (state_of n.tasks u).line))
+    done_next : (T : List ToldLine) → AreCoded ms T u (suc y.line)
+        → AreCoded ms T u (passed_by None y.phase (suc y.line))
     done_next T coded =
         subst (λ p. AreCoded ms T u (cond (is_at_line p) (suc y.line - 1) (suc y.line))) (sym ready) coded
 
-    done_back : AreCoded ms n.tasks.told u (suc (state_of n.tasks u).line - 1)
+    done_back : AreCoded ms n.tasks.told u (suc y.line - 1)
     done_back = subst (λ k. AreCoded ms v.told u k) (sym (back y.line)) done
 
     date-wait : (r : Res) → (o : Option Rec) → record_of (state_of (with_line n.tasks u) u).records r ≡ o
@@ -366,7 +356,7 @@ module _ (whole : Bool) (deck : Deck) (n : NodeState) (alone : whole ≡ true �
             date-around d (with_tasks n (with_rows (with_line v u) u rows)) alone (record x1 { rows = x1.rows ++ rows })
             (did-rows v (with_line v u) u x1 v.told here did-next rows) refl ready closed refl d.count
 
-    date-line : (l : Meaning) → slice_get ms (state_of n.tasks u).line ≡ Some l
+    date-line : (l : Meaning) → slice_get ms y.line ≡ Some l
         → AllDate whole deck (take_line deck.limit (with_tasks n (with_line n.tasks u)) u l).node.tasks
     unfolding take_line
     date-line (lines.Enq r c ret unit) next =
@@ -378,7 +368,7 @@ module _ (whole : Bool) (deck : Deck) (n : NodeState) (alone : whole ≡ true �
           phase = ap is_free ready;
         }) refl (λ wide. (omega arith, (unit_next, wide)))
       where
-        unit_next : unit ≡ unit_of (slice_get ms (suc (state_of n.tasks u).line - 1))
+        unit_next : unit ≡ unit_of (slice_get ms (suc y.line - 1))
         unit_next = sym (ap unit_of (ap (slice_get ms) (back y.line) ∙ next))
     date-line (lines.Deq r have) next = date-ask (with_line v u) x1 did-next (Deq r have) None (record {
       closed = closed;

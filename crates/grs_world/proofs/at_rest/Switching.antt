@@ -60,19 +60,19 @@ module _ (deck : Deck) (some : 0 < deck.entries) (few : length deck.systems ≤ 
 
   -- ---- a system of the ring, once it has read what it has still to process
   module _ (s : ℕ) (m : NodeState) (there : slice_get w.nodes s ≡ Some m) (lives : has w.medium.removed s ≡ false) where
-    table : (read_by deck w.medium.message.entries s m).shared ≡ lists (rounds (items w.fixed))
+    table : (read_by deck w.medium.message.entries s m).shared ≡ lists (rounds P)
     table =
         ap (λ (z : NodeState). z.shared) (node_is deck events w ring g (system_of s) m there lives all)
         ∙ ((reads deck events w ring g (system_of s) m there lives all).seen.shared ∙ ap lists (sym (g.whole s)))
 
-    seen-read : Seen deck s (items w.fixed) (g.before s ++ g.later s) [] [] (read_by deck w.medium.message.entries s m)
+    seen-read : Seen deck s P (g.before s ++ g.later s) [] [] (read_by deck w.medium.message.entries s m)
     seen-read =
         subst (Seen deck s (items w.fixed) (g.before s ++ g.later s) [] [])
         (sym (node_is deck events w ring g (system_of s) m there lives all))
         (reads deck events w ring g (system_of s) m there lives all).seen
 
     arrives :
-        IsArriving deck s (items w.fixed) (change_to_star deck (read_by deck w.medium.message.entries s m))
+        IsArriving deck s P (change_to_star deck (read_by deck w.medium.message.entries s m))
         (read_by deck w.medium.message.entries s m)
     arrives = record {
       is = refl;
@@ -93,9 +93,7 @@ module _ (deck : Deck) (some : 0 < deck.entries) (few : length deck.systems ≤ 
   unseen-none : unseen c w.medium.message.entries ≡ []
   unseen-none = first-none (unseen c es) idle
 
-  d-seen :
-      Seen deck c.0 (items w.fixed) (g.before c.0) (g.later c.0) (own_requests c.0 (g.later c.0))
-      (desk_told n saids.StarDone)
+  d-seen : Seen deck c.0 P (g.before c.0) (g.later c.0) (own_requests c.0 (g.later c.0)) d
   d-seen =
       desk-seen deck c.0 P (g.before c.0) (g.later c.0) (own_requests c.0 (g.later c.0)) n saids.StarDone
       (g.systems c.0 n at (live-there deck w ring c.0 n at alive))
@@ -104,7 +102,7 @@ module _ (deck : Deck) (some : 0 < deck.entries) (few : length deck.systems ≤ 
   unfolding read_entries
   n-read = ap (λ xs. read_entries deck n xs) unseen-none
 
-  own-arrives : IsArriving deck c.0 (items w.fixed) (switched deck n) (desk_told n saids.StarDone)
+  own-arrives : IsArriving deck c.0 P (switched deck n) d
   own-arrives = record {
     is = stays;
     box = box-here deck c.0 P (g.before c.0) (g.later c.0) (own_requests c.0 (g.later c.0)) d d-seen;
@@ -119,24 +117,24 @@ module _ (deck : Deck) (some : 0 < deck.entries) (few : length deck.systems ≤ 
 
   -- ---- what an arriving system shows
   module _ (s : ℕ) (k m : NodeState) (a : IsArriving deck s (items w.fixed) k m) where
-    arriving-star : k.star ≡ Some (part_by_table deck.entries (system_of s) (lists (rounds (items w.fixed))))
+    arriving-star : k.star ≡ Some (part_by_table deck.entries (system_of s) (lists (rounds P)))
     arriving-star =
         ap (λ (z : NodeState). z.star) a.is
         ∙ (star-changed deck m
         ∙ (ap (λ (i : ℕ). Some (part_by_table deck.entries (system_of i) m.shared)) a.system
         ∙ ap (λ x. Some (part_by_table deck.entries (system_of s) x)) a.shared))
 
-    in-table : (r : Res) → is_systems r ≡ true → list_of m.shared r ≡ list_of (lists (items w.fixed)) r
+    in-table : (r : Res) → is_systems r ≡ true → list_of m.shared r ≡ list_of (lists P) r
     in-table r wide = ap (λ z. list_of z r) (a.shared ∙ table-is P) ∙ list_of-part is_systems (lists P) r wide
 
     arriving-has : (t : TaskId) (r : Res) → is_home_at deck s t ≡ true → is_systems r ≡ true
-        → has_task (list_of (lists (items w.fixed)) r) t ≡ true → has_res r (state_of k.tasks t).records ≡ true
+        → has_task (list_of (lists P) r) t ≡ true → has_res r (state_of k.tasks t).records ≡ true
     arriving-has t r home wide has = let ours = a.home t home in
         ap (λ (z : NodeState). has_res r (state_of z.tasks t).records) a.is
         ∙ (change-has deck s m a.box a.read t ours.0 r ours.1 wide ∙ (ap (λ xs. has_task xs t) (in-table r wide) ∙ has))
 
     arriving-ranks : (p : StarPart) (e : ℕ) (x : Managed) → k.star ≡ Some p → managed_at p.manager e ≡ Some x
-        → x.next ≤ suc (enq_count (items w.fixed))
+        → x.next ≤ suc (enq_count P)
     arriving-ranks p e x star managed =
         let asks : AllAsk deck (rounds P) = asks-rounds deck P g.history.asks in
         let within : are_within most_systems (lists (rounds P)) ≡ true =
@@ -164,10 +162,10 @@ module _ (deck : Deck) (some : 0 < deck.entries) (few : length deck.systems ≤ 
   abbrev k : NodeState
   k = switched deck n
 
-  own-star : (switched deck n).star ≡ Some (part_by_table deck.entries (system_of c.0) (lists (rounds (items w.fixed))))
+  own-star : k.star ≡ Some (part_by_table deck.entries (system_of c.0) (lists (rounds P)))
   own-star = arriving-star c.0 (switched deck n) d own-arrives
 
-  not-ring : (switched deck n).star ≡ None → ⊥
+  not-ring : k.star ≡ None → ⊥
   not-ring none =
       absurd (let no : Some (part_by_table deck.entries (system_of c.0) (lists (rounds P))) ≡ None =
       sym own-star ∙ none in
@@ -177,9 +175,8 @@ module _ (deck : Deck) (some : 0 < deck.entries) (few : length deck.systems ≤ 
   same = items-none w.fixed c
 
   -- each live system, as it is shown
-  arrives-shown : (s : ℕ) (m : NodeState) → slice_get (set w.nodes c.0 (switched deck n)) s ≡ Some m
-      → has w.medium.removed s ≡ false
-      → (x : NodeState) × IsArriving deck s (items w.fixed) (shown_at deck w.medium.message.entries s m) x
+  arrives-shown : (s : ℕ) (m : NodeState) → slice_get (set w.nodes c.0 k) s ≡ Some m → has w.medium.removed s ≡ false
+      → (x : NodeState) × IsArriving deck s P (shown_at deck w.medium.message.entries s m) x
   arrives-shown =
       by_node w.nodes c.0 n k at
       (λ s m. has w.medium.removed s ≡ false → (x : NodeState) × IsArriving deck s P (shown_at deck es s m) x)
@@ -191,8 +188,7 @@ module _ (deck : Deck) (some : 0 < deck.entries) (few : length deck.systems ≤ 
       ))
 
   -- nothing was sent
-  sent-none : (s : ℕ) (t : TaskId) → is_home_at deck s t ≡ true → sent_of (set w.nodes c.0 (switched deck n)) s t ≡ true
-      → ⊥
+  sent-none : (s : ℕ) (t : TaskId) → is_home_at deck s t ≡ true → sent_of (set w.nodes c.0 k) s t ≡ true → ⊥
   sent-none s t = by_set w.nodes c.0 n k at s (λ u z. is_home_at deck u t ≡ true → sent_in z t ≡ true → ⊥)
       (λ home e. let ours = own-arrives.home t home in
       no_truth (sent_in (Some k) t) e (sent-star k _ t own-star
@@ -205,9 +201,9 @@ module _ (deck : Deck) (some : 0 < deck.entries) (few : length deck.systems ≤ 
       by_old (Some m) f e = no_truth (sent_in (Some m) t) e (sent-ring m t (ring.alone s m f))
 
   -- and each owner was told so, or its table says so
-  had-all : (s : ℕ) (m : NodeState) → slice_get (set w.nodes c.0 (switched deck n)) s ≡ Some m
-      → has w.medium.removed s ≡ false → (t : TaskId) (r : Res) → is_home_at deck s t ≡ true → is_systems r ≡ true
-      → owns (list_of (lists (items w.fixed)) r) t ≡ true → had_in deck w.medium.message.entries s (Some m) t r ≡ true
+  had-all : (s : ℕ) (m : NodeState) → slice_get (set w.nodes c.0 k) s ≡ Some m → has w.medium.removed s ≡ false
+      → (t : TaskId) (r : Res) → is_home_at deck s t ≡ true → is_systems r ≡ true → owns (list_of (lists P) r) t ≡ true
+      → had_in deck w.medium.message.entries s (Some m) t r ≡ true
   had-all =
       by_node w.nodes c.0 n k at (λ s m.
       has w.medium.removed s ≡ false → (t : TaskId) (r : Res) → is_home_at deck s t ≡ true → is_systems r ≡ true
@@ -234,10 +230,9 @@ module _ (deck : Deck) (some : 0 < deck.entries) (few : length deck.systems ≤ 
               message = closed_by w.medium.message c (live w.medium);
               rest = awake w.medium c;
             };
-        step = only (switched deck n);
+        step = only k;
       })))
-      →
-      IsHeard deck (record (placed w c n (record {
+      → IsHeard deck (record (placed w c n (record {
         medium =
             record w.medium {
               star = true;
@@ -245,11 +240,10 @@ module _ (deck : Deck) (some : 0 < deck.entries) (few : length deck.systems ≤ 
               message = closed_by w.medium.message c (live w.medium);
               rest = awake w.medium c;
             };
-        step = only (switched deck n);
+        step = only k;
       }))
       { nodes = g'.view })
-      (sent_of (set w.nodes c.0 (switched deck n)))
-      (had_of deck w.medium.message.entries (set w.nodes c.0 (switched deck n)))
+      (sent_of (set w.nodes c.0 k)) (had_of deck w.medium.message.entries (set w.nodes c.0 k))
   unfolding placed closed_by
   heard-begun g' = record {
     requests = λ s x t v home e. absurd (sent-none s t home e);
@@ -276,7 +270,7 @@ module _ (deck : Deck) (some : 0 < deck.entries) (few : length deck.systems ≤ 
               message = closed_by w.medium.message c (live w.medium);
               rest = awake w.medium c;
             };
-        step = only (switched deck n);
+        step = only k;
       }))
   unfolding placed closed_by
   restful-begun = record {

@@ -194,9 +194,7 @@ module _ (deck : Deck) (s : ℕ) (n : NodeState) (qs : List Req) (alone : n.star
     abbrev y : TaskState
     y = state_of n.tasks u
 
-    did-next :
-        Did n.tasks (with_line n.tasks u) u (record (state_of n.tasks u) { line = suc (state_of n.tasks u).line })
-        n.tasks.told
+    did-next : Did n.tasks (with_line n.tasks u) u (record y { line = suc y.line }) n.tasks.told
     did-next = did-line v v u y v.told ours.here (did-none v u)
 
     local-wait : (r : Res) (o : Option Rec) → IsLocal deck s (with_tasks n (wait (with_line n.tasks u) u r o)) qs
@@ -228,7 +226,7 @@ module _ (deck : Deck) (s : ℕ) (n : NodeState) (qs : List Req) (alone : n.star
     asked-by d more (Some p) = refl
 
     local-around : (d : Display) (w : TasksView) (z : TaskState) → Did n.tasks w u z n.tasks.told
-        → z.records ≡ (state_of n.tasks u).records → z.phase ≡ phases.Ready → (count : ℕ)
+        → z.records ≡ y.records → z.phase ≡ phases.Ready → (count : ℕ)
         → IsLocal deck s (look_around (with_tasks n w) u d count) qs
     local-around d w z did recs phase zero =
         local-same (tell_rows w u d.verb) (record z { rows = [] }) _ (did-shown v w u z v.told ours.here did d.verb)

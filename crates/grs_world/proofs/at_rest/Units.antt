@@ -12,26 +12,26 @@ use Rattle.grs_world.proofs.Common.{same_task-itself, scripts_of, slice_get, sli
 use Rattle.grs_world.proofs.Common.{State, state_of, subst, suc, sym, SysId, TaskId, TaskState, TasksView, true, zero}
 use Rattle.grs_world.proofs.Common.{ℕ}
 use Rattle.std.specs.Prelude.{option_to_list}
-use Rattle.std.specs.List.{count_by, range_with_len}
 use Rattle.std.proofs.lemmas.Bool.{ltb-false}
-use Rattle.std.proofs.lemmas.List.Sums.{length-filter}
-use Rattle.grs_legal.specs.Asks.{Script, lines_at}
-use Rattle.task_state.specs.Units.{counted, counting, counting_all, reserved_by, reserved_in, reserved_of, units_at}
+use Rattle.grs_known.proofs.tasks.Invariant.{key}
+use Rattle.grs_known.specs.Told.{queued_last, queues, queues_at}
 use Rattle.grs_known.proofs.known.Histories.{elements-ask, may_have}
+use Rattle.grs_legal.specs.Asks.{Script, lines_at}
+use Rattle.std.specs.List.{count_by, range_with_len}
+use Rattle.grs_world.specs.AtRest.{UnitsAreReserved, is_reserve, is_unit, queued_with, queued_with_by, reserves}
+use Rattle.grs_world.specs.AtRest.{unit_count}
+use Rattle.grs_known.specs.Past.{own_elements}
 use Rattle.grs_known.proofs.known.Knows.{knows-closed}
+use Rattle.std.proofs.lemmas.List.Sums.{length-filter}
+use Rattle.task_state.specs.Units.{counted, counting, counting_all, reserved_by, reserved_in, reserved_of, units_at}
 use Rattle.grs_known.proofs.system.Asking.{unasked-none}
 use Rattle.grs_known.proofs.system.Good.{home-ours}
-use Rattle.grs_known.proofs.tasks.Invariant.{key}
-use Rattle.grs_known.specs.Past.{own_elements}
-use Rattle.grs_known.specs.Told.{queued_last, queues, queues_at}
 use Rattle.grs_world.proofs.at_rest.AtEnd.{IsStill, more-asks}
 use Rattle.grs_world.proofs.at_rest.Few.{below-all, length-parts}
 use Rattle.grs_world.proofs.at_rest.Full.{AreFull}
 use Rattle.grs_world.proofs.at_rest.Held.{none-earlier}
 use Rattle.grs_world.proofs.at_rest.Steps.{one-task}
 use Rattle.grs_known.proofs.tasks.UpToDate.{HasUnit, unit_of}
-use Rattle.grs_world.specs.AtRest.{UnitsAreReserved, is_reserve, is_unit, queued_with, queued_with_by, reserves}
-use Rattle.grs_world.specs.AtRest.{unit_count}
 use Rattle.grs_world.specs.Running.{units_of}
 use Rattle.grs_legal.specs.declared.meaning.Meaning.TheVariants as lines
 
@@ -420,13 +420,13 @@ module _ (deck : Deck) (es : List Event) (right : IsHistory deck (items (run dec
   abbrev L : State
   L = lists_after deck es
 
-  hist_is : hist deck es ≡ history (items (run deck es).fixed)
+  hist_is : hist deck es ≡ history P
   hist_is = sym (items_are_history (run deck es).fixed).0
 
-  lists_are : lists_after deck es ≡ lists (items (run deck es).fixed)
+  lists_are : lists_after deck es ≡ lists P
   lists_are = ap (replay deck.limit) hist_is ∙ sym (replayed deck P right)
 
-  known_all : list_all (λ h. may_have deck h.0 h.1.task) (lists_after deck es) ≡ true
+  known_all : list_all (λ h. may_have deck h.0 h.1.task) L ≡ true
   known_all =
       subst (λ z. list_all (λ h. may_have deck h.0 h.1.task) z ≡ true) (sym lists_are)
       (elements-ask deck [] P right.asks refl)
@@ -446,21 +446,21 @@ module _ (deck : Deck) (es : List Event) (right : IsHistory deck (items (run dec
       abbrev y : TaskState
       y = state_of n.tasks t
 
-      idle : (state_of n.tasks t).outstanding ≡ None
+      idle : y.outstanding ≡ None
       idle = k.idle t ls ours
 
-      here_is : IsHere deck k.opens (items (run deck es).fixed) n.tasks.told t ls (state_of n.tasks t)
+      here_is : IsHere deck k.opens P n.tasks.told t ls y
       here_is = k.good.tasks.each t ls ours
 
       abbrev p : Past
       p = past_of t here_is.known (items (run deck es).fixed)
 
-      speaks : Speaks deck.limit t p (history (items (run deck es).fixed))
+      speaks : Speaks deck.limit t p (history P)
       speaks =
           speaks-known deck P t here_is.known right here_is.knows.live here_is.knows.right
           (knows-closed P t y.outstanding here_is.known idle here_is.knows)
 
-      task_is : IsTask ls p n.tasks.told (λ r. false) t (state_of n.tasks t)
+      task_is : IsTask ls p n.tasks.told (λ r. false) t y
       task_is =
           subst (λ o. IsTask ls p n.tasks.told (λ r. is_leaving r o) t y) idle
           (subst (λ x. IsTask ls p n.tasks.told (λ r. is_leaving r y.outstanding) t x) (unasked-none y idle)
@@ -469,25 +469,19 @@ module _ (deck : Deck) (es : List Event) (right : IsHistory deck (items (run dec
       entries_are : line_entries t (hist deck es) ≡ p.asked
       entries_are = ap (line_entries t) hist_is ∙ speaks.asked
 
-      known-each : (xs : List Rec)
-          → Each (IsRec ls p.asked n.tasks.told p.owns (λ r. false) t (state_of n.tasks t).line
-          (state_of n.tasks t).phase)
-          xs
+      known-each : (xs : List Rec) → Each (IsRec ls p.asked n.tasks.told p.owns (λ r. false) t y.line y.phase) xs
           → Each (λ (x : Rec). x.told ≡ p.owns x.res) xs
       known-each [] h = tt
       known-each (x ∷ xs) h = (h.0.known, known-each xs h.1)
 
-      owns-as : (r : Res) → owns (list_of (lists_after deck es) r) t ≡ p.owns r
+      owns-as : (r : Res) → owns (list_of L r) t ≡ p.owns r
       owns-as r = same_truths (owns (list_of L r) t) (p.owns r)
           (λ own.
           marked-owns p.owns r y.records (known-each y.records task_is.records)
           (k.marked t ls r ours (ap (λ z. owns (list_of z r) t) (sym lists_are) ∙ own)))
           (λ own. ap (λ hs. owns (list_of (replay deck.limit hs) r) t) hist_is ∙ speaks.owns r own)
 
-      each-reserves : (xs : List Rec)
-          → Each (IsRec ls p.asked n.tasks.told p.owns (λ r. false) t (state_of n.tasks t).line
-          (state_of n.tasks t).phase)
-          xs
+      each-reserves : (xs : List Rec) → Each (IsRec ls p.asked n.tasks.told p.owns (λ r. false) t y.line y.phase) xs
           → Each (HasUnit ls) xs → Each (λ (x : Rec). (x.told && is_unit u x.unit) ≡ Q t x.res) xs
       each-reserves [] h g = tt
       each-reserves (x ∷ xs) h g = (
@@ -503,8 +497,7 @@ module _ (deck : Deck) (es : List Event) (right : IsHistory deck (items (run dec
               ∙ (only-line u ls p.asked x.res x.line h.0.latest h.0.low (omega (arith, h.0.high, task_is.within))
               ∙ (reserves-unit u (slice_get ls (x.line - 1)) ∙ ap (is_unit u) (sym g.0))))
 
-      one-count : occ u (reserved_in (state_of n.tasks t).records)
-          ≡ length (filter (λ h. same_task t h.1.task && Q t h.0) (lists_after deck es))
+      one-count : occ u (reserved_in y.records) ≡ length (filter (λ h. same_task t h.1.task && Q t h.0) L)
       one-count =
           records-count u (Q t) y.records
           (each-reserves y.records task_is.records (k.date t ls ours.lines ours.here).units)
@@ -596,8 +589,7 @@ module _ (deck : Deck) (es : List Event) (right : IsHistory deck (items (run dec
 
     -- those that pass are of tasks that are here
     in-range : (xs : State) → list_all (λ h. may_have deck h.0 h.1.task) xs ≡ true
-        → list_all (λ h. nat_lt h.1.task.task (length n.tasks.tasks))
-        (filter (is_reserve deck (hist deck es) (record { 0 = s }) u) xs)
+        → list_all (λ h. nat_lt h.1.task.task count) (filter (is_reserve deck (hist deck es) (record { 0 = s }) u) xs)
         ≡ true
     in-range [] all = refl
     in-range (h ∷ xs) all = go (is_reserve deck (hist deck es) (record { 0 = s }) u h) refl (in-range xs both.1)
@@ -606,12 +598,11 @@ module _ (deck : Deck) (es : List Event) (right : IsHistory deck (items (run dec
         both = and_parts (may_have deck h.0 h.1.task) (list_all (λ z. may_have deck z.0 z.1.task) xs) all
 
         go : (b : Bool) → is_reserve deck (hist deck es) (record { 0 = s }) u h ≡ b
-            → list_all (λ z. nat_lt z.1.task.task (length n.tasks.tasks))
+            → list_all (λ z. nat_lt z.1.task.task count)
             (filter (is_reserve deck (hist deck es) (record { 0 = s }) u) xs)
             ≡ true
-            →
-            list_all (λ z. nat_lt z.1.task.task (length n.tasks.tasks))
-            (cond b (h ∷ filter (is_reserve deck (hist deck es) (record { 0 = s }) u) xs)
+            → list_all (λ z. nat_lt z.1.task.task count) (cond b
+            (h ∷ filter (is_reserve deck (hist deck es) (record { 0 = s }) u) xs)
             (filter (is_reserve deck (hist deck es) (record { 0 = s }) u) xs))
             ≡ true
         go false e more = more
@@ -629,8 +620,7 @@ module _ (deck : Deck) (es : List Event) (right : IsHistory deck (items (run dec
 
     place-count : (i : ℕ) → i < length n.tasks.tasks
         → occ u (reserved_in (get_or n.tasks.tasks i new_task).records)
-        ≡ length (filter (λ h. h.1.task.task == i)
-        (filter (is_reserve deck (hist deck es) (record { 0 = s }) u) (lists_after deck es)))
+        ≡ length (filter (λ h. h.1.task.task == i) (filter (is_reserve deck (hist deck es) (record { 0 = s }) u) L))
     place-count i l =
         let z = task-at deck s i (let f = full s n at in omega (arith, f, l)) in
         let here : is_task n.tasks z.0 ≡ true =
@@ -645,7 +635,7 @@ module _ (deck : Deck) (es : List Event) (right : IsHistory deck (items (run dec
         z.4))
 
     pub units-here : occ u (reserved_of n.tasks.tasks)
-        ≡ count_by (is_reserve deck (hist deck es) (record { 0 = s }) u) (lists_after deck es)
+        ≡ count_by (is_reserve deck (hist deck es) (record { 0 = s }) u) L
     units-here = tasks-sum u n.tasks.tasks ∙ (sum-same (length n.tasks.tasks) _ _ place-count
         ∙ (sym (classes (λ (h : Res × Elem). h.1.task.task) (length n.tasks.tasks)
         (filter (is_reserve deck (hist deck es) (record { 0 = s }) u) L) (in-range L known_all))
@@ -660,8 +650,7 @@ module _ (deck : Deck) (es : List Event) (right : IsHistory deck (items (run dec
           (and_parts (nat_lt s.0 (length (run deck es).nodes)) (not (has (run deck es).medium.removed s.0)) live).1
 
       go : (o : Option NodeState) → slice_get (run deck es).nodes s.0 ≡ o
-          → unit_count s u (units_of (run deck es).nodes)
-          ≡ count_by (is_reserve deck (hist deck es) s u) (lists_after deck es)
+          → unit_count s u (units_of (run deck es).nodes) ≡ count_by (is_reserve deck (hist deck es) s u) L
       go (Some n) at =
           units-found s u 0 s.0 (run deck es).nodes n (λ j m f. let own = home j m f in omega (arith, own)) at
           (omega arith)

@@ -5,9 +5,9 @@ use Rattle.grs_world.proofs.Common.{has-zero, is_among, is_unseen, left_by, List
 use Rattle.grs_world.proofs.Common.{or_left, or_right, own_asked, own_requests, Purged, refl, Remove, Req, Request}
 use Rattle.grs_world.proofs.Common.{RingBody, RingEntry, RunItem, same_task, same_task-exact, Some, stamped, subst, suc}
 use Rattle.grs_world.proofs.Common.{sym, SysId, TaskId, true, unseen, ℕ}
+use Rattle.rsa_message.proofs.Stands.{body_of, none, more}
 use Rattle.grs_wire.specs.Masks.{only}
 use Rattle.grs_wire.specs.declared.request.Fixed.TheVariants.{Asked}
-use Rattle.rsa_message.proofs.Stands.{body_of, none, more}
 use Rattle.grs_world.proofs.run.Growing.{fixeds}
 
 abbrev pub request_in : RingBody → List Req

@@ -45,7 +45,7 @@ module _ (deck : Deck) (w : World) (g : IsChanging deck w) (h : IsRestful deck w
   abbrev z : IsWaitingHere deck w g c.0 n
   z = waits-here deck w g c.0 n at alive alone
 
-  seen : Seen deck c.0 (items w.fixed) (g.before c.0) (g.due c.0 ++ g.since) (own_requests c.0 (g.due c.0)) n
+  seen : Seen deck c.0 T (g.before c.0) (g.due c.0 ++ g.since) (own_requests c.0 (g.due c.0)) n
   seen = z.waits.seen
 
   -- nothing is fixed, and the system stands as k
@@ -87,7 +87,7 @@ module _ (deck : Deck) (w : World) (g : IsChanging deck w) (h : IsRestful deck w
       elsewhere s r wide (fixing.Purged target) away = absurd (cc)
 
       by_step :
-          QuietStep deck c.0 c (items w.fixed) (g.before c.0) (g.due c.0 ++ g.since) (own_requests c.0 (g.due c.0)) n
+          QuietStep deck c.0 c T (g.before c.0) (g.due c.0 ++ g.since) (own_requests c.0 (g.due c.0)) n
           (task_step deck.limit n t (lines_of deck t))
           → IsRestful deck
           (placed w c n (record { medium = w.medium; step = task_step deck.limit n t (lines_of deck t) }))

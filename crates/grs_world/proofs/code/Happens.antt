@@ -4,9 +4,9 @@ use Rattle.grs_world.proofs.Common.{Event, false, first_node, happens, happens_a
 use Rattle.grs_world.proofs.Common.{nat_lt, nat_tests, node_at, NodeState, placed, refl, run_from, slice_get}
 use Rattle.grs_world.proofs.Common.{slice_get-get_or, sym, true, World, ℕ}
 use Rattle.std.proofs.Common.{get_or}
-use Rattle.std.proofs.lemmas.List.{at_drop_more}
 use Rattle.std.specs.Prelude.{◌&&◌, not}
 use Rattle.std.proofs.lemmas.Option.{slice_get_past}
+use Rattle.std.proofs.lemmas.List.{at_drop_more}
 
 -- an event of a system that is there and wasn't removed
 pub happens-live : (deck : Deck) (w : World) (e : Event) → is_live w e.system ≡ true

@@ -8,13 +8,13 @@ use Rattle.grs_world.proofs.Common.{reply_by, reply_of, run_from, same_Some, sli
 use Rattle.grs_world.proofs.Common.{suc, sym, SysId, take, true, Turn, turn_of, World, zero, ℕ}
 use Rattle.std.proofs.Common.{get_or, ne_eqb}
 use Rattle.std.specs.Prelude.{not}
+use Rattle.grs_world.specs.Stopped.{lap_from, left_behind, left_of, next_of}
+use Rattle.grs_world.specs.Running.{AreOf, Running, after}
 use Rattle.std.proofs.lemmas.List.{at_drop_more}
 use Rattle.grs_medium.proofs.TurnLaws.{turn_is_refused, turn_is_served}
 use Rattle.grs_medium.specs.TurnReplies.{refusal, refusal_reply}
 use Rattle.grs_medium.specs.declared.medium.TurnRefusal.{TurnRefusal}
 use Rattle.grs_world.proofs.code.Nodes.{AreOf-get, nodes_of-get}
-use Rattle.grs_world.specs.Running.{AreOf, Running, after}
-use Rattle.grs_world.specs.Stopped.{lap_from, left_behind, left_of, next_of}
 use Rattle.grs_world.proofs.run.Each.{run-push}
 use Rattle.grs_medium.specs.declared.medium.TurnRefusal.TheVariants as refusals
 use Rattle.grs_node.specs.TurnCalls as calls

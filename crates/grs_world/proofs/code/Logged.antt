@@ -1,10 +1,10 @@
 -- What the event that is taken out of a log fixed and told.
 use Rattle.grs_world.proofs.Common.{[], ◌++◌, ◌∙◌, ◌∷◌, ◌≡◌, ap, Choice, drop, false, finish, length, List, NodeView}
 use Rattle.grs_world.proofs.Common.{None, Option, refl, Reply, Some, sym, true}
+use Rattle.grs_node.specs.Log.{step_done, finished}
 use Rattle.std.specs.Prelude.{◌≢◌}
 use Rattle.grs_wire.specs.declared.log.StepDone.{StepDone}
 use Rattle.grs_wire.specs.Replies.{leaves_all}
-use Rattle.grs_node.specs.Log.{step_done, finished}
 use Rattle.grs_node.proofs.Finish.{replies_leave}
 use Rattle.grs_world.specs.Done.{done_of, last_done, done_by, journalled}
 

@@ -2,8 +2,8 @@
 use Rattle.grs_world.proofs.Common.{[], ◌++◌, ◌+◌, ◌<◌, ◌∙◌, ◌∷◌, ◌≡◌, ap, arith, Deck, length, List, nodes_of}
 use Rattle.grs_world.proofs.Common.{NodeState, NodeView, option_map, refl, slice_get, suc, zero, ℕ}
 use Rattle.std.proofs.Common.{set, get_or, length-set}
-use Rattle.std.specs.Prelude.{map}
 use Rattle.grs_world.specs.Running.{AreOf, AreNumbered, busy_at, is_busy}
+use Rattle.std.specs.Prelude.{map}
 
 pub AreOf-get : (deck : Deck) (vs : List NodeView) (i : ℕ) (d : NodeView) → i < length vs → AreOf deck vs
     → (get_or vs i d).deck ≡ deck

@@ -12,18 +12,18 @@ use Rattle.grs_world.proofs.Common.{standing, StarPart, StarStep, state_of, subs
 use Rattle.grs_world.proofs.Common.{TaskId, TaskState, TasksView, tell_control, tell_untold, ToldLine, took_mail, true}
 use Rattle.grs_world.proofs.Common.{Turnout, with_role, World, ℕ}
 use Rattle.std.proofs.Common.{is_some}
-use Rattle.std.proofs.lemmas.List.{get_or-map, get_or-set_other}
-use Rattle.std.proofs.lemmas.Option.{unwrap_or-slice_get}
-use Rattle.contention_mgr.specs.Installs.{own_owners}
-use Rattle.grs_node.specs.Node.{fixing_nothing}
 use Rattle.grs_node.specs.Removal.{again, installing, took_notice}
+use Rattle.system_purge.specs.Gathers.{GathersView}
+use Rattle.grs_known.proofs.records.Control.{Controlled, Hears, coded, given, none, passed, posted}
 use Rattle.grs_node.specs.Star.{asks_in}
+use Rattle.task_state.specs.Replies.{is_held}
+use Rattle.grs_node.specs.Node.{fixing_nothing}
+use Rattle.std.proofs.lemmas.List.{get_or-map, get_or-set_other}
 use Rattle.grs_node.specs.declared.prepared.Prepared.TheVariants.{Call as Calls}
 use Rattle.star_client.specs.Owes.{OwesView}
-use Rattle.system_purge.specs.Gathers.{GathersView}
+use Rattle.std.proofs.lemmas.Option.{unwrap_or-slice_get}
+use Rattle.contention_mgr.specs.Installs.{own_owners}
 use Rattle.task_state.proofs.ViewLaws.{is_task-place}
-use Rattle.task_state.specs.Replies.{is_held}
-use Rattle.grs_known.proofs.records.Control.{Controlled, Hears, coded, given, none, passed, posted}
 use Rattle.grs_world.proofs.run.Came.{Acts, Came, Result, acted, already, began, changed, decided, informed, is_silent}
 use Rattle.grs_world.proofs.run.Came.{last_turn, left, no_such, parted, removes_one, removes_star, replied, result_of}
 use Rattle.grs_world.proofs.run.Came.{sent, settled, told, took, turn, went_on}

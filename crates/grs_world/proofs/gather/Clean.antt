@@ -5,11 +5,11 @@ use Rattle.grs_world.proofs.Common.{false, false_by, gathering_at, has, is_news,
 use Rattle.grs_world.proofs.Common.{lose_each, most_systems, move_entry, Moved, no_truth, None, owing, part_of, PartRec}
 use Rattle.grs_world.proofs.Common.{refl, Res, sent_again, Some, Standing, standing, StarPart, subst, SysId, take_up}
 use Rattle.grs_world.proofs.Common.{take_up_all, TaskId, TasksView, tell_each, true, with_role, ℕ}
+use Rattle.grs_node.specs.Removal.{installing, took_part}
+use Rattle.system_purge.specs.Gathers.{parts_in, with_part_at}
+use Rattle.system_purge.specs.Gather.{gathered}
 use Rattle.contention_mgr.specs.Installs.{own_owners}
 use Rattle.contention_mgr.specs.Loses.{gained}
-use Rattle.grs_node.specs.Removal.{installing, took_part}
-use Rattle.system_purge.specs.Gather.{gathered}
-use Rattle.system_purge.specs.Gathers.{parts_in, with_part_at}
 use Rattle.grs_world.proofs.gather.Elements.{KeepsNone, gone-none, installed-none, losing-none}
 use Rattle.grs_world.proofs.gather.Gathered.{AreFree, AreRight, awaiting-free, awaiting-right, came-free, came-right}
 use Rattle.grs_world.proofs.gather.Gathered.{gathered-free, gone-all, losing-free, losing-right, taken-free}

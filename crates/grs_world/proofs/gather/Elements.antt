@@ -6,11 +6,11 @@ use Rattle.grs_world.proofs.Common.{Look, Managed, managed_at, managed_of, Manag
 use Rattle.grs_world.proofs.Common.{None, not, Option, option_map, option_map_or, PartRec, plain, Ranked, refl, Release}
 use Rattle.grs_world.proofs.Common.{Res, settled, Some, standing_of, State, SysId, TaskId, true, Want, with_entry, ℕ}
 use Rattle.std.proofs.Common.{is_some}
-use Rattle.contention_mgr.specs.Installs.{installed, kept_of, lists_of}
-use Rattle.contention_mgr.specs.Loses.{Freed, after_losing, freed_lists, lost, stays, with_freed}
 use Rattle.contention_mgr.specs.Manager.{enqueued, exclusive, given_up, is_of, made_exclusive, managed_for, marked}
 use Rattle.contention_mgr.specs.Manager.{taken_out, told as told_in, with_control, with_mark}
 use Rattle.grs_base.specs.Lists.{is_owner}
+use Rattle.contention_mgr.specs.Installs.{installed, kept_of, lists_of}
+use Rattle.contention_mgr.specs.Loses.{Freed, after_losing, freed_lists, lost, stays, with_freed}
 use Rattle.grs_base.specs.declared.decision.Effect.{Effect}
 use Rattle.grs_node.specs.Star.{managing, not_managing}
 use Rattle.grs_node.proofs.Orderly.{all-at, all-items, all-set}

@@ -14,13 +14,13 @@ use Rattle.grs_world.proofs.Common.{star_call, StarPart, State, state_of, subst,
 use Rattle.grs_world.proofs.Common.{Turnout, unseen, Want, with_also, without_in_star, without_system, without_target}
 use Rattle.grs_world.proofs.Common.{World, zero, ℕ, ℕ_discrete}
 use Rattle.std.proofs.Common.{is_some}
-use Rattle.grs_legal.specs.Legal.{entries_of}
-use Rattle.grs_node.specs.Star.{settle_by}
-use Rattle.grs_node.specs.declared.prepared.Prepared.TheVariants.{Call as Calls}
 use Rattle.grs_wire.specs.History.{answered_from, look_entries}
+use Rattle.grs_node.specs.Star.{settle_by}
+use Rattle.grs_wire.specs.declared.request.Fixed.TheVariants.{Asked}
+use Rattle.grs_legal.specs.Legal.{entries_of}
+use Rattle.grs_node.specs.declared.prepared.Prepared.TheVariants.{Call as Calls}
 use Rattle.grs_wire.specs.declared.history.HistEntry.TheVariants.{Remove}
 use Rattle.grs_wire.specs.declared.medium.Call.{Call}
-use Rattle.grs_wire.specs.declared.request.Fixed.TheVariants.{Asked}
 use Rattle.grs_world.proofs.gather.HeldBack.{HoldsNone, held_run, none-found}
 use Rattle.grs_world.proofs.at_rest.Homes.{homes_run}
 use Rattle.grs_world.proofs.at_rest.KeptUp.{IsBoxed, kept_run}

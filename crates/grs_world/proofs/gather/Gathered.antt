@@ -6,13 +6,13 @@ use Rattle.grs_world.proofs.Common.{Gathering, gathering_at, has, has-without_ot
 use Rattle.grs_world.proofs.Common.{last_number, length, List, list_all, map, most_systems, nat_le, no_truth, None, not}
 use Rattle.grs_world.proofs.Common.{Option, option_map, option_map_or, part_of, PartRec, refl, slice_set, Some, SysId}
 use Rattle.grs_world.proofs.Common.{TaskId, TasksView, true, without, without_those, ℕ, ℕ_discrete}
-use Rattle.std.specs.List.{flat_map}
-use Rattle.grs_node.proofs.Orderly.{all-at, all-items, all-set}
-use Rattle.grs_wire.proofs.MaskLaws.{has-without_all}
-use Rattle.system_purge.proofs.GatheredParts.{all-gathered, all-joined, all-left, all-more, all-weaker, own-counts}
-use Rattle.system_purge.specs.Gather.{gathered, is_of_part}
 use Rattle.system_purge.specs.Gathers.{GathersView, behind_loss, parts_in, with_part, with_part_at, without_entry}
 use Rattle.system_purge.specs.Gathers.{without_sender}
+use Rattle.grs_wire.proofs.MaskLaws.{has-without_all}
+use Rattle.std.specs.List.{flat_map}
+use Rattle.system_purge.specs.Gather.{gathered, is_of_part}
+use Rattle.grs_node.proofs.Orderly.{all-at, all-items, all-set}
+use Rattle.system_purge.proofs.GatheredParts.{all-gathered, all-joined, all-left, all-more, all-weaker, own-counts}
 use Rattle.system_purge.specs.declared.gathers.SentPart.{SentPart}
 use Rattle.grs_world.specs.Gone.{is_free_of, is_sent_by_other}
 

@@ -9,15 +9,15 @@ use Rattle.grs_world.proofs.Common.{items_of, List, list_any, list_of, Mail, man
 use Rattle.grs_world.proofs.Common.{Moved, NodeState, None, Notice, noticed, Option, owed_to, Part, plain, Ranked, Rec}
 use Rattle.grs_world.proofs.Common.{record_of, Res, same_task, slice_get, Some, StarPart, State, state_of, SysId}
 use Rattle.grs_world.proofs.Common.{TaskId, true, without_gone, World, ℕ}
-use Rattle.grs_wire.specs.Notices.{names}
 use Rattle.grs_wire.specs.declared.medium.Mail.TheVariants.{Request}
+use Rattle.grs_wire.specs.Notices.{names}
+use Rattle.grs_world.specs.Kept.{shown_list}
 use Rattle.lock_structure.specs.RankedRows.{rises}
 use Rattle.grs_world.proofs.gather.Views.{WayAt, last_item, parts_from, tells_in, view_at, view_of}
 use Rattle.grs_world.proofs.star.Members.{all_lists, has_manager}
 use Rattle.grs_world.proofs.star.Under.{under}
 use Rattle.grs_world.proofs.star.Worlds.{are_live}
 use Rattle.grs_world.proofs.run.Site.{Site}
-use Rattle.grs_world.specs.Kept.{shown_list}
 
 -- ---- one system and one entry
 -- How a system stands to an entry of which it is the manager by the word: it has the lists, it gathers them, or it has

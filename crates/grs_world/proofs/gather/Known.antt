@@ -13,10 +13,10 @@ use Rattle.grs_world.proofs.Common.{standing, StarPart, stays-task, stays-turned
 use Rattle.grs_world.proofs.Common.{take, take_mail, TaskId, took_mail, true, Turnout, unseen, with_also, without_those}
 use Rattle.grs_world.proofs.Common.{World, zero, ℕ, ℕ_discrete}
 use Rattle.std.proofs.Common.{replicate}
-use Rattle.grs_node.specs.Node.{changed as changed_now}
 use Rattle.grs_node.specs.Star.{is_held_for}
-use Rattle.grs_node.proofs.Keeping.{stays-entries}
+use Rattle.grs_node.specs.Node.{changed as changed_now}
 use Rattle.grs_wire.proofs.MaskLaws.{has-without_all}
+use Rattle.grs_node.proofs.Keeping.{stays-entries}
 use Rattle.grs_world.proofs.gather.Clean.{IsClean, IsOf, clean-all, clean-among, clean-moved, clean-part, clean-stays}
 use Rattle.grs_world.proofs.gather.Clean.{clean-up, of-lost, of-moved, of-part, of-up}
 use Rattle.grs_world.proofs.gather.Elements.{KeepsNone, leaving-none, managing-none, request-none, telling-none}

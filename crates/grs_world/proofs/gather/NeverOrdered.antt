@@ -5,6 +5,7 @@ use Rattle.grs_world.proofs.Common.{Deck, Event, false, false_by, first_world, h
 use Rattle.grs_world.proofs.Common.{MediumState, nat_lt, no_truth, NodeState, None, NoneInStar, not-true, Option}
 use Rattle.grs_world.proofs.Common.{prepare, refl, Reply, reply_by, reply_of, slice_get, Some, StarPart, sym, SysId}
 use Rattle.grs_world.proofs.Common.{true, Turnout, World}
+use Rattle.grs_world.specs.InStar.{removals_from}
 use Rattle.std.specs.Prelude.{◌≢◌, not, length}
 use Rattle.grs_world.proofs.move.Decks.{order-removes}
 use Rattle.grs_world.proofs.run.Came.{Acts, Came, Result, acted, already, began, by_itself, changed, decided, informed}
@@ -12,7 +13,6 @@ use Rattle.grs_world.proofs.run.Came.{is_silent, last_turn, left, no_such, nothi
 use Rattle.grs_world.proofs.run.Came.{replied, result_of, sent, settled, skipped, told, took, turn, went_on}
 use Rattle.grs_world.proofs.run.Chosen.{came, reply-in, reply_in}
 use Rattle.grs_world.specs.Decks.{may_remove}
-use Rattle.grs_world.specs.InStar.{removals_from}
 use Rattle.grs_wire.specs.declared.medium.Reply.TheVariants as replies
 
 -- what an event was that is answered so

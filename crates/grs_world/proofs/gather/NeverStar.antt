@@ -4,6 +4,9 @@ use Rattle.grs_world.proofs.Common.{[], ◌&&◌, ◌++◌, ◌∙◌, ◌∷◌
 use Rattle.grs_world.proofs.Common.{first_world, FitsStar, happens, is_purged, List, list_any, may_be_star, MediumState}
 use Rattle.grs_world.proofs.Common.{no_truth, NodeState, NoneInStar, or_parts, OrdersFit, placed, refl, reply_of, run}
 use Rattle.grs_world.proofs.Common.{subst, SysId, true, Turnout, World}
+use Rattle.grs_world.specs.Decks.{orders_star}
+use Rattle.grs_world.specs.InStar.{removals_from}
+use Rattle.grs_world.specs.Removing.{NoneFollows}
 use Rattle.grs_world.proofs.gather.Follows.{live_follow}
 use Rattle.grs_world.proofs.move.Decks.{order-may}
 use Rattle.grs_world.proofs.move.Sound.{every_sound}
@@ -12,9 +15,6 @@ use Rattle.grs_world.proofs.run.Came.{Came, Result, acted, acts-keep, already, c
 use Rattle.grs_world.proofs.run.Came.{nothing, removes_one, removes_star, turn, went_on}
 use Rattle.grs_world.proofs.run.Chosen.{each_came}
 use Rattle.grs_world.proofs.run.Each.{each_run, run-push}
-use Rattle.grs_world.specs.Decks.{orders_star}
-use Rattle.grs_world.specs.InStar.{removals_from}
-use Rattle.grs_world.specs.Removing.{NoneFollows}
 
 module _ (deck : Deck) (never : may_be_star deck ≡ false) where
   mode-first : (first_world deck).medium.star ≡ false

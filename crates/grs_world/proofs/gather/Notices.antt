@@ -15,15 +15,15 @@ use Rattle.grs_world.proofs.Common.{subst, sym, SysId, systems_of, TaskId, true,
 use Rattle.grs_world.proofs.Common.{without_first, without_in_star, word_at, World, ℕ, ℕ_discrete}
 use Rattle.std.specs.Prelude.{drop}
 use Rattle.std.proofs.lemmas.Bool.{ltb-false}
-use Rattle.std.proofs.lemmas.List.{get_or-map, get_or_past, set_past}
-use Rattle.grs_medium.specs.Apply.{is_noticed, manages as manages_there, moved_by, notice_reply}
+use Rattle.grs_node.specs.Star.{may_leave}
 use Rattle.grs_medium.specs.Inboxes.{emptied, notices_to}
+use Rattle.grs_medium.specs.Apply.{is_noticed, manages as manages_there, moved_by, notice_reply}
+use Rattle.std.proofs.lemmas.List.{get_or-map, get_or_past, set_past}
+use Rattle.grs_wire.specs.Notices.{names}
 use Rattle.grs_medium.proofs.Removals.{inbox-left, moved-at, told-where, told_to}
 use Rattle.grs_medium.proofs.SpaceLaws.{length-posted}
-use Rattle.grs_node.specs.Star.{may_leave}
 use Rattle.grs_node.specs.declared.prepared.Prepared.TheVariants.{Call as Calls}
 use Rattle.grs_node.specs.declared.star.Need.TheVariants.{Asks, Idle}
-use Rattle.grs_wire.specs.Notices.{names}
 use Rattle.lock_structure.proofs.LawProofs.{leave_keeps_all_managed, leave_manages, leave_parts, manager_is_kept}
 use Rattle.lock_structure.proofs.LawProofs.{submit_keeps_all_managed, words_begin}
 use Rattle.lock_structure.proofs.Purges.{moved_for_interested, purge_keeps_all_managed, purge_keeps_others}

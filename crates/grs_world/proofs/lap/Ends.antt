@@ -5,6 +5,7 @@ use Rattle.grs_world.proofs.Common.{inr, is_live, is_turned, lap, length, List, 
 use Rattle.grs_world.proofs.Common.{ltb-true, Message, nat_lt, not, Option, or_left, or_right, refl, reply_of}
 use Rattle.grs_world.proofs.Common.{RingEntry, run, run_from, same_Some, slice_index_or, Some, subst, suc, sym, SysId}
 use Rattle.grs_world.proofs.Common.{true, true≢false, turn_of, turned_open, WaitsForLive, World, zero, ℕ}
+use Rattle.grs_world.specs.Stopped.{AreAtMessage, LapsEnd, lap_from, left_behind, live_count, next_of, turned_in}
 use Rattle.std.specs.Prelude.{Contains}
 use native.Mathlib.Decide.{dec_lt}
 use Rattle.grs_medium.proofs.GoesOn.{masks_of}
@@ -16,7 +17,6 @@ use Rattle.grs_world.proofs.lap.Turns.{Knows, TurnCame, served, told, turn_came,
 use Rattle.grs_world.proofs.run.Each.{run-push}
 use Rattle.grs_world.proofs.run.InRing.{IsRing, begins_ring, is_ring, live-is}
 use Rattle.grs_world.proofs.run.Waits.{run_waits}
-use Rattle.grs_world.specs.Stopped.{AreAtMessage, LapsEnd, lap_from, left_behind, live_count, next_of, turned_in}
 
 -- ---- one of the entries
 held_at : (n next : ℕ) (x : RingEntry) (es : List RingEntry) (k : ℕ) → k < length es → slice_index_or es k x ≡ x

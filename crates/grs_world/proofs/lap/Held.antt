@@ -8,10 +8,10 @@ use Rattle.grs_world.proofs.Common.{ltb-true, map, MediumState, most_additions, 
 use Rattle.grs_world.proofs.Common.{or_left, or_right, placed, refl, Req, RingEntry, run, stamped, subst, suc, sym}
 use Rattle.grs_world.proofs.Common.{SysId, take, true, true≢false, turned_open, Turnout, WaitsForLive, with_also}
 use Rattle.grs_world.proofs.Common.{without, without_system, World, ℕ, ℕ_discrete}
-use Rattle.grs_medium.proofs.GoesOn.{masks_of}
+use Rattle.grs_wire.specs.Masks.{only}
 use Rattle.grs_medium.proofs.LiveLaws.{same_set}
 use Rattle.grs_medium.specs.Apply.{is_live}
-use Rattle.grs_wire.specs.Masks.{only}
+use Rattle.grs_medium.proofs.GoesOn.{masks_of}
 use Rattle.grs_world.proofs.lap.Old.{Search, nobody, search_below, somebody}
 use Rattle.grs_world.proofs.run.Each.{each_run}
 use Rattle.grs_world.proofs.run.InRing.{CameInRing, IsRing, begins_ring, changed, each_in_ring, informed, is_ring}

@@ -3,10 +3,10 @@ use Rattle.grs_world.proofs.Common.{◌%◌, ◌++◌, ◌+◌, ◌-◌, ◌<◌
 use Rattle.grs_world.proofs.Common.{false_by, first_after, has, length, List, live_below, Message, Option, refl, Req}
 use Rattle.grs_world.proofs.Common.{RingEntry, same_Some, Some, stamped, subst, sym, SysId, true, true≢false}
 use Rattle.grs_world.proofs.Common.{turned_open, without, ℕ}
+use Rattle.rsa_message.specs.Message.{is_due, moves, or_else}
 use Rattle.std.proofs.Math.Nat.{mod-eq_of_lt}
 use Rattle.grs_medium.proofs.Round.{first_found}
 use Rattle.grs_medium.proofs.Waiting.{Masks, masks_cleared, masks_joined, stamped_unseen}
-use Rattle.rsa_message.specs.Message.{is_due, moves, or_else}
 use Rattle.grs_world.proofs.lap.Old.{Search, nobody, old_cleared, old_joined, old_stamped, old_unseen, search_below}
 use Rattle.grs_world.proofs.lap.Old.{somebody, waits_old}
 use Rattle.grs_world.proofs.lap.Places.{ahead_less, one_less, one_there, place_of, same_place, still_ahead, whole_round}

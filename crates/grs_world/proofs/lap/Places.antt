@@ -1,8 +1,8 @@
 -- How many live systems the message has still to come to, counted in places round.
 use Rattle.grs_world.proofs.Common.{◌%◌, ◌+◌, ◌-◌, ◌<◌, ◌∙◌, ◌≡◌, ◌≤◌, ap, arith, cond, false, has, live_below, refl}
 use Rattle.grs_world.proofs.Common.{suc, sym, zero, ℕ, ℕ_discrete}
-use Rattle.std.proofs.Math.Nat.{mod-eq_of_lt, add-mod_right}
 use native.Mathlib.Decide.{dec_lt}
+use Rattle.std.proofs.Math.Nat.{mod-eq_of_lt, add-mod_right}
 use Rattle.grs_medium.proofs.Round.{came_round, under}
 use Rattle.grs_world.proofs.message.LapsMessage.{the_way}
 

@@ -6,8 +6,8 @@ use Rattle.grs_world.proofs.Common.{only, placed, prepare, refl, reply_of, Req, 
 use Rattle.grs_world.proofs.Common.{slice_get-set, Some, stands_at, Step, sym, SysId, take, true, true≢false, Turn}
 use Rattle.grs_world.proofs.Common.{turn_of, turn_row, turned, turned_open, Turnout, World}
 use Rattle.std.specs.Prelude.{◌^◌}
-use Rattle.grs_medium.specs.TurnReplies.{refusal}
 use Rattle.grs_node.specs.Node.{turn_call}
+use Rattle.grs_medium.specs.TurnReplies.{refusal}
 use Rattle.grs_world.proofs.code.Happens.{happens-live}
 use Rattle.grs_world.proofs.code.Lapped.{reply_of-live, turned-call}
 use Rattle.grs_world.proofs.code.Turns.{chosen-given, chosen-refused}

@@ -7,9 +7,9 @@ use Rattle.grs_world.proofs.Common.{None, not, Option, or_left, or_parts, or_rig
 use Rattle.grs_world.proofs.Common.{RingEntry, Some, stamped, stands_at, subst, suc, sym, SysId, true, turned_closed}
 use Rattle.grs_world.proofs.Common.{turned_open, unseen, without, ℕ, ℕ_discrete}
 use Rattle.std.proofs.Common.{add-zero}
-use Rattle.std.proofs.Math.Nat.{mod-eq_of_lt, mod-add-mod}
-use Rattle.grs_wire.specs.Masks.{only}
 use Rattle.rsa_message.specs.Message.{or_else, is_due, moves, moved_on}
+use Rattle.grs_wire.specs.Masks.{only}
+use Rattle.std.proofs.Math.Nat.{mod-eq_of_lt, mod-add-mod}
 use Rattle.rsa_message.proofs.OrderLaws.{stands_at-exact}
 use Rattle.grs_world.specs.Laps.{OnlyLeft, LastAtHome}
 use Rattle.grs_medium.proofs.Round.{Ahead, home, inside_round, after_some, first_found, first_inside}

@@ -12,11 +12,11 @@ use Rattle.grs_world.proofs.Common.{RunItem, same_Some, slice_get, slice_get-set
 use Rattle.grs_world.proofs.Common.{Some, star-changed, StarPart, State, subst, suc, switched, sym, SysId, table-is}
 use Rattle.grs_world.proofs.Common.{true, Turnout, unseen, World, zero, ℕ}
 use Rattle.std.proofs.Common.{set}
-use Rattle.std.proofs.lemmas.Bool.{ltb-false}
 use Rattle.grs_known.proofs.known.Histories.{elements-ask, may_have}
+use Rattle.std.proofs.lemmas.Bool.{ltb-false}
+use Rattle.grs_node.specs.Node.{words_by}
 use Rattle.grs_node.proofs.StepFits.{deck-task}
 use Rattle.grs_node.proofs.InRing.{switched-ring}
-use Rattle.grs_node.specs.Node.{words_by}
 use Rattle.grs_world.proofs.run.Knowing.{KnowsRemoved}
 use Rattle.grs_world.proofs.star.Calm.{losing-nothing}
 use Rattle.grs_world.proofs.star.Usual.{usual}
@@ -84,27 +84,26 @@ module _ (deck : Deck) (some : 0 < deck.entries) (few : length deck.systems ≤ 
   abbrev t : State
   t = lists (rounds (items w.fixed))
 
-  within : are_within (length deck.systems) (lists (rounds (items w.fixed))) ≡ true
+  within : are_within (length deck.systems) t ≡ true
   within = front-within deck (rounds T) (asks-rounds deck T right.asks)
 
-  within_most : are_within most_systems (lists (rounds (items w.fixed))) ≡ true
+  within_most : are_within most_systems t ≡ true
   within_most = more-within (length deck.systems) most_systems few t within
 
   abbrev part_at : ℕ → StarPart
   part_at s = part_by_table deck.entries (record { 0 = s }) (lists (rounds (items w.fixed)))
 
-  part_is : (s : ℕ) (k : NodeState) → Arrives deck s (items w.fixed) k → k.star ≡ Some (part_at s)
+  part_is : (s : ℕ) (k : NodeState) → Arrives deck s T k → k.star ≡ Some (part_at s)
   part_is s k a = ap (λ (z : NodeState). z.star) a.is ∙ (star-changed deck a.from
       ∙ (ap (λ (i : ℕ). Some (part_by_table deck.entries (record { 0 = i }) a.from.shared)) a.seen.good.system
       ∙ ap (λ x. Some (part_by_table deck.entries (record { 0 = s }) x)) a.seen.shared))
 
-  fits : (s : ℕ) → IsPart deck w.medium.words (lists (items w.fixed)) s (part_at s)
+  fits : (s : ℕ) → IsPart deck w.medium.words (lists T) s (part_at s)
   fits s =
       subst (λ ws. IsPart deck ws (lists (items w.fixed)) s (part_at s)) (sym words_are)
       (part-by deck some t (lists T) (table-is T) within_most s)
 
-  member : (s : ℕ) (k : NodeState) → Arrives deck s (items w.fixed) k
-      → IsMember deck w.medium.words (lists (items w.fixed)) s k
+  member : (s : ℕ) (k : NodeState) → Arrives deck s T k → IsMember deck w.medium.words (lists T) s k
   unfolding change_to_star
   member s k a = record {
     part = part_at s;
@@ -113,8 +112,8 @@ module _ (deck : Deck) (some : 0 < deck.entries) (few : length deck.systems ≤ 
     fits = fits s;
   }
 
-  system : (s : ℕ) (k : NodeState) → Arrives deck s (items w.fixed) k → (ms : List Mail) → ms ≡ []
-      → IsSystem deck w.medium.words (items w.fixed) s k ms [] []
+  system : (s : ℕ) (k : NodeState) → Arrives deck s T k → (ms : List Mail) → ms ≡ []
+      → IsSystem deck w.medium.words T s k ms [] []
   system s k a ms empty =
       subst (λ xs. IsSystem deck w.medium.words T s k xs [] [])
       (sym empty) (subst (λ z. IsSystem deck w.medium.words T s z [] [] []) (sym a.is) (record {
@@ -138,7 +137,7 @@ module _ (deck : Deck) (some : 0 < deck.entries) (few : length deck.systems ≤ 
 
     -- who isn't live has no element of an entry
     none-there : (e s : ℕ) (b : Bool) → has w.medium.removed s ≡ b → (nat_lt s (length view) && not b) ≡ false
-        → has_elements deck.entries e (rows_of (lists (rounds (items w.fixed)))) s ≡ false
+        → has_elements deck.entries e (rows_of t) s ≡ false
     none-there e s true out h = removed-by deck T right e s (sym (gone (record { 0 = s })) ∙ out)
     none-there e s false live h =
         past-by deck some t (lists T) (table-is T) within_most (length deck.systems) within e s
@@ -239,7 +238,7 @@ module _ (deck : Deck) (ring_mode : deck.star ≡ false) (some : 0 < deck.entrie
   lives_here : has (live w.medium) c.0 ≡ true
   lives_here = live-there deck w ring c.0 n at unremoved
 
-  own_seen : Seen deck c.0 (items w.fixed) (before c.0) (later c.0) (own_requests c.0 (later c.0)) n
+  own_seen : Seen deck c.0 P (before c.0) (later c.0) (own_requests c.0 (later c.0)) n
   own_seen = systems c.0 n at lives_here
 
   -- its Turn gave it all
@@ -248,22 +247,22 @@ module _ (deck : Deck) (ring_mode : deck.star ≡ false) (some : 0 < deck.entrie
       all-seen (unseen c w.medium.message.entries) (later c.0) idle
       (given-later w.medium c before (later c.0) P (whole c.0) lives_here message)
 
-  all_before : before c.0 ≡ rounds (items w.fixed)
+  all_before : before c.0 ≡ rounds P
   all_before = sym (whole c.0 ∙ (ap (λ xs. before c.0 ++ xs) nothing_later ∙ append-nil (before c.0)))
 
-  seen_all : Seen deck c.0 (items w.fixed) (rounds (items w.fixed)) [] [] n
+  seen_all : Seen deck c.0 P (rounds P) [] [] n
   seen_all =
       subst (λ xs. Seen deck c.0 P xs [] [] n) all_before
       (subst (λ xs. Seen deck c.0 P (before c.0) xs (own_requests c.0 xs) n) nothing_later own_seen)
 
-  words_are : own_words deck n ≡ table_words deck.entries (lists (rounds (items w.fixed)))
+  words_are : own_words deck n ≡ table_words deck.entries (lists (rounds P))
   words_are =
       ap (λ (p : Option StarPart). words_by deck.entries n.shared p) (ring.alone c.0 n at)
       ∙ ap (table_words deck.entries) seen_all.shared
 
   -- the others wait
   other_waits : (u : ℕ) (m : NodeState) → slice_get w.nodes u ≡ Some m → has w.medium.removed u ≡ false
-      → Waits deck u (items w.fixed) (before u) (later u) [] m
+      → Waits deck u P (before u) (later u) [] m
   other_waits u m there live = record {
     alone = ring.alone u m there;
     seen =
@@ -273,7 +272,7 @@ module _ (deck : Deck) (ring_mode : deck.star ≡ false) (some : 0 < deck.entrie
   }
 
   other_arrives : (u : ℕ) (m : NodeState) → slice_get w.nodes u ≡ Some m → has w.medium.removed u ≡ false
-      → Arrives deck u (items w.fixed) (viewed deck m (later u))
+      → Arrives deck u P (viewed deck m (later u))
   other_arrives u m there live =
       let all : rounds P ≡ before u ++ (later u ++ []) =
       whole u ∙ ap (λ xs. before u ++ xs) (sym (append-nil (later u))) in
@@ -309,7 +308,7 @@ module _ (deck : Deck) (ring_mode : deck.star ≡ false) (some : 0 < deck.entrie
     abbrev view : List NodeState
     view = set (all_viewed deck later w.nodes) c.0 then_node
 
-    own_arrives : Arrives deck c.0 (items w.fixed) then_node
+    own_arrives : Arrives deck c.0 P then_node
     unfolding desk_told
     own_arrives = record {
       from = desk_told n saids.StarDone;
@@ -395,7 +394,7 @@ module _ (deck : Deck) (ring_mode : deck.star ≡ false) (some : 0 < deck.entrie
     abbrev plain_node : NodeState
     plain_node = change_to_star deck (desk_told n saids.StarDone)
 
-    plain-known : (change_to_star deck (desk_told n saids.StarDone)).known ≡ n.known
+    plain-known : plain_node.known ≡ n.known
     unfolding change_to_star desk_told
     plain-known = refl
 

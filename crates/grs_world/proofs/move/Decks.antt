@@ -2,10 +2,10 @@
 use Rattle.grs_world.proofs.Common.{◌∙◌, ◌≡◌, ap, Bool, Deck, list_any, may_be_star, next_order, NodeState, None}
 use Rattle.grs_world.proofs.Common.{Option, option_map, or_right, Order, refl, same_Some, slice_get, Some, SysId}
 use Rattle.grs_world.proofs.Common.{SystemDef, true}
-use Rattle.std.proofs.lemmas.Map.Keys.{any_passes_from_place}
-use Rattle.grs_node.specs.Node.{desk_of}
-use Rattle.grs_wire.specs.declared.deck.Desk.{Desk}
 use Rattle.grs_world.specs.Decks.{is_removal_order, is_star_order, may_remove, orders_star}
+use Rattle.grs_node.specs.Node.{desk_of}
+use Rattle.std.proofs.lemmas.Map.Keys.{any_passes_from_place}
+use Rattle.grs_wire.specs.declared.deck.Desk.{Desk}
 use Rattle.grs_wire.specs.declared.deck.Order.TheVariants as orders
 
 -- what a system's next desk line orders is ordered at a desk of the deck

@@ -7,6 +7,7 @@ use Rattle.grs_world.proofs.Common.{most_systems, NodeState, None, NoneInStar, O
 use Rattle.grs_world.proofs.Common.{places, plain, refl, replay, Res, rounds, run, same_Some, slice_get, slice_get-past}
 use Rattle.grs_world.proofs.Common.{Some, StarPart, State, subst, sym, SysId, true, without_gone, World, ℕ}
 use Rattle.grs_known.proofs.known.Histories.{asks-front}
+use Rattle.grs_world.specs.Kept.{KeptArePlaces, at_manager, at_node, has_to_gather, kept_in, managed_list, named_by}
 use Rattle.grs_node.proofs.TableParts.{table-lists}
 use Rattle.grs_world.proofs.move.Begin.{front-within, more-within}
 use Rattle.grs_world.proofs.move.Changing.{IsChanging, Shown, Waits, has_changed, view-read, view-star, viewed}
@@ -19,7 +20,6 @@ use Rattle.grs_world.proofs.run.KeptPlaces.{kept_is}
 use Rattle.grs_world.proofs.star.Members.{IsMember, all_lists, manager-here}
 use Rattle.grs_world.proofs.star.Runs.{none-to-gather, own-kept}
 use Rattle.grs_world.proofs.star.Worlds.{kept-whole, live-below, manager-live, quiet-whole}
-use Rattle.grs_world.specs.Kept.{KeptArePlaces, at_manager, at_node, has_to_gather, kept_in, managed_list, named_by}
 use Rattle.grs_world.proofs.run.Site.{Site, at_site}
 
 -- a resource of an entry is of that entry
@@ -35,7 +35,7 @@ module _ (deck : Deck) (some : 0 < deck.entries) (few : length deck.systems ≤ 
   module _ (r : Res) (x : ℕ) (m : SysId) (of : entry_of_res deck.entries r ≡ Some x)
       (managed : manager_at w.medium.words x ≡ Some m) (n k : NodeState) (at : slice_get w.nodes m.0 ≡ Some n)
       (there : slice_get g.view m.0 ≡ Some k) (unremoved : has w.medium.removed m.0 ≡ false) where
-    me : IsMember deck w.medium.words (all_lists (record w { nodes = g.view })) m.0 k
+    me : IsMember deck w.medium.words (all_lists shown) m.0 k
     me = g.whole.roles.node m.0 k (at_site there unremoved)
 
     -- who hasn't changed keeps it in its table
@@ -50,7 +50,7 @@ module _ (deck : Deck) (some : 0 < deck.entries) (few : length deck.systems ≤ 
       whole_here : rounds (items w.fixed) ≡ g.before m.0 ++ (g.due m.0 ++ g.since)
       whole_here = whole_now deck w g m n at unremoved k there h is empty
 
-      within : are_within most_systems (lists (g.before m.0 ++ g.due m.0)) ≡ true
+      within : are_within most_systems t ≡ true
       within =
           let asks : AllAsk deck (g.before m.0 ++ g.due m.0) =
           asks-front deck (g.before m.0 ++ g.due m.0) g.since
@@ -77,7 +77,7 @@ module _ (deck : Deck) (some : 0 < deck.entries) (few : length deck.systems ≤ 
           (subst (λ (p : StarPart). length p.manager.entries ≡ deck.entries) same-part me.fits.entries)
           ∙ of
 
-      shown-list : managed_list deck (record w { nodes = g.view }) m k (Some by_table) r ≡ list_of t r
+      shown-list : managed_list deck shown m k (Some by_table) r ≡ list_of t r
       shown-list = ap (λ o. list_of (plain (items_of (kept_for by_table.manager.entries o))) r) entry
           ∙ (table-lists deck.entries some (record { 0 = m.0 }) t within x mine r
           ∙ ap (λ b. cond b (list_of t r) []) (of-entry (entry_of_res deck.entries r) x of))
@@ -89,7 +89,7 @@ module _ (deck : Deck) (some : 0 < deck.entries) (few : length deck.systems ≤ 
           ∙ ap (λ s. list_of s r) (view-read deck m.0 (items w.fixed) (g.before m.0) (g.due m.0) g.since g.whole.right
           whole_here n h).seen.shared
 
-      waits-shown : managed_list deck w m n n.star r ≡ managed_list deck (record w { nodes = g.view }) m k k.star r
+      waits-shown : managed_list deck w m n n.star r ≡ managed_list deck shown m k k.star r
       waits-shown =
           ap (λ o. managed_list deck w m n o r) h.alone
           ∙ (kept-list ∙ (sym shown-list ∙ sym (ap (λ o. managed_list deck shown m k o r) part-is)))
@@ -97,8 +97,8 @@ module _ (deck : Deck) (some : 0 < deck.entries) (few : length deck.systems ≤ 
   lists_shown : (r : Res) (x : ℕ) (m : SysId) → entry_of_res deck.entries r ≡ Some x
       → manager_at w.medium.words x ≡ Some m → (n k : NodeState) → slice_get w.nodes m.0 ≡ Some n
       → slice_get g.view m.0 ≡ Some k → has w.medium.removed m.0 ≡ false
-      → Shown deck m.0 (items w.fixed) (g.before m.0) (g.due m.0) g.since (g.whole.out m.0) k n →
-      managed_list deck w m n n.star r ≡ managed_list deck (record w { nodes = g.view }) m k k.star r
+      → Shown deck m.0 (items w.fixed) (g.before m.0) (g.due m.0) g.since (g.whole.out m.0) k n
+      → managed_list deck w m n n.star r ≡ managed_list deck shown m k k.star r
   lists_shown r x m of managed n k at there unremoved (has_changed none) =
       let star = (g.whole.roles.node m.0 k (at_site there unremoved)).star in
       ap (λ o. managed_list deck w m k o r) star ∙ sym (ap (λ o. managed_list deck shown m k o r) star)
@@ -106,9 +106,9 @@ module _ (deck : Deck) (some : 0 < deck.entries) (few : length deck.systems ≤ 
       waits-shown r x m of managed z k at there unremoved h is empty
 
   -- it has nothing to gather, as who has changed hasn't
-  none-gathers : (x : ℕ) (m : SysId) (n k : NodeState) (there : Site (record w { nodes = g.view }) m.0 k)
-      → Shown deck m.0 (items w.fixed) (g.before m.0) (g.due m.0) g.since (g.whole.out m.0) k n →
-      has_to_gather w m n (Some x) ≡ false
+  none-gathers : (x : ℕ) (m : SysId) (n k : NodeState) (there : Site shown m.0 k)
+      → Shown deck m.0 (items w.fixed) (g.before m.0) (g.due m.0) g.since (g.whole.out m.0) k n
+      → has_to_gather w m n (Some x) ≡ false
   none-gathers x m n k there (has_changed none) =
       none-to-gather deck shown (all_lists shown) m k x (g.whole.roles.node m.0 k there)
       (quiet-whole deck shown g.whole m.0 k x there)
@@ -119,8 +119,8 @@ module _ (deck : Deck) (some : 0 < deck.entries) (few : length deck.systems ≤ 
   at_shown : (r : Res) (x : ℕ) (m : SysId) → entry_of_res deck.entries r ≡ Some x → manager_at w.medium.words x ≡ Some m
       → (n k : NodeState) → slice_get w.nodes m.0 ≡ Some n → slice_get g.view m.0 ≡ Some k
       → has w.medium.removed m.0 ≡ false
-      → Shown deck m.0 (items w.fixed) (g.before m.0) (g.due m.0) g.since (g.whole.out m.0) k n →
-      at_node deck w m (Some n) r ≡ at_node deck (record w { nodes = g.view }) m (Some k) r
+      → Shown deck m.0 (items w.fixed) (g.before m.0) (g.due m.0) g.since (g.whole.out m.0) k n
+      → at_node deck w m (Some n) r ≡ at_node deck shown m (Some k) r
   at_shown r x m of managed n k at there unremoved old =
       own-kept deck w m n r
       (ap (has_to_gather w m n) entry ∙ none-gathers x m n k (at_site there unremoved) old)
@@ -134,7 +134,7 @@ module _ (deck : Deck) (some : 0 < deck.entries) (few : length deck.systems ≤ 
       entry = ap (λ i. entry_of_res i r) g.whole.roles.words ∙ of
 
   -- ---- so what is kept is what is shown
-  kept_shown : (s : SysId) (r : Res) → kept deck w s r ≡ kept deck (record w { nodes = g.view }) s r
+  kept_shown : (s : SysId) (r : Res) → kept deck w s r ≡ kept deck shown s r
   kept_shown s r =
       ap (λ b. kept_in b deck w s r) g.whole.roles.mode
       ∙ (ap (without_gone w.medium.removed) (by_entry (entry_of_res (length w.medium.words) r) refl)
@@ -142,8 +142,7 @@ module _ (deck : Deck) (some : 0 < deck.entries) (few : length deck.systems ≤ 
     where
       by_system : (x : ℕ) (m : SysId) → entry_of_res deck.entries r ≡ Some x → manager_at w.medium.words x ≡ Some m
           → (o : Option NodeState) → slice_get w.nodes m.0 ≡ o
-          → at_node deck w m (slice_get w.nodes m.0) r
-          ≡ at_node deck (record w { nodes = g.view }) m (slice_get g.view m.0) r
+          → at_node deck w m (slice_get w.nodes m.0) r ≡ at_node deck shown m (slice_get g.view m.0) r
       by_system x m of managed None at =
           let past = slice_get-past w.nodes m.0 at in
           let there =
@@ -159,15 +158,14 @@ module _ (deck : Deck) (some : 0 < deck.entries) (few : length deck.systems ≤ 
           ∙ (at_shown r x m of managed n old.0 at old.1 there.1 old.2 ∙ sym (ap (λ o. at_node deck shown m o r) old.1))
 
       by_manager : (x : ℕ) → entry_of_res (length w.medium.words) r ≡ Some x → (o : Option SysId)
-          → manager_at w.medium.words x ≡ o → at_manager deck w o r ≡ at_manager deck (record w { nodes = g.view }) o r
+          → manager_at w.medium.words x ≡ o → at_manager deck w o r ≡ at_manager deck shown o r
       by_manager x of None managed = refl
       by_manager x of (Some m) managed =
           by_system x m (ap (λ i. entry_of_res i r) (sym g.whole.roles.words) ∙ of) managed (slice_get w.nodes m.0) refl
 
       by_entry : (o : Option ℕ) → entry_of_res (length w.medium.words) r ≡ o
           → at_manager deck w (named_by w.medium.words (entry_of_res (length w.medium.words) r)) r
-          ≡ at_manager deck (record w { nodes = g.view })
-          (named_by w.medium.words (entry_of_res (length w.medium.words) r)) r
+          ≡ at_manager deck shown (named_by w.medium.words (entry_of_res (length w.medium.words) r)) r
       by_entry None of =
           ap (λ o. at_manager deck w (named_by w.medium.words o) r) of
           ∙ sym (ap (λ o. at_manager deck shown (named_by w.medium.words o) r) of)

@@ -6,18 +6,18 @@ use Rattle.grs_world.proofs.Common.{list_all, list_any, list_of, lists, ltb-true
 use Rattle.grs_world.proofs.Common.{None, not, Option, or_left, or_parts, or_right, part, part_by_table, refl, removes}
 use Rattle.grs_world.proofs.Common.{removes_system_of, Res, rounds, rows_of, RunItem, same_task, same_task-exact, Some}
 use Rattle.grs_world.proofs.Common.{State, subst, sym, SysId, System, table-is, TaskId, true, ℕ}
+use Rattle.grs_known.proofs.known.Histories.{may_stand, removes-history}
+use Rattle.grs_base.specs.declared.resource.Res.TheVariants.{Step as StepRes, Systems}
 use Rattle.grs_world.proofs.star.Calm.{calm-first}
 use Rattle.grs_world.proofs.star.Elements.{AreNear, is_near_res, near-words}
 use Rattle.grs_world.proofs.star.Members.{IsPart, has_manager}
 use Rattle.grs_world.proofs.star.Under.{entry-same, in_entry, list-under, under, none-under}
 use Rattle.grs_world.proofs.star.Systems.{near_at}
-use Rattle.grs_base.specs.declared.resource.Res.TheVariants.{Step as StepRes, Systems}
 use Rattle.mode_migrate.proofs.TableWords.{elements-are, table-free, table-interest, table-manager}
 use Rattle.lock_structure.proofs.LeastLaws.{least-passes}
 use Rattle.mode_migrate.proofs.WordLaws.{elements-within}
 use Rattle.mode_migrate.specs.Migrate.{has_elements, manager_by, table_words, is_by}
 use Rattle.mode_migrate.proofs.Rows.{any-list}
-use Rattle.grs_known.proofs.known.Histories.{may_stand, removes-history}
 use Rattle.grs_known.proofs.ring.Parts.{list_of-systems}
 use Rattle.grs_known.specs.Parts.{systems_part}
 use Rattle.grs_node.proofs.TableParts.{table-counts, table-interested, table-lists, table-manages, table-well}

@@ -13,11 +13,11 @@ use Rattle.grs_world.proofs.Common.{with_ranks, zero, ℕ}
 use Rattle.std.proofs.Common.{get_or}
 use Rattle.std.specs.Prelude.{min}
 use Rattle.grs_known.proofs.system.Asking.{AreLooks, first-looks}
+use Rattle.grs_node.specs.Change.{first_look, more_left}
 use Rattle.grs_world.proofs.star.Ghosts.{IsAt, opens-as}
 use Rattle.grs_world.proofs.system.AtNode.{Seen, opens_of}
 use Rattle.grs_world.proofs.system.Puts.{home-task}
 use Rattle.grs_world.proofs.star.Ranked.{did-rank, here-ranked, told-rank, ranked}
-use Rattle.grs_node.specs.Change.{first_look, more_left}
 use Rattle.grs_known.proofs.known.Knowing.{one-none}
 use Rattle.task_state.specs.declared.state.Phase.TheVariants as phases
 

@@ -5,6 +5,7 @@ use Rattle.grs_world.proofs.Common.{has, has-zero, history, IsHistory, items, le
 use Rattle.grs_world.proofs.Common.{Message, most_systems, never_opened, no_truth, NodeState, NoneInStar, not, opened}
 use Rattle.grs_world.proofs.Common.{or_left, OrdersFit, placed, refl, removes_in_star, run, slice_get, slice_get_within}
 use Rattle.grs_world.proofs.Common.{Some, SysId, take, true, Turnout, World, ℕ}
+use Rattle.grs_world.specs.Decks.{orders_star}
 use Rattle.std.specs.Prelude.{◌&&◌}
 use Rattle.grs_world.proofs.move.Begin.{switched-moved}
 use Rattle.grs_world.proofs.move.Changing.{IsChanging, IsMoved, Shown, has_changed, waits_yet}
@@ -25,7 +26,6 @@ use Rattle.grs_world.proofs.run.Sound.{came_tells, first_good, first_good_told, 
 use Rattle.grs_world.proofs.run.Sound.{first_is, sound-of}
 use Rattle.grs_world.proofs.star.Sound.{first_whole}
 use Rattle.grs_world.specs.Agree.{Sound}
-use Rattle.grs_world.specs.Decks.{orders_star}
 use Rattle.grs_world.proofs.run.Site.{at_site}
 
 -- What holds of the world w after these events: the medium is in ring mode, or it was changed to star mode.
@@ -55,16 +55,13 @@ module _ (deck : Deck) (fits : may_be_star deck ≡ true → FitsStar deck) (es 
   Good x = GoodRun deck (es ++ e ∷ []) x
 
   module _ (n : NodeState) (at : slice_get (run deck es).nodes e.system.0 ≡ Some n) where
-    came : (o : Turnout)
-        → items (placed (run deck es) e.system n o).fixed
-        ≡ items ((run deck es).fixed ++ fixed_by e.system o.step.fixed)
+    came : (o : Turnout) → items (placed w e.system n o).fixed ≡ items (w.fixed ++ fixed_by e.system o.step.fixed)
     unfolding placed
     came o = refl
 
     -- the medium is in star mode behind it
-    to_star : FitsStar deck → GoodTold deck es (run deck es) → GoodDesks deck (run deck es)
-        → n.tasks.system ≡ e.system.0 → (o : Turnout) → IsMoved deck (run deck es) e.system n o
-        → happens deck (run deck es) e ≡ placed (run deck es) e.system n o → Good (placed (run deck es) e.system n o)
+    to_star : FitsStar deck → GoodTold deck es w → GoodDesks deck w → n.tasks.system ≡ e.system.0 → (o : Turnout)
+        → IsMoved deck w e.system n o → happens deck w e ≡ placed w e.system n o → Good (placed w e.system n o)
     to_star f told d home o moved is = in_star f moved.changing
         (told-after deck es e n at told o (items (w.fixed ++ fixed_by c o.step.fixed)) (came o) is
         (desk-agrees deck es w told d c n at home (history (items (w.fixed ++ fixed_by c o.step.fixed))) o.step.fixed
@@ -76,14 +73,14 @@ module _ (deck : Deck) (fits : may_be_star deck ≡ true → FitsStar deck) (es 
       (d : GoodDesks deck (run deck es)) where
     module _ (n : NodeState) (at : slice_get (run deck es).nodes e.system.0 ≡ Some n)
         (alive : has (run deck es).medium.removed e.system.0 ≡ false) where
-      here : has (live (run deck es).medium) e.system.0 ≡ true
+      here : has (live w.medium) e.system.0 ≡ true
       here = live-there deck w ring c.0 n at alive
 
       home : n.tasks.system ≡ e.system.0
       home = (g.systems c.0 n at here).good.system
 
-      stays_ring : (o : Turnout) → CameInRing deck (run deck es) e.system n o → o.medium.star ≡ false
-          → happens deck (run deck es) e ≡ placed (run deck es) e.system n o → Good (placed (run deck es) e.system n o)
+      stays_ring : (o : Turnout) → CameInRing deck w e.system n o → o.medium.star ≡ false
+          → happens deck w e ≡ placed w e.system n o → Good (placed w e.system n o)
       stays_ring o h mode is =
           let tells = came_tells deck es e ring g n at alive o h mode in
           let told =
@@ -94,8 +91,8 @@ module _ (deck : Deck) (fits : may_be_star deck ≡ true → FitsStar deck) (es 
           (good_came deck es e ring g n at alive o h mode told is)
           (desks-after deck w d c n at o (history (items (w.fixed ++ fixed_by c o.step.fixed))) tells)
 
-      comes : (o : Turnout) → CameInRing deck (run deck es) e.system n o
-          → happens deck (run deck es) e ≡ placed (run deck es) e.system n o → Good (placed (run deck es) e.system n o)
+      comes : (o : Turnout) → CameInRing deck w e.system n o → happens deck w e ≡ placed w e.system n o
+          → Good (placed w e.system n o)
       comes o (nothing flags) is = stays_ring _ (nothing flags) ring.mode is
       comes o (went_on t may) is = stays_ring _ (went_on t may) ring.mode is
       comes o (turn flags here) is = stays_ring _ (turn flags here) ring.mode is
@@ -109,25 +106,23 @@ module _ (deck : Deck) (fits : may_be_star deck ≡ true → FitsStar deck) (es 
           (known_run deck es c.0 n at))
           is
 
-    from_ring : Good (happens deck (run deck es) e)
+    from_ring : Good (happens deck w e)
     from_ring =
         each_in_ring deck w e (λ x. happens deck w e ≡ x → Good x) ring
         (λ is. in_ring begins (ring-counted deck w ring) (good_counted deck es e ring g) (desks-counted deck w d))
         (λ n o at alive h is. comes n at alive o h is) refl
 
   -- in star mode
-  from_star : removes_in_star deck (run deck es) e ≡ false → FitsStar deck → IsChanging deck (run deck es)
-      → GoodTold deck es (run deck es) → GoodDesks deck (run deck es) → Good (happens deck (run deck es) e)
+  from_star : removes_in_star deck w e ≡ false → FitsStar deck → IsChanging deck w → GoodTold deck es w
+      → GoodDesks deck w → Good (happens deck w e)
   from_star none f g told d =
       each_live deck w e (λ x. happens deck w e ≡ x → Good x)
       (λ is. in_star f (changing-counted deck w g) (told-counted deck es e w told) (desks-counted deck w d)) comes_star
       refl
     where
-      comes_star : (n : NodeState) → slice_get (run deck es).nodes e.system.0 ≡ Some n
-          → has (run deck es).medium.removed e.system.0 ≡ false
-          → happens deck (run deck es) e
-          ≡ placed (run deck es) e.system n (chosen deck (run deck es).medium e.system n e.choice)
-          → Good (placed (run deck es) e.system n (chosen deck (run deck es).medium e.system n e.choice))
+      comes_star : (n : NodeState) → slice_get w.nodes e.system.0 ≡ Some n → has w.medium.removed e.system.0 ≡ false
+          → happens deck w e ≡ placed w e.system n (chosen deck w.medium e.system n e.choice)
+          → Good (placed w e.system n (chosen deck w.medium e.system n e.choice))
       comes_star n at alive is =
           let here = slice_get_within w.nodes c.0 n at in
           let inside : c.0 < most_systems = omega (arith, here, g.count, f.few) in
@@ -136,8 +131,7 @@ module _ (deck : Deck) (fits : may_be_star deck ≡ true → FitsStar deck) (es 
           (gone_are_removed deck es) (known_run deck es c.0 n at) (removes-none deck w e none n at alive))
           is
 
-  next_good : removes_in_star deck (run deck es) e ≡ false → GoodRun deck es (run deck es)
-      → Good (happens deck (run deck es) e)
+  next_good : removes_in_star deck w e ≡ false → GoodRun deck es w → Good (happens deck w e)
   next_good none (in_ring begins ring g d) = from_ring begins ring g d
   next_good none (in_star f g told d) = from_star none f g told d
 

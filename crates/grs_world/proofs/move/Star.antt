@@ -28,13 +28,13 @@ module _ (deck : Deck) (some : 0 < deck.entries) (w : World) (g : IsChanging dec
     news = (outcome deck some shown g.whole c inside n (at_site there unremoved) removed known choice kept step).news;
   }
     where
-      step : IsStep deck (record w { nodes = g.view }) c n (chosen deck w.medium c n choice)
+      step : IsStep deck shown c n (chosen deck w.medium c n choice)
       step =
           good_choice deck some (record w { nodes = g.view }) c inside n (at_site there unremoved) g.whole.roles
           (g.whole.roles.node c.0 n (at_site there unremoved))
           (usual deck (record w { nodes = g.view }) g.whole c n (at_site there unremoved) known) choice kept
 
-      goes : IsOutcome deck (record w { nodes = g.view }) g.whole c n (chosen deck w.medium c n choice)
+      goes : IsOutcome deck shown g.whole c n (chosen deck w.medium c n choice)
           → IsChanging deck (placed w c n (chosen deck w.medium c n choice))
       goes h =
           let f = fresh deck c.0 g.whole.out (items w.fixed) _ h.stays.fixes in

@@ -12,7 +12,9 @@ use Rattle.grs_world.proofs.Common.{told-news, told_by, told_in, ToldNews, true,
 use Rattle.grs_world.proofs.Common.{ℕ}
 use Rattle.std.proofs.Common.{set}
 use Rattle.grs_known.proofs.known.Histories.{asks-front}
+use Rattle.grs_node.specs.Node.{changed as changed_now}
 use Rattle.grs_known.proofs.lists.Placed.{put_each, put_both}
+use Rattle.grs_node.proofs.Keeping.{Stays, stays-entries}
 use Rattle.grs_world.proofs.star.Calm.{losing-nothing}
 use Rattle.grs_world.proofs.run.Knowing.{KnowsRemoved}
 use Rattle.grs_world.proofs.star.Usual.{usual}
@@ -39,8 +41,6 @@ use Rattle.grs_world.proofs.run.Messages.{given-due, message-closed}
 use Rattle.grs_world.proofs.system.Quiet.{quiet}
 use Rattle.grs_world.proofs.run.Desks.{tells_already, tells_no_such, tells_tasks}
 use Rattle.grs_world.proofs.star.Under.{under}
-use Rattle.grs_node.specs.Node.{changed as changed_now}
-use Rattle.grs_node.proofs.Keeping.{Stays, stays-entries}
 use Rattle.grs_world.proofs.run.Site.{Site, IsThere, at_site}
 use Rattle.grs_wire.specs.declared.deck.Order.TheVariants as orders
 use Rattle.grs_wire.specs.declared.told.Said.TheVariants as saids
@@ -60,7 +60,7 @@ module _ (deck : Deck) (w : World) (g : IsChanging deck w) (c : SysId) (n : Node
   abbrev T : List RunItem
   T = items w.fixed
 
-  pub whole_now : rounds (items w.fixed) ≡ g.before c.0 ++ (g.due c.0 ++ g.since)
+  pub whole_now : rounds T ≡ g.before c.0 ++ (g.due c.0 ++ g.since)
   whole_now = g.rounds_are ∙ (ap (λ zs. zs ++ g.since) (g.parts c.0) ∙ append_assoc (g.before c.0) (g.due c.0) g.since)
 
   abbrev me : IsMember deck w.medium.words (all_lists (record w { nodes = g.view })) c.0 k
@@ -101,16 +101,16 @@ module _ (deck : Deck) (w : World) (g : IsChanging deck w) (c : SysId) (n : Node
     whole_then : rounds T' ≡ g.before c.0 ++ (g.due c.0 ++ g.since)
     whole_then = rounds_now ∙ whole_now
 
-    same-star : (viewed deck n' (g.due c.0)).star ≡ k.star
+    same-star : k'.star ≡ k.star
     same-star =
         view-star deck c.0 T' (g.before c.0) (g.due c.0) g.since right whole_then n' waits
         ∙ sym (ap (λ (z : NodeState). z.star) is
         ∙ view-star deck c.0 T (g.before c.0) (g.due c.0) g.since g.whole.right whole_now n h)
 
-    lists-then : lists_after (lists (items w.fixed)) fs ≡ lists T'
+    lists-then : lists_after (lists T) fs ≡ lists T'
     lists-then = sym (lists-grown w.fixed c fs) ∙ ap lists grown
 
-    step : IsStep deck (record w { nodes = g.view }) c k o_shown
+    step : IsStep deck shown c k o_shown
     unfolding change_to_star
     step = record {
       mode = g.whole.roles.mode;
@@ -144,9 +144,7 @@ module _ (deck : Deck) (w : World) (g : IsChanging deck w) (c : SysId) (n : Node
       };
     }
 
-    own :
-        IsSystem deck w.medium.words T' c.0 (viewed deck n' (g.due c.0)) (inbox w.medium c.0) (g.whole.later c.0)
-        (g.whole.out c.0)
+    own : IsSystem deck w.medium.words T' c.0 k' (inbox w.medium c.0) (g.whole.later c.0) (g.whole.out c.0)
     own = subst (λ xs. IsSystem deck w.medium.words T' c.0 k' (inbox w.medium c.0) xs (g.whole.out c.0)) (sym late-none)
         (subst (λ qs. IsSystem deck w.medium.words T' c.0 k' (inbox w.medium c.0) [] qs) (sym empty) (record {
           at = view-at deck c.0 T' (g.before c.0) (g.due c.0) g.since right whole_then n' waits;
@@ -176,8 +174,7 @@ module _ (deck : Deck) (w : World) (g : IsChanging deck w) (c : SysId) (n : Node
           node = f.node;
         }
 
-    system-now : (s : ℕ) (j : NodeState)
-        → IsThere (set g.view c.0 (viewed deck n' (g.due c.0))) w.medium.removed s j
+    system-now : (s : ℕ) (j : NodeState) → IsThere (set g.view c.0 k') w.medium.removed s j
         → IsSystem deck w.medium.words (items (w.fixed ++ fixed_by c fs)) s j (inbox w.medium s) (g.whole.later s)
         (g.whole.out s)
     system-now s j v =
@@ -187,12 +184,10 @@ module _ (deck : Deck) (w : World) (g : IsChanging deck w) (c : SysId) (n : Node
         → IsSystem deck w.medium.words T' u z (inbox w.medium u) (g.whole.later u) (g.whole.out u))
         (λ l. own) (λ u z ne f l. others u z ne (at_site f l)) s j v.at v.live)
 
-    hands-now : (m : ℕ) (j : NodeState) (p : StarPart)
-        → IsThere (set g.view c.0 (viewed deck n' (g.due c.0))) w.medium.removed m j
+    hands-now : (m : ℕ) (j : NodeState) (p : StarPart) → IsThere (set g.view c.0 k') w.medium.removed m j
         → j.star ≡ Some p
-        → Hands deck w.medium.words
-        (λ s. lives (length (set g.view c.0 (viewed deck n' (g.due c.0)))) w.medium.removed s) g.whole.later g.whole.out
-        m (in_hands p (inbox w.medium m))
+        → Hands deck w.medium.words (λ s. lives (length (set g.view c.0 k')) w.medium.removed s) g.whole.later
+        g.whole.out m (in_hands p (inbox w.medium m))
     hands-now m j p v star =
         subst (λ (count : ℕ).
         Hands deck w.medium.words (λ s. lives count w.medium.removed s) g.whole.later g.whole.out m
@@ -235,14 +230,13 @@ module _ (deck : Deck) (w : World) (g : IsChanging deck w) (c : SysId) (n : Node
         }) refl empty)
 
   -- what comes is what came
-  coming-now : (t : TaskId) → is_home_at deck c.0 t ≡ true
-      → Coming t (blank false) (items w.fixed) (news_of (inbox w.medium c.0))
+  coming-now : (t : TaskId) → is_home_at deck c.0 t ≡ true → Coming t (blank false) T (news_of (inbox w.medium c.0))
   coming-now t home =
       subst (λ xs. Coming t (blank (is_late t xs)) T (news_of (inbox w.medium c.0))) late-none (sys.coming t home)
 
   -- the system becomes n', and fixes nothing
-  same-moved : (n' : NodeState) (flags : ℕ) → Waits deck c.0 (items w.fixed) (g.before c.0) (g.due c.0) g.since n'
-      → (fs : List Fixed) → fs ≡ []
+  same-moved : (n' : NodeState) (flags : ℕ) → Waits deck c.0 T (g.before c.0) (g.due c.0) g.since n' → (fs : List Fixed)
+      → fs ≡ []
       → IsChanging deck
       (placed w c n (record { medium = record w.medium { rest = flags }; step = record { node = n'; fixed = fs } }))
   same-moved n' flags waits fs none =
@@ -319,7 +313,7 @@ module _ (deck : Deck) (w : World) (g : IsChanging deck w) (c : SysId) (n : Node
       kept = stays-task deck.limit n t (lines_of deck t)
 
       by_step :
-          QuietStep deck c.0 c (items w.fixed) (g.before c.0) (g.due c.0 ++ g.since) (own_requests c.0 (g.due c.0)) n
+          QuietStep deck c.0 c T (g.before c.0) (g.due c.0 ++ g.since) (own_requests c.0 (g.due c.0)) n
           (task_step deck.limit n t (lines_of deck t))
           → IsMoved deck w c n (record { medium = w.medium; step = task_step deck.limit n t (lines_of deck t) })
       by_step (keeps none seen told) = record {
@@ -432,15 +426,15 @@ module _ (deck : Deck) (w : World) (g : IsChanging deck w) (c : SysId) (n : Node
 
     -- the others are shown as they were
     stays-shown : (u : ℕ) (j x : NodeState) → u ≢ c.0
-        → Shown deck u (items w.fixed) (g.before u) (g.due u) g.since (g.whole.out u) j x →
-        Shown deck u (items (w.fixed ++ fixed_by c [])) (put_at g.before c.0 g.log u) (put_at g.due c.0 [] u) g.since
+        → Shown deck u T (g.before u) (g.due u) g.since (g.whole.out u) j x
+        → Shown deck u (items (w.fixed ++ fixed_by c [])) (put_at g.before c.0 g.log u) (put_at g.due c.0 [] u) g.since
         (still.0.out u) j x
     stays-shown u j x ne old =
         put_both g.before g.due c.0 u g.log []
         (λ b d. Shown deck u (items (w.fixed ++ fixed_by c [])) b d g.since (still.0.out u) j x) (λ e. absurd (ne e))
         (λ z. go j x old)
       where
-        go : (j x : NodeState) → Shown deck u (items w.fixed) (g.before u) (g.due u) g.since (g.whole.out u) j x
+        go : (j x : NodeState) → Shown deck u T (g.before u) (g.due u) g.since (g.whole.out u) j x
             → Shown deck u (items (w.fixed ++ fixed_by c [])) (g.before u) (g.due u) g.since (still.0.out u) j x
         go j x (has_changed none) = has_changed none
         go j x (waits_yet y z shows none) = waits_yet y (record {

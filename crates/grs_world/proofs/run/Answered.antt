@@ -6,11 +6,11 @@ use Rattle.grs_world.proofs.Common.{list_any, map, no_truth, or_other, or_parts,
 use Rattle.grs_world.proofs.Common.{same_task, same_task-exact, same_task-itself, stamped, subst, suc, sym, SysId, take}
 use Rattle.grs_world.proofs.Common.{TaskId, ToldBy, ToldLine, true, without, ℕ, ℕ_discrete}
 use Rattle.std.specs.Prelude.{not}
-use Rattle.std.proofs.lemmas.List.{take-append-drop}
+use Rattle.grs_known.proofs.system.Says.{Clears}
 use Rattle.grs_wire.specs.Masks.{only}
+use Rattle.std.proofs.lemmas.List.{take-append-drop}
 use Rattle.grs_world.specs.Laps.{OnlyLeft, LeftHome, answers}
 use Rattle.grs_known.proofs.lists.Facts.{all-more, list_any-push}
-use Rattle.grs_known.proofs.system.Says.{Clears}
 use Rattle.grs_wire.specs.declared.told.ToldLine.TheVariants as lines
 use Rattle.grs_known.proofs.system.Says as says
 

@@ -13,9 +13,9 @@ use Rattle.grs_world.proofs.Common.{task_step, TaskId, to_tell, true, turned_clo
 use Rattle.grs_world.proofs.Common.{with_interest, with_mail, with_phase, with_star, without_first, without_in_star}
 use Rattle.grs_world.proofs.Common.{without_system, word_at, ℕ}
 use Rattle.std.specs.Prelude.{◌≢◌}
-use Rattle.grs_medium.specs.Apply.{is_live}
-use Rattle.grs_node.specs.Node.{changed as changed_now}
 use Rattle.grs_node.specs.Star.{may_leave, settled_first, told_by}
+use Rattle.grs_node.specs.Node.{changed as changed_now}
+use Rattle.grs_medium.specs.Apply.{is_live}
 use Rattle.grs_wire.specs.declared.deck.Choice.TheVariants as choices
 use Rattle.grs_wire.specs.declared.deck.Order.TheVariants as orders
 use Rattle.grs_wire.specs.declared.medium.Mail.TheVariants as mails

@@ -6,12 +6,12 @@ use Rattle.grs_world.proofs.Common.{next_order, no_truth, NodeState, None, not, 
 use Rattle.grs_world.proofs.Common.{OrdersFit, placed, prepare, refl, removes, Reply, reply_by, reply_of, reply_to, run}
 use Rattle.grs_world.proofs.Common.{same_Some, slice_get, slice_get_within, Some, subst, sym, SysId, systems_of, true}
 use Rattle.grs_world.proofs.Common.{World, ℕ}
+use Rattle.grs_world.specs.Removing.{AnswersHaveCauses, call_of}
+use Rattle.grs_node.specs.Node.{purge_call}
 use Rattle.grs_medium.specs.Apply.{is_live as is_live_at}
 use Rattle.grs_medium.specs.Causes.{is_heard, is_removed, is_uninformed, purges_nobody}
 use Rattle.grs_medium.proofs.CauseLaws.{no_such_comes, removed_comes, stale_comes}
-use Rattle.grs_node.specs.Node.{purge_call}
 use Rattle.grs_wire.specs.declared.medium.Call.{Call as MediumCall}
-use Rattle.grs_world.specs.Removing.{AnswersHaveCauses, call_of}
 use Rattle.grs_world.proofs.run.Laps.{goes_on}
 use Rattle.grs_world.proofs.run.Purging.{target-fits}
 use Rattle.grs_world.proofs.run.Removals.{removed_in_history}

@@ -17,18 +17,18 @@ use Rattle.grs_world.proofs.Common.{to_tell, true, true≢false, turn_reply, tur
 use Rattle.grs_world.proofs.Common.{Turnout, unseen, with_mail, with_star, without, without_first, without_in_star}
 use Rattle.grs_world.proofs.Common.{without_system, without_target, word_at, World, ℕ}
 use Rattle.std.specs.Prelude.{not, ◌&&◌}
-use Rattle.std.proofs.lemmas.List.{set-get_or}
-use Rattle.grs_medium.specs.Apply.{is_live, is_noticed, joined, notice_reply, resting, submit_on, switch_ring}
-use Rattle.grs_medium.specs.Apply.{take_from}
-use Rattle.grs_medium.specs.Medium.{all_rest}
-use Rattle.grs_node.proofs.InRing.{closed-turned, open-turned}
-use Rattle.grs_node.specs.Node.{purge_call, star_need, star_step, switch_call, turn_call, turned as node_turned}
 use Rattle.grs_node.specs.Star.{begin_at, entry_asked, may_leave, send_of, send_to, sent_to, settle_by, settled_by}
 use Rattle.grs_node.specs.Star.{tell_by, told_by, part_by}
+use Rattle.grs_medium.specs.Medium.{all_rest}
+use Rattle.grs_node.specs.Node.{purge_call, star_need, star_step, switch_call, turn_call, turned as node_turned}
+use Rattle.grs_wire.specs.LockWords.{epoch, is_kept}
+use Rattle.grs_medium.specs.Apply.{is_live, is_noticed, joined, notice_reply, resting, submit_on, switch_ring}
+use Rattle.grs_medium.specs.Apply.{take_from}
+use Rattle.lock_structure.specs.Words.{route_by}
+use Rattle.std.proofs.lemmas.List.{set-get_or}
+use Rattle.grs_node.proofs.InRing.{closed-turned, open-turned}
 use Rattle.grs_node.specs.declared.star.Need.{Need}
 use Rattle.grs_node.specs.declared.star.Need.TheVariants.{Asks, Idle}
-use Rattle.grs_wire.specs.LockWords.{epoch, is_kept}
-use Rattle.lock_structure.specs.Words.{route_by}
 use Rattle.grs_world.specs.Running.{is_live as is_live_in}
 use Rattle.grs_world.proofs.run.Each.{each_heard, each_live}
 use Rattle.grs_world.proofs.run.Came.{Acts, Came, ChoiceRemovesNone, IsToSend, Result, acted, already, began, by_itself}

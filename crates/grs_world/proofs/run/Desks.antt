@@ -8,13 +8,13 @@ use Rattle.grs_world.proofs.Common.{or-false, or_left, or_right, Order, OrdersFi
 use Rattle.grs_world.proofs.Common.{slice_get, Some, subst, sym, SysId, Told, told_by, told_in, ToldLine, ToldNews}
 use Rattle.grs_world.proofs.Common.{true, Turnout, World, ℕ}
 use Rattle.std.specs.Prelude.{◌&&◌}
-use Rattle.std.proofs.Math.Bool.{or-true}
-use Rattle.grs_world.proofs.run.Runs.{AllBy, GoodTold, Tells, at_desk, by_node, to_tasks}
 use Rattle.grs_world.specs.Agree.{DeskAgrees, HasCause, purges, is_desk_before, order_in, order_of, tells_star}
 use Rattle.grs_world.specs.Agree.{was_star}
+use Rattle.grs_node.specs.Node.{desk_of}
+use Rattle.std.proofs.Math.Bool.{or-true}
+use Rattle.grs_world.proofs.run.Runs.{AllBy, GoodTold, Tells, at_desk, by_node, to_tasks}
 use Rattle.grs_world.specs.Passed.{is_desk_line}
 use Rattle.grs_wire.specs.declared.deck.Desk.{Desk as DeskLine}
-use Rattle.grs_node.specs.Node.{desk_of}
 use Rattle.grs_wire.specs.declared.told.Said.TheVariants as saids
 use Rattle.grs_wire.specs.declared.deck.Order.TheVariants as orders
 use Rattle.grs_wire.specs.declared.told.ToldLine.TheVariants as lines
@@ -217,9 +217,9 @@ module _ (deck : Deck) (w : World) (d : GoodDesks deck w) (c : SysId) (n : NodeS
 
   -- it tells these lines
   desks-behind : (ls : List ToldLine) → o.step.node.tasks.told ≡ n.tasks.told ++ ls
-      → ((w.medium.star && not deck.star) || list_any tells_star ls) ≡ (o.medium.star && not deck.star) →
-      list_all (is_desk_told c.0 (o.step.node.done + 1)) w.told ≡ true
-      → list_all (is_desk_told c.0 (o.step.node.done + 1)) (told_by (w.events + 1) c ls) ≡ true
+      → ((w.medium.star && not deck.star) || list_any tells_star ls) ≡ (o.medium.star && not deck.star)
+      → list_all (is_desk_told c.0 (o.step.node.done + 1)) w.told ≡ true
+      → list_all (is_desk_told c.0 (o.step.node.done + 1)) (told_by e c ls) ≡ true
       → ((k : ℕ) → 0 < k → k ≤ o.step.node.done → (k ≤ n.done) ⊎ (list_any (is_desk_line k) ls ≡ true))
       → GoodDesks deck (placed w c n o)
   unfolding placed
@@ -241,19 +241,19 @@ module _ (deck : Deck) (w : World) (d : GoodDesks deck w) (c : SysId) (n : NodeS
         (λ k low l. by_reach k low (reach k low l)) (λ u m ne there k low l. older u k (d.each u m there k low l));
   }
     where
-      told_is : w.told ++ told_by (w.events + 1) c (told_in n o.step) ≡ w.told ++ told_by (w.events + 1) c ls
+      told_is : w.told ++ told_by e c (told_in n o.step) ≡ w.told ++ told_by e c ls
       told_is =
           ap (λ xs. w.told ++ told_by e c xs) (ap (drop (length n.tasks.told)) now ∙ drop-append_seam n.tasks.told ls)
 
       older : (u k : ℕ) → list_any (is_told_at u k) w.told ≡ true
-          → list_any (is_told_at u k) (w.told ++ told_by (w.events + 1) c (told_in n o.step)) ≡ true
+          → list_any (is_told_at u k) (w.told ++ told_by e c (told_in n o.step)) ≡ true
       older u k h =
           ap (list_any (is_told_at u k)) told_is
           ∙ (list_any-append (is_told_at u k) w.told (told_by e c ls)
           ∙ or_left (list_any (is_told_at u k) w.told) (list_any (is_told_at u k) (told_by e c ls)) h)
 
       by_reach : (k : ℕ) → 0 < k → (k ≤ n.done) ⊎ (list_any (is_desk_line k) ls ≡ true)
-          → list_any (is_told_at c.0 k) (w.told ++ told_by (w.events + 1) c (told_in n o.step)) ≡ true
+          → list_any (is_told_at c.0 k) (w.told ++ told_by e c (told_in n o.step)) ≡ true
       by_reach k low (inl l) = older c.0 k (d.each c.0 n at k low l)
       by_reach k low (inr h) =
           ap (list_any (is_told_at c.0 k)) told_is
@@ -261,18 +261,15 @@ module _ (deck : Deck) (w : World) (d : GoodDesks deck w) (c : SysId) (n : NodeS
           ∙ or_right (list_any (is_told_at c.0 k) w.told) (list_any (is_told_at c.0 k) (told_by e c ls))
           (told-at e c k ls h))
 
-      all : (u k : ℕ) → list_all (is_desk_told u k) w.told ≡ true
-          → list_all (is_desk_told u k) (told_by (w.events + 1) c ls) ≡ true
-          → list_all (is_desk_told u k) (w.told ++ told_by (w.events + 1) c (told_in n o.step)) ≡ true
+      all : (u k : ℕ) → list_all (is_desk_told u k) w.told ≡ true → list_all (is_desk_told u k) (told_by e c ls) ≡ true
+          → list_all (is_desk_told u k) (w.told ++ told_by e c (told_in n o.step)) ≡ true
       all u k a b =
           ap (list_all (is_desk_told u k)) told_is
           ∙ (list_all-append (is_desk_told u k) w.told (told_by e c ls)
           ∙ and_from (list_all (is_desk_told u k) w.told) (list_all (is_desk_told u k) (told_by e c ls)) a b)
 
   one-desk : (said : Said) → o.step.node.done ≡ n.done + 1
-      → list_all (is_desk_told c.0 (o.step.node.done + 1))
-      (told_by (w.events + 1) c (lines.Desk (n.done + 1) said ∷ []))
-      ≡ true
+      → list_all (is_desk_told c.0 (o.step.node.done + 1)) (told_by e c (lines.Desk (n.done + 1) said ∷ [])) ≡ true
   one-desk said done =
       and_from (not (c.0 == c.0) || nat_lt (n.done + 1) (o.step.node.done + 1)) true
       (or_right (not (c.0 == c.0)) (nat_lt (n.done + 1) (o.step.node.done + 1))

@@ -11,8 +11,8 @@ use Rattle.grs_world.proofs.Common.{state_of, Step, sym, SysId, take, take-none,
 use Rattle.grs_world.proofs.Common.{TaskId, TasksView, took_mail, true, Turnout, unseen, Want, with_line, with_phase}
 use Rattle.grs_world.proofs.Common.{with_tasks, World, ℕ}
 use Rattle.std.specs.Prelude.{◌+◌, ◌++◌, length}
-use Rattle.grs_node.proofs.ReplyFits.{by-reply}
 use Rattle.grs_wire.specs.declared.request.Fixed.TheVariants.{Asked}
+use Rattle.grs_node.proofs.ReplyFits.{by-reply}
 use Rattle.task_state.proofs.ViewLaws.{state_of-same}
 use Rattle.grs_world.specs.Fixing.{EventFixes, acting, asks_for, at_once, fixed_alone, fixed_at_end, fixed_by_event}
 use Rattle.grs_world.specs.Fixing.{fixed_by_line, fixed_by_reply, fixed_by_task, fixed_in_phase, fixed_more}

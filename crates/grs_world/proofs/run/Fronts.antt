@@ -7,14 +7,14 @@ use Rattle.grs_world.proofs.Common.{may_be_star, nat_lt, NodeState, None, NoneIn
 use Rattle.grs_world.proofs.Common.{replay, RingEntry, rounds, run, RunItem, slice_get, Some, StarPart, State, subst}
 use Rattle.grs_world.proofs.Common.{suc, sym, SysId, table-is, take, true, unseen, unwrap_or, World, zero, ℕ}
 use Rattle.std.proofs.Common.{ne_eqb}
-use Rattle.std.proofs.Math.Seq.{take-append_seam}
 use Rattle.grs_wire.specs.History.{answered}
+use Rattle.rsa_message.proofs.Stands.{waits_live, first_number-seen}
 use Rattle.grs_known.specs.Items.{AllCount}
-use Rattle.grs_known.specs.Parts.{systems_part}
 use Rattle.grs_known.proofs.known.Histories.{count-front}
 use Rattle.grs_known.proofs.known.ItemLaws.{lists_are_replayed}
+use Rattle.std.proofs.Math.Seq.{take-append_seam}
+use Rattle.grs_known.specs.Parts.{systems_part}
 use Rattle.grs_world.specs.Tables.{before_number, processed, TablesAreFronts}
-use Rattle.rsa_message.proofs.Stands.{waits_live, first_number-seen}
 use Rattle.grs_world.proofs.run.Growing.{fixeds}
 use Rattle.grs_world.proofs.run.InRing.{live-is}
 use Rattle.grs_world.proofs.run.Messages.{length-fixeds, given-due}

@@ -11,22 +11,22 @@ use Rattle.grs_world.proofs.Common.{Request, rest_row, RingEntry, route, row, ru
 use Rattle.grs_world.proofs.Common.{submit_row, subst, switch_row, sym, SysId, take_row, true, turn_reply, turn_row}
 use Rattle.grs_world.proofs.Common.{turned, turned_closed, turned_open, Turnout, unseen, WaitsForLive, with_also}
 use Rattle.grs_world.proofs.Common.{without_system, without_target, World, ℕ}
-use Rattle.std.specs.Prelude.{◌≢◌, take}
+use Rattle.grs_medium.specs.Medium.{all_rest, word}
 use Rattle.grs_wire.specs.Masks.{others}
+use Rattle.grs_wire.specs.LockWords.{is_kept}
+use Rattle.grs_medium.specs.Apply.{resting, is_live, is_noticed, manages, notice_reply, submit_on, switch_ring}
+use Rattle.grs_medium.specs.Apply.{take_from}
+use Rattle.std.specs.Prelude.{◌≢◌, take}
 use Rattle.grs_wire.specs.declared.medium.Act.TheVariants.{Turn, Rest, Switch, Submit, Take, Settle, Tell, Leave, Purge}
 use Rattle.grs_wire.specs.declared.medium.Reply.TheVariants.{Turned, NotYours, Resting, Over, Already, Kept, Left}
 use Rattle.grs_wire.specs.declared.medium.Reply.TheVariants.{NoSuch, Purged, Yours, Old}
 use Rattle.rsa_message.proofs.OrderLaws.{stands_at-exact}
-use Rattle.grs_medium.specs.Medium.{all_rest, word}
-use Rattle.grs_medium.specs.Apply.{resting, is_live, is_noticed, manages, notice_reply, submit_on, switch_ring}
-use Rattle.grs_medium.specs.Apply.{take_from}
 use Rattle.grs_world.proofs.run.Each.{each_answer, each_run}
 use Rattle.grs_world.specs.Laps.{OnlyLeft, ComesBackLast, given_by, given_when, given_at, ProcessedLast}
 use Rattle.grs_world.proofs.message.LapsMessage.{Round, left_at_home, last_at_home, unseen_awaited, closed_round}
 use Rattle.grs_world.proofs.message.LapsMessage.{closed_turn, departed_round, dropped_round, none_unseen, open_round}
 use Rattle.grs_medium.proofs.GoesOn.{masks_of}
 use Rattle.grs_world.proofs.run.Waits.{run_waits}
-use Rattle.grs_wire.specs.LockWords.{is_kept}
 use Rattle.lock_structure.specs.declared.word.Route.{Route}
 use Rattle.grs_world.proofs.run.InRing.{CameInRing, IsRing, changed, each_in_ring, informed, is_ring, live-there}
 use Rattle.grs_world.proofs.run.InRing.{no_such, nothing, removes_one, star-stays, turn, went_on}

@@ -12,20 +12,20 @@ use Rattle.grs_world.proofs.Common.{RingBody, RingEntry, run, RunItem, Said, sam
 use Rattle.grs_world.proofs.Common.{same_task-itself, slice_get, slice_get_within, Some, stands_at, StarPart, Step}
 use Rattle.grs_world.proofs.Common.{subst, sym, SysId, take, TaskId, Told, told, told_by, ToldBy, ToldLine, ToldNews}
 use Rattle.grs_world.proofs.Common.{true, Turnout, unseen, World, ℕ}
+use Rattle.grs_known.proofs.system.Askers.{askers-append}
+use Rattle.rsa_message.proofs.Stands.{body_of}
 use Rattle.grs_wire.specs.declared.request.Fixed.TheVariants.{Asked}
+use Rattle.grs_known.proofs.told.News.{told-fewer}
 use Rattle.rsa_message.proofs.OrderLaws.{stands_at-exact}
 use Rattle.grs_world.specs.Laps.{LeftHome, answers, AnsweredLast}
 use Rattle.grs_world.proofs.message.LapsMessage.{EndsAtHome, AllEndAtHome, left_at_home}
-use Rattle.rsa_message.proofs.Stands.{body_of}
 use Rattle.grs_world.proofs.run.Answered.{Answered, answered-by, left_turned, left_behind}
 use Rattle.grs_world.proofs.run.Growing.{fixeds}
 use Rattle.grs_world.proofs.run.Laps.{goes}
 use Rattle.grs_world.proofs.run.Messages.{given-later}
-use Rattle.grs_known.proofs.told.News.{told-fewer}
 use Rattle.grs_world.proofs.run.Outcomes.{turn_told}
 use Rattle.grs_world.proofs.run.Runs.{GoodWorld}
 use Rattle.grs_world.proofs.run.Each.{run-push}
-use Rattle.grs_known.proofs.system.Askers.{askers-append}
 use Rattle.grs_world.proofs.system.AtNode.{QuietStep, keeps, fixes, Seen}
 use Rattle.grs_world.proofs.system.Quiet.{quiet}
 use Rattle.grs_world.proofs.run.Home.{IsHome, AllHome, all_home}

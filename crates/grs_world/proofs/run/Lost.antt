@@ -7,11 +7,11 @@ use Rattle.grs_world.proofs.Common.{PartRec, passes_wait, Phase, Rec, record_of,
 use Rattle.grs_world.proofs.Common.{standing, StarPart, state_of, suc, SysId, take_up, take_up_all, take_up_below}
 use Rattle.grs_world.proofs.Common.{TaskId, TasksView, tell_control, tell_each, tell_line, tell_untold, telling}
 use Rattle.grs_world.proofs.Common.{told-state, told-telling, ToldLine, with_phase, with_role, with_told, zero, ℕ}
+use Rattle.task_state.specs.Replies.{is_held}
+use Rattle.grs_node.specs.Removal.{installing, took_notice, took_part}
 use Rattle.contention_mgr.specs.Installs.{own_owners}
 use Rattle.contention_mgr.specs.Loses.{gained}
-use Rattle.grs_node.specs.Removal.{installing, took_notice, took_part}
 use Rattle.system_purge.specs.Gathers.{is_complete, with_part_at}
-use Rattle.task_state.specs.Replies.{is_held}
 use Rattle.grs_wire.specs.declared.told.ToldLine.TheVariants as lines
 use Rattle.grs_wire.specs.declared.told.Verb.TheVariants as verbs
 use Rattle.task_state.specs.declared.state.Phase.TheVariants as phases

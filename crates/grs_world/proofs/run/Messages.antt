@@ -5,10 +5,10 @@ use Rattle.grs_world.proofs.Common.{Fixed, has, length, length-append, List, liv
 use Rattle.grs_world.proofs.Common.{Message, Purged, put_at, put_here, put_other, refl, Remove, Req, RingEntry, rounds}
 use Rattle.grs_world.proofs.Common.{RunItem, stamped, subst, suc, sym, SysId, true, turned_open, unseen, ℕ}
 use Rattle.std.proofs.Common.{eqb, leb}
-use Rattle.grs_wire.specs.declared.request.Fixed.TheVariants.{Asked}
-use Rattle.grs_world.proofs.run.Runs.{GoodMessage, seen_at, message_log}
 use Rattle.rsa_message.proofs.Stands.{Stands, none, gone, kept, Stands-cleared, Stands-append, Stands-stamped}
 use Rattle.rsa_message.proofs.Stands.{unseen-drop, waits_for, waits_new, waits_seen, waits_live}
+use Rattle.grs_wire.specs.declared.request.Fixed.TheVariants.{Asked}
+use Rattle.grs_world.proofs.run.Runs.{GoodMessage, seen_at, message_log}
 use Rattle.grs_world.proofs.run.Growing.{fixeds}
 
 Stands-same : (U V : ℕ → ℕ → Bool) → ((j s : ℕ) → U j s ≡ V j s) → {k : ℕ} {qs : List Fixed} {es : List RingEntry}

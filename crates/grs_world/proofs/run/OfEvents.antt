@@ -4,8 +4,8 @@ use Rattle.grs_world.proofs.Common.{counted, Deck, eq-eqb, Event, first_world, h
 use Rattle.grs_world.proofs.Common.{list_all, list_all-append, lt-ltb, nat_lt, NodeState, None, Option, placed, refl}
 use Rattle.grs_world.proofs.Common.{run, slice_get, Some, subst, sym, Told, told_by, told_in, ToldLine, true, Turnout}
 use Rattle.grs_world.proofs.Common.{World, ℕ}
-use Rattle.grs_world.specs.Agree.{is_event_of, is_of_event}
 use Rattle.grs_known.proofs.lists.Facts.{slice_get-append, slice_get-end}
+use Rattle.grs_world.specs.Agree.{is_event_of, is_of_event}
 use Rattle.grs_world.proofs.run.Each.{each_event, each_run}
 
 -- A line of an event is one of it behind further events too.

@@ -24,13 +24,13 @@ use Rattle.grs_world.proofs.Common.{with_first_look, with_line, with_list_ranks,
 use Rattle.grs_world.proofs.Common.{with_rank, with_rank_by, with_rank_of, with_ranks, with_record, with_rows}
 use Rattle.grs_world.proofs.Common.{with_side, with_state, with_tasks, with_told, without_record, without_rows}
 use Rattle.grs_world.proofs.Common.{without_those, zero, ℕ}
+use Rattle.task_state.specs.Replies.{is_changed, is_held, is_queued, new_record, phase_after}
 use Rattle.grs_node.specs.Node.{changed as changed_now}
+use Rattle.ring_mode.specs.Ring.{is_asked}
 use Rattle.grs_wire.specs.declared.medium.Mail.TheVariants.{Request as RequestMail, Answered as AnsweredMail}
 use Rattle.grs_wire.specs.declared.request.Answer.TheVariants.{Coded}
 use Rattle.grs_wire.specs.declared.told.Verb.{Verb}
-use Rattle.ring_mode.specs.Ring.{is_asked}
 use Rattle.task_state.proofs.Stays.{system-state, system-telling}
-use Rattle.task_state.specs.Replies.{is_changed, is_held, is_queued, new_record, phase_after}
 use Rattle.grs_known.proofs.lists.Facts.{all-more}
 use Rattle.grs_world.proofs.run.Came.{Acts, Came, Result, acted, already, began, changed, decided, informed, last_turn}
 use Rattle.grs_world.proofs.run.Came.{left, no_such, parted, removes_one, removes_star, sent, settled, took, turn}

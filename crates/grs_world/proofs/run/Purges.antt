@@ -7,8 +7,8 @@ use Rattle.grs_world.proofs.Common.{purged, put_in, read_entries, Rec, refl, Req
 use Rattle.grs_world.proofs.Common.{StarPart, state_of, subst, sym, SysId, take, TaskId, true, Turnout, unseen, Want}
 use Rattle.grs_world.proofs.Common.{without_in_star, without_system, without_target, ℕ}
 use Rattle.std.proofs.Common.{is_some}
-use Rattle.grs_medium.specs.Apply.{is_live}
 use Rattle.grs_wire.specs.declared.request.Fixed.TheVariants.{Asked}
+use Rattle.grs_medium.specs.Apply.{is_live}
 use Rattle.grs_world.specs.Agree.{is_purge}
 use Rattle.grs_world.proofs.run.Came.{Acts, Came, acted, acts-keep, already, began, changed, decided, informed}
 use Rattle.grs_world.proofs.run.Came.{last_turn, left, no_such, parted, removes_one, removes_star, sent, settled, told}

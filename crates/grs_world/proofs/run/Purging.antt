@@ -9,14 +9,14 @@ use Rattle.grs_world.proofs.Common.{None, not, not-true, only, Option, option_ma
 use Rattle.grs_world.proofs.Common.{Purged, refl, removes, rounds, run, RunItem, Said, same_Some, slice_get, Some}
 use Rattle.grs_world.proofs.Common.{subst, sym, SysId, SystemDef, systems_of, true, Turnout, with_also, without_system}
 use Rattle.grs_world.proofs.Common.{World, ℕ}
+use Rattle.grs_node.specs.Node.{desk_of}
+use Rattle.grs_known.proofs.known.Histories.{MayPurge, follows-purge}
+use Rattle.grs_medium.specs.Apply.{is_live}
 use Rattle.std.proofs.lemmas.Map.Keys.{any_passes_from_place}
 use Rattle.grs_legal.specs.Legal.{MayRemove, commands_removal, is_removal_of}
-use Rattle.grs_medium.specs.Apply.{is_live}
 use Rattle.grs_node.proofs.Calls.{target-of}
 use Rattle.grs_node.proofs.StartFits.{orders-at}
-use Rattle.grs_node.specs.Node.{desk_of}
 use Rattle.grs_wire.specs.declared.deck.Desk.{Desk}
-use Rattle.grs_known.proofs.known.Histories.{MayPurge, follows-purge}
 use Rattle.grs_world.proofs.run.Growing.{fixeds, own_requests-append}
 use Rattle.grs_world.proofs.run.InRing.{removed_by, IsRing, live-there}
 use Rattle.grs_world.proofs.run.Messages.{message-removed}
@@ -71,10 +71,9 @@ module _ (deck : Deck) (es : List Event) (e : Event) (ring : IsRing deck (run de
   -- ---- a line of its desk
   pub desk_world : (said : Said)
       → GoodTold deck (es ++ e ∷ [])
-      (placed (run deck es) e.system n (record { medium = (run deck es).medium; step = only (desk_told n said) }))
-      →
-      GoodWorld deck (es ++ e ∷ [])
-      (placed (run deck es) e.system n (record { medium = (run deck es).medium; step = only (desk_told n said) }))
+      (placed w e.system n (record { medium = w.medium; step = only (desk_told n said) }))
+      → GoodWorld deck (es ++ e ∷ [])
+      (placed w e.system n (record { medium = w.medium; step = only (desk_told n said) }))
   unfolding placed
   desk_world said told = record {
     history = subst (IsHistory deck) (sym same) g.history;
@@ -93,12 +92,12 @@ module _ (deck : Deck) (es : List Event) (e : Event) (ring : IsRing deck (run de
         (λ u k ne there lives. now u k (g.systems u k there lives));
   }
     where
-      same : items ((run deck es).fixed ++ fixed_by e.system []) ≡ items (run deck es).fixed
+      same : items (w.fixed ++ fixed_by e.system []) ≡ items w.fixed
       same = ap items (append-nil (run deck es).fixed)
 
       now : (u : ℕ) (k : NodeState) → Seen deck u P (g.before u) (g.later u) (own_requests u (g.later u)) k
-          → Seen deck u (items ((run deck es).fixed ++ fixed_by e.system [])) (g.before u) (g.later u)
-          (own_requests u (g.later u)) k
+          → Seen deck u (items (w.fixed ++ fixed_by e.system [])) (g.before u) (g.later u) (own_requests u (g.later u))
+          k
       now u k h = subst (λ U. Seen deck u U (g.before u) (g.later u) (own_requests u (g.later u)) k) (sym same) h
 
   -- ---- a removal
@@ -114,11 +113,11 @@ module _ (deck : Deck) (es : List Event) (e : Event) (ring : IsRing deck (run de
     abbrev x : RunItem
     x = made_item e.system P (Purged target)
 
-    not_removed : has (run deck es).medium.removed target.0 ≡ false
+    not_removed : has w.medium.removed target.0 ≡ false
     not_removed =
         not-true _ (and_parts (nat_lt target.0 (systems_of w.medium)) (not (has w.medium.removed target.0)) there).1
 
-    in_history : (s : SysId) → has (run deck es).medium.removed s.0 ≡ false → list_any (removes s) (history P) ≡ false
+    in_history : (s : SysId) → has w.medium.removed s.0 ≡ false → list_any (removes s) (history P) ≡ false
     in_history s h = ap (list_any (removes s)) (items_are_history w.fixed).0 ∙ (sym (removed_in_history deck es s) ∙ h)
 
     home : n.tasks.system ≡ c.0
@@ -136,7 +135,7 @@ module _ (deck : Deck) (es : List Event) (e : Event) (ring : IsRing deck (run de
     removal : MayPurge deck P x
     removal = record { target = target; purged = refl; made = refl; stands = stands }
 
-    pub items-removed : items ((run deck es).fixed ++ fixed_by e.system (Purged target ∷ [])) ≡ P ++ x ∷ []
+    pub items-removed : items (w.fixed ++ fixed_by e.system (Purged target ∷ [])) ≡ P ++ x ∷ []
     items-removed = items-append w.fixed (fixed_by c (Purged target ∷ []))
 
     -- who is live then
@@ -153,7 +152,7 @@ module _ (deck : Deck) (es : List Event) (e : Event) (ring : IsRing deck (run de
         ∙ and_right (nat_lt target.0 (systems_of w.medium)) (not (has (with_also w.medium.removed target.0) target.0))
         (ap not (has-with_same w.medium.removed target.0))
 
-    others_live : (u : ℕ) → u ≢ target.0 → has (live m') u ≡ has (live (run deck es).medium) u
+    others_live : (u : ℕ) → u ≢ target.0 → has (live m') u ≡ has (live w.medium) u
     others_live u ne =
         live_is u
         ∙ (ap (λ b. nat_lt u (systems_of w.medium) && not b) (has-with_other w.medium.removed target.0 u ne)
@@ -171,7 +170,7 @@ module _ (deck : Deck) (es : List Event) (e : Event) (ring : IsRing deck (run de
 
     seen_on : (u : ℕ) (k : NodeState) → has (live m') u ≡ true
         → Seen deck u P (g.before u) (g.later u) (own_requests u (g.later u)) k
-        → Seen deck u (items ((run deck es).fixed ++ fixed_by e.system (Purged target ∷ []))) (g.before u) (later_now u)
+        → Seen deck u (items (w.fixed ++ fixed_by e.system (Purged target ∷ []))) (g.before u) (later_now u)
         (own_requests u (later_now u)) k
     seen_on u k h seen =
         subst (λ U. Seen deck u U (g.before u) (later_now u) (own_requests u (later_now u)) k) (sym items-removed)
@@ -179,8 +178,8 @@ module _ (deck : Deck) (es : List Event) (e : Event) (ring : IsRing deck (run de
         (seen-removal deck u P (g.before u) (g.later u) (own_requests u (g.later u)) k x target refl
         (λ same. apart_from u h (sym same)) seen))
 
-    pub removed_world : GoodTold deck (es ++ e ∷ []) (placed (run deck es) e.system n o)
-        → GoodWorld deck (es ++ e ∷ []) (placed (run deck es) e.system n o)
+    pub removed_world : GoodTold deck (es ++ e ∷ []) (placed w e.system n o)
+        → GoodWorld deck (es ++ e ∷ []) (placed w e.system n o)
     unfolding placed removed_by dropped
     removed_world told = record {
       history = subst (IsHistory deck) (sym items-removed) (follows-purge deck P x g.history removal);

@@ -6,10 +6,10 @@ use Rattle.grs_world.proofs.Common.{IsHistory, List, list_all, LocalLook, Look, 
 use Rattle.grs_world.proofs.Common.{own_requests, process, process_entry, Purged, read_entries, read_entry, refl}
 use Rattle.grs_world.proofs.Common.{Release, Req, Request, res_wanted, RingBody, RingEntry, rounds, RunItem, Some}
 use Rattle.grs_world.proofs.Common.{subst, sym, SysId, ToldBy, true, Want, wants_round, with_side, ℕ}
-use Rattle.grs_node.specs.Node.{process_removal}
-use Rattle.grs_wire.specs.declared.request.Fixed.TheVariants.{Asked}
-use Rattle.ring_mode.specs.Ring.{Side}
 use Rattle.rsa_message.proofs.Stands.{none, more, body_of}
+use Rattle.grs_wire.specs.declared.request.Fixed.TheVariants.{Asked}
+use Rattle.grs_node.specs.Node.{process_removal}
+use Rattle.ring_mode.specs.Ring.{Side}
 use Rattle.grs_world.proofs.run.Growing.{fixeds, asks-rounds}
 use Rattle.grs_known.proofs.told.News.{told-then, told-fewer}
 use Rattle.grs_known.proofs.system.Askers.{among-back}

@@ -9,9 +9,9 @@ use Rattle.grs_world.proofs.Common.{no_truth, NodeState, None, not, Option, or-f
 use Rattle.grs_world.proofs.Common.{purged, refl, removes, run, run_from, same_Some, slice_get, Some, State, subst, suc}
 use Rattle.grs_world.proofs.Common.{sym, SysId, take, take-append-drop, Told, told_by, told_in, ToldLine, true, Turnout}
 use Rattle.grs_world.proofs.Common.{with_also, without_in_star, without_system, without_target, World, zero, ℕ}
-use Rattle.grs_medium.specs.Apply.{is_live}
 use Rattle.grs_wire.specs.History.{answered_from, answered}
 use Rattle.grs_wire.specs.declared.request.Fixed.TheVariants.{Asked}
+use Rattle.grs_medium.specs.Apply.{is_live}
 use Rattle.grs_known.proofs.known.Histories.{ask-keeps}
 use Rattle.grs_world.specs.Agree.{is_purge, purges, is_removal, is_vary, order_of, fixed_in, RemovalsTold}
 use Rattle.grs_world.specs.Removing.{RemovedAreInHistory}

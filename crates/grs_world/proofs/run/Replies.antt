@@ -5,13 +5,13 @@ use Rattle.grs_world.proofs.Common.{items, items-append, items_are_history, item
 use Rattle.grs_world.proofs.Common.{nat_lt, ne_eqb, NodeState, None, not, not-true, Nothing, Option, owns, prepare}
 use Rattle.grs_world.proofs.Common.{Prepared, Purged, Quiet, refl, remove_state, replay, reply_by, reply_to, run}
 use Rattle.grs_world.proofs.Common.{same_Some, slice_get, Some, State, sym, SysId, true, World}
+use Rattle.grs_world.specs.Removing.{IsAnswered, OthersStay, RemovalsAreEntries, RemovalsKeepOthers}
 use Rattle.grs_base.specs.State.{is_of_other}
 use Rattle.grs_wire.specs.History.{answered}
 use Rattle.grs_wire.specs.declared.history.HistEntry.TheVariants.{Remove}
 use Rattle.grs_wire.proofs.HistoryLaws.{replay_from-append}
 use Rattle.grs_wire.proofs.RemoveLaws.{by_systems, list_of-remove, list_of-remove_other, owns-remove}
 use Rattle.grs_known.proofs.known.Pasts.{history-append}
-use Rattle.grs_world.specs.Removing.{IsAnswered, OthersStay, RemovalsAreEntries, RemovalsKeepOthers}
 use Rattle.grs_world.specs.Fixing.{fixed_by_event, fixed_by_reply, fixed_more, when_purged}
 use Rattle.grs_world.proofs.run.Fixing.{event_fixes}
 use Rattle.grs_wire.specs.declared.medium.Reply.TheVariants as replies

@@ -10,18 +10,18 @@ use Rattle.grs_world.proofs.Common.{slice_get-set_other, Some, Step, subst, suc,
 use Rattle.grs_world.proofs.Common.{told_by, ToldLine, ToldNews, true, Turnout, World, ℕ}
 use Rattle.std.proofs.Common.{eqb}
 use Rattle.std.proofs.Math.Seq.{take-append_seam, take-length}
+use Rattle.grs_known.proofs.system.Says.{AgreesBehind}
+use Rattle.grs_world.specs.Agree.{Agrees, AgreesBy, AllAgree, moment, DeskAgrees}
 use Rattle.std.proofs.lemmas.List.{take-append-le}
+use Rattle.grs_known.proofs.told.News.{LinesAgree}
 use Rattle.grs_wire.specs.History.{answered}
 use Rattle.grs_known.proofs.lists.Placed.{put_each}
-use Rattle.grs_world.specs.Agree.{Agrees, AgreesBy, AllAgree, moment, DeskAgrees}
 use Rattle.rsa_message.proofs.Stands.{Stands, waits_for}
 use Rattle.grs_world.proofs.run.Growing.{fixeds, grows-items, grows-history, grows-rounds, grows-seen, grows-requests}
 use Rattle.grs_world.proofs.run.Growing.{own_requests-append}
-use Rattle.grs_known.proofs.told.News.{LinesAgree}
 use Rattle.grs_world.proofs.run.Outcomes.{Outcome}
 use Rattle.grs_world.proofs.run.Each.{run-push}
 use Rattle.grs_world.proofs.system.AtNode.{Seen}
-use Rattle.grs_known.proofs.system.Says.{AgreesBehind}
 use Rattle.grs_wire.specs.declared.told.ToldLine.TheVariants as lines
 
 -- ---- what was told
@@ -205,7 +205,7 @@ module _ (deck : Deck) (es : List Event) (e : Event) (n : NodeState)
   told_world = run deck es
 
   -- the number of the event
-  told_number : (run deck es).events + 1 ≡ length (es ++ e ∷ [])
+  told_number : told_world.events + 1 ≡ length (es ++ e ∷ [])
   told_number = ap (λ k. k + 1) g.counted ∙ sym (length-append es (e ∷ []))
 
   told_history : hist deck (es ++ e ∷ []) ≡ history T
@@ -217,10 +217,9 @@ module _ (deck : Deck) (es : List Event) (e : Event) (n : NodeState)
 
   -- it tells these lines, each of which agrees, and none is of another system's task
   told-behind : (ls : List ToldLine) → o.step.node.tasks.told ≡ n.tasks.told ++ ls
-      → ((u : ℕ) → u ≢ e.system.0 → filter (is_line_of u) ls ≡ []) →
-      (OrdersFit deck
-      → AllAgree deck (es ++ e ∷ []) (run deck es).told (told_by ((run deck es).events + 1) e.system ls))
-      → GoodTold deck (es ++ e ∷ []) (placed (run deck es) e.system n o)
+      → ((u : ℕ) → u ≢ e.system.0 → filter (is_line_of u) ls ≡ [])
+      → (OrdersFit deck → AllAgree deck (es ++ e ∷ []) told_world.told (told_by (told_world.events + 1) e.system ls))
+      → GoodTold deck (es ++ e ∷ []) (placed told_world e.system n o)
   unfolding placed
   told-behind ls now apart agree =
       let w : World = run deck es in
@@ -268,8 +267,8 @@ module _ (deck : Deck) (es : List Event) (e : Event) (n : NodeState)
 
   -- the moment of the event
   told_moment :
-      IsMoment (run deck es) (history T) (fixed_by e.system o.step.fixed)
-      (moment deck (es ++ e ∷ []) ((run deck es).events + 1) (run deck es).told)
+      IsMoment told_world (history T) (fixed_by e.system o.step.fixed)
+      (moment deck (es ++ e ∷ []) (told_world.events + 1) told_world.told)
   unfolding placed
   told_moment =
       let us : List Event = es ++ e ∷ [] in
@@ -287,8 +286,8 @@ module _ (deck : Deck) (es : List Event) (e : Event) (n : NodeState)
       }
 
   -- What the system of an event tells agrees with the history after the event: so does all that was told.
-  pub told-after : Tells deck (run deck es) e.system (history T) o.step.fixed n.tasks.told o.step.node.tasks.told
-      → GoodTold deck (es ++ e ∷ []) (placed (run deck es) e.system n o)
+  pub told-after : Tells deck told_world e.system (history T) o.step.fixed n.tasks.told o.step.node.tasks.told
+      → GoodTold deck (es ++ e ∷ []) (placed told_world e.system n o)
   told-after (to_tasks news) = told-behind news.lines news.is (λ u ne. lines-apart e.system.0 u news.lines ne news.ours)
       (λ fit.
       agree-new deck (es ++ e ∷ []) (told_world.events + 1) e.system told_world.told news.lines told_number news.ours
@@ -319,7 +318,7 @@ module _ (deck : Deck) (es : List Event) (e : Event) (g : GoodWorld deck es (run
     unfolding placed
     items-now = grows-items w.fixed o.grows
 
-    told-now : happens deck (run deck es) e ≡ after → GoodTold deck (es ++ e ∷ []) after
+    told-now : happens deck w e ≡ after → GoodTold deck (es ++ e ∷ []) after
     told-now is =
         told-after deck es e n at g.told (record { medium = m; step = st }) o.items items-now is (to_tasks o.news)
 
@@ -335,8 +334,8 @@ module _ (deck : Deck) (es : List Event) (e : Event) (g : GoodWorld deck es (run
         (λ u ne.
         grows-rounds o.grows ∙ ap (λ zs. zs ++ o.new) (g.whole u) ∙ append_assoc (g.before u) (g.later u) o.new)
 
-    systems-now : live m ≡ live (run deck es).medium → (u : ℕ) (k : NodeState)
-        → slice_get (set (run deck es).nodes e.system.0 st.node) u ≡ Some k → has (live m) u ≡ true
+    systems-now : live m ≡ live w.medium → (u : ℕ) (k : NodeState)
+        → slice_get (set w.nodes e.system.0 st.node) u ≡ Some k → has (live m) u ≡ true
         → Seen deck u o.items (before_now u) (later_now u) (own_requests u (later_now u)) k
     systems-now alive =
         put_each g.before (λ u. g.later u ++ o.new) s before' later'
@@ -357,7 +356,7 @@ module _ (deck : Deck) (es : List Event) (e : Event) (g : GoodWorld deck es (run
         subst (λ zs. Seen deck u o.items (g.before u) (g.later u ++ o.new) zs k) requests
         (grows-seen u (g.before u) (g.later u) (own_requests u (g.later u)) k ne was o.grows))
 
-    pub push : happens deck (run deck es) e ≡ after → live m ≡ live (run deck es).medium
+    pub push : happens deck w e ≡ after → live m ≡ live w.medium
         → GoodMessage m (message_log P ++ out) (seen_at before_now) → GoodWorld deck (es ++ e ∷ []) after
     unfolding placed
     push is alive message = record {

@@ -8,11 +8,11 @@ use Rattle.grs_world.proofs.Common.{placed, Purged, put_at, put_in, read_entries
 use Rattle.grs_world.proofs.Common.{RunItem, Said, same_Some, slice_get, Some, stays-task, stays-turned, Step, subst}
 use Rattle.grs_world.proofs.Common.{suc, sym, SysId, SystemDef, take, task_step, TaskId, ToldNews, true, turned_open}
 use Rattle.grs_world.proofs.Common.{Turnout, unseen, World, zero, ℕ}
-use Rattle.grs_legal.specs.Legal.{Legal}
+use Rattle.rsa_message.proofs.Stands.{none}
 use Rattle.grs_wire.specs.declared.request.Fixed.TheVariants.{Asked}
+use Rattle.grs_legal.specs.Legal.{Legal}
 use Rattle.grs_known.proofs.lists.Facts.{take-taken}
 use Rattle.grs_world.specs.Agree.{Sound}
-use Rattle.rsa_message.proofs.Stands.{none}
 use Rattle.grs_world.proofs.run.Messages.{message-same, message-turned, given-later}
 use Rattle.grs_world.proofs.run.OfEvents.{told_of_events}
 use Rattle.grs_world.proofs.run.Outcomes.{Outcome, quiet_outcome, still_outcome, turn_outcome, puts}
@@ -63,7 +63,7 @@ module _ (deck : Deck) (es : List Event) (e : Event) (ring : IsRing deck (run de
   Good x = GoodWorld deck (es ++ e ∷ []) x
 
   -- an event that is only counted
-  pub good_counted : Good (counted (run deck es))
+  pub good_counted : Good (counted w)
   good_counted = record {
     history = g.history;
     told = told-counted deck es e w g.told;
@@ -83,7 +83,7 @@ module _ (deck : Deck) (es : List Event) (e : Event) (ring : IsRing deck (run de
     P = items (run deck es).fixed
 
     -- it is live
-    lives : has (live (run deck es).medium) e.system.0 ≡ true
+    lives : has (live w.medium) e.system.0 ≡ true
     lives = live-there deck w ring s n at alive
 
     seen :
@@ -97,8 +97,7 @@ module _ (deck : Deck) (es : List Event) (e : Event) (ring : IsRing deck (run de
         happens deck (run deck es) e ≡ placed (run deck es) e.system n o → Good (placed (run deck es) e.system n o)
 
     -- nothing was put into the message
-    quiet_push : (m : MediumState) (st : Step) → m.message ≡ (run deck es).medium.message
-        → live m ≡ live (run deck es).medium
+    quiet_push : (m : MediumState) (st : Step) → m.message ≡ w.medium.message → live m ≡ live w.medium
         → Outcome deck e.system P n (g.before e.system.0) (g.later e.system.0) [] st
         → Leads (record { medium = m; step = st })
     quiet_push m st same alive o is =
@@ -120,7 +119,7 @@ module _ (deck : Deck) (es : List Event) (e : Event) (ring : IsRing deck (run de
     task_done : (t : TaskId) → (task_step deck.limit n t (lines_of deck t)).node.done ≡ n.done
     task_done t = (stays-task deck.limit n t (lines_of deck t)).done
 
-    given : Bodies (fixeds (g.later e.system.0)) (unseen e.system (run deck es).medium.message.entries)
+    given : Bodies (fixeds (g.later e.system.0)) (unseen e.system w.medium.message.entries)
     given = given-later w.medium c g.before (g.later s) P (g.whole s) lives g.message
 
     abbrev puts_new : List RunItem
@@ -131,7 +130,7 @@ module _ (deck : Deck) (es : List Event) (e : Event) (ring : IsRing deck (run de
     turned_outcome :
         Outcome deck e.system P n (rounds P) puts_new
         (map Asked (take (length (take most_additions n.outbox)) n.outbox))
-        (put_in (read_entries deck n (unseen e.system (run deck es).medium.message.entries))
+        (put_in (read_entries deck n (unseen e.system w.medium.message.entries))
         (length (take most_additions n.outbox)))
     turned_outcome =
         turn_outcome deck c P (g.before s) (g.later s) g.history (g.whole s) n (length (take most_additions n.outbox))
@@ -165,8 +164,8 @@ module _ (deck : Deck) (es : List Event) (e : Event) (ring : IsRing deck (run de
         (seen-known deck s P (g.before s) (g.later s) (own_requests s (g.later s)) n known seen)
 
     -- whatever came of it, but the change to star mode
-    pub good_came : (o : Turnout) → CameInRing deck (run deck es) e.system n o → o.medium.star ≡ false
-        → GoodTold deck (es ++ e ∷ []) (placed (run deck es) e.system n o) → Leads o
+    pub good_came : (o : Turnout) → CameInRing deck w e.system n o → o.medium.star ≡ false
+        → GoodTold deck (es ++ e ∷ []) (placed w e.system n o) → Leads o
     good_came o (nothing flags) mode told =
         quiet_push (record w.medium { rest = flags }) (only n) refl refl nothing_outcome
     good_came o (went_on t may) mode told =
@@ -190,9 +189,9 @@ module _ (deck : Deck) (es : List Event) (e : Event) (ring : IsRing deck (run de
         (sym (grows-items w.fixed o.grows)) o.news)
         done mode
 
-    pub came_tells : (o : Turnout) → CameInRing deck (run deck es) e.system n o → o.medium.star ≡ false
-        → EventTells deck e.system (history (items ((run deck es).fixed ++ fixed_by e.system o.step.fixed)))
-        o.step.fixed n o.step.node (run deck es).medium.star o.medium.star
+    pub came_tells : (o : Turnout) → CameInRing deck w e.system n o → o.medium.star ≡ false
+        → EventTells deck e.system (history (items (w.fixed ++ fixed_by e.system o.step.fixed))) o.step.fixed n
+        o.step.node w.medium.star o.medium.star
     came_tells o (nothing flags) mode =
         tells (record w.medium { rest = flags }) (only n) (g.before s) (g.later s) [] refl refl nothing_outcome
     came_tells o (went_on t may) mode =

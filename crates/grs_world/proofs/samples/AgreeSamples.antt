@@ -8,12 +8,12 @@ use Rattle.grs_world.proofs.Common.{state_of, SysId, SystemDef, take_line, tell_
 use Rattle.grs_world.proofs.Common.{tell_new, tell_untold, telling, Told, told, ToldLine, true, VaryDone, Wait, wait}
 use Rattle.grs_world.proofs.Common.{with_exclusive, with_line, with_outstanding, with_phase, with_record, with_state}
 use Rattle.grs_world.proofs.Common.{with_told, without_record, ℕ}
+use Rattle.grs_wire.specs.declared.told.ToldLine.TheVariants.{Post}
+use Rattle.grs_world.specs.Agree.{Agrees, RemovalsTold, is_of_event}
+use Rattle.grs_wire.specs.declared.told.Said.TheVariants.{StarAlready, VaryNoSuch}
 use Rattle.grs_base.specs.declared.line.Scope.TheVariants.{System}
 use Rattle.grs_wire.specs.declared.deck.Order.TheVariants.{Star, Vary}
 use Rattle.grs_wire.specs.declared.history.HistEntry.TheVariants.{Enq, Deq, Remove}
-use Rattle.grs_wire.specs.declared.told.ToldLine.TheVariants.{Post}
-use Rattle.grs_wire.specs.declared.told.Said.TheVariants.{StarAlready, VaryNoSuch}
-use Rattle.grs_world.specs.Agree.{Agrees, RemovalsTold, is_of_event}
 use Rattle.grs_world.proofs.samples.Samples.{system, task_of, own, enq, deq, wait_for, deck_of, goes, at}
 use Rattle.grs_wire.specs.declared.told.Verb.TheVariants as verbs
 

@@ -18,13 +18,13 @@ use Rattle.grs_world.proofs.Common.{tell_untold, telling, told, took_mail, true,
 use Rattle.grs_world.proofs.Common.{VaryDone, Wait, wakes, with_also, with_exclusive, with_line, with_outstanding}
 use Rattle.grs_world.proofs.Common.{with_phase, with_rank, with_record, with_state, with_told, without, without_record}
 use Rattle.grs_world.proofs.Common.{zero, ℕ}
-use Rattle.grs_base.specs.declared.resource.Ret.TheVariants.{RetTest}
 use Rattle.grs_node.specs.Node.{turned as system_turned}
+use Rattle.grs_wire.specs.declared.told.ToldLine.TheVariants.{Desk as AtDesk}
+use Rattle.grs_world.specs.Kept.{managed_list}
+use Rattle.grs_base.specs.declared.resource.Ret.TheVariants.{RetTest}
 use Rattle.grs_wire.specs.declared.deck.Desk.{Desk}
 use Rattle.grs_wire.specs.declared.history.HistEntry.TheVariants.{Enq, Deq, Remove}
-use Rattle.grs_wire.specs.declared.told.ToldLine.TheVariants.{Desk as AtDesk}
 use Rattle.lock_structure.specs.Purge.{purged_word}
-use Rattle.grs_world.specs.Kept.{managed_list}
 use Rattle.grs_world.proofs.samples.RemovalSamples.{purges}
 use Rattle.grs_world.proofs.samples.Samples.{system, task_of, shared, enq, deq, deck_of, goes, turn, at}
 use Rattle.grs_world.proofs.samples.StarSamples.{sends, settles, star_of, takes, tells}

@@ -10,11 +10,11 @@ use Rattle.grs_world.proofs.Common.{switch_row, switched, SystemDef, take_up_bel
 use Rattle.grs_world.proofs.Common.{told, true, turn_reply, turn_row, turned, unseen, VaryDone, wakes, with_also}
 use Rattle.grs_world.proofs.Common.{without, ℕ}
 use Rattle.grs_node.specs.Node.{turned as system_turned}
-use Rattle.grs_wire.specs.declared.deck.Desk.{Desk}
+use Rattle.grs_world.specs.InStar.{removals_in_star}
 use Rattle.grs_wire.specs.declared.told.Said.TheVariants.{StarAlready, VaryNoSuch}
+use Rattle.grs_wire.specs.declared.deck.Desk.{Desk}
 use Rattle.grs_wire.specs.declared.told.ToldLine.TheVariants.{Desk as AtDesk}
 use Rattle.grs_world.specs.Decks.{may_remove}
-use Rattle.grs_world.specs.InStar.{removals_in_star}
 use Rattle.grs_world.proofs.samples.Samples.{at, deck_of, rest, system, turn}
 use Rattle.grs_world.proofs.samples.RemovalSamples.{purges}
 use Rattle.grs_world.proofs.samples.StarSamples.{star_of}

@@ -3,9 +3,9 @@ use Rattle.grs_world.proofs.Common.{[], ◌∙◌, ◌∷◌, ◌≡◌, any_uns
 use Rattle.grs_world.proofs.Common.{first_after, first_medium, has, List, MediumState, Message, purge_row, refl, Remove}
 use Rattle.grs_world.proofs.Common.{Req, Request, rest_after_turn, RetNone, RingEntry, row, Some, stamped, SysId, true}
 use Rattle.grs_world.proofs.Common.{turn_reply, turn_row, turned, unseen, wakes, with_also, without, ℕ}
+use Rattle.grs_medium.specs.Apply.{medium_after}
 use Rattle.grs_base.specs.declared.resource.Res.TheVariants.{Systems}
 use Rattle.grs_wire.specs.declared.medium.Act.TheVariants.{Turn, Purge}
-use Rattle.grs_medium.specs.Apply.{medium_after}
 use Rattle.grs_world.specs.Laps.{LastAtHome}
 
 abbrev sys : ℕ → SysId

@@ -14,13 +14,13 @@ use Rattle.grs_world.proofs.Common.{tell_code, tell_control, tell_freed, tell_li
 use Rattle.grs_world.proofs.Common.{tells_control, told, true, turn_reply, turn_row, turned, unseen, unwrap_or}
 use Rattle.grs_world.proofs.Common.{VaryDone, Wait, wakes, with_also, with_exclusive, with_line, with_outstanding}
 use Rattle.grs_world.proofs.Common.{with_phase, with_record, with_state, with_told, without, without_record, ℕ}
-use Rattle.grs_base.specs.declared.line.Scope.TheVariants.{System}
 use Rattle.grs_node.specs.Node.{turned as system_turned}
-use Rattle.grs_wire.specs.declared.history.HistEntry.TheVariants.{Enq, Remove}
-use Rattle.grs_wire.specs.declared.told.Said.TheVariants.{VaryNoSuch}
 use Rattle.grs_world.specs.Running.{task_end}
-use Rattle.grs_world.proofs.samples.Samples.{system, task_of, shared, enq, deck_of, goes, turn, at, own}
 use Rattle.grs_world.specs.AtRest.{goes_on_with}
+use Rattle.grs_base.specs.declared.line.Scope.TheVariants.{System}
+use Rattle.grs_wire.specs.declared.told.Said.TheVariants.{VaryNoSuch}
+use Rattle.grs_wire.specs.declared.history.HistEntry.TheVariants.{Enq, Remove}
+use Rattle.grs_world.proofs.samples.Samples.{system, task_of, shared, enq, deck_of, goes, turn, at, own}
 use Rattle.grs_wire.specs.declared.deck.Choice.TheVariants as choices
 use Rattle.grs_wire.specs.declared.deck.Order.TheVariants as orders
 use Rattle.grs_wire.specs.declared.medium.Reply.TheVariants as replies

@@ -13,22 +13,22 @@ use Rattle.grs_world.proofs.Common.{tell_control, tell_line, tell_new, tell_rows
 use Rattle.grs_world.proofs.Common.{told, true, turn_reply, turn_row, turned, unseen, unwrap_or, Wait, wait, wakes}
 use Rattle.grs_world.proofs.Common.{with_also, with_exclusive, with_line, with_outstanding, with_phase, with_record}
 use Rattle.grs_world.proofs.Common.{with_rows, with_state, with_told, without, without_record, without_rows, ℕ}
+use Rattle.grs_node.specs.Node.{turned as system_turned}
+use Rattle.grs_world.specs.Running.{task_end, units_of}
+use Rattle.grs_wire.specs.declared.told.ToldLine.TheVariants.{Shown}
+use Rattle.grs_known.specs.Told.{entries_of_line}
+use Rattle.grs_legal.specs.Asks.{looks_in}
 use Rattle.std.specs.List.{count_by}
+use Rattle.grs_world.specs.AtRest.{DisplaysAreTold, first_uncoded, goes_on_with, is_coded, is_reserve, unit_count}
 use Rattle.grs_base.specs.Rnl.{no_entries}
 use Rattle.grs_base.specs.declared.look.Filter.TheVariants.{Named}
 use Rattle.grs_base.specs.declared.line.Scope.TheVariants.{System}
 use Rattle.grs_base.specs.declared.rnl.RnlType.TheVariants.{Specific}
 use Rattle.grs_base.specs.declared.rnl.RnlEntry.{RnlEntry}
-use Rattle.grs_known.specs.Told.{entries_of_line}
-use Rattle.grs_legal.specs.Asks.{looks_in}
-use Rattle.grs_node.specs.Node.{turned as system_turned}
 use Rattle.grs_wire.specs.declared.history.HistEntry.TheVariants.{Enq}
 use Rattle.grs_wire.specs.declared.seen.TaskEnd.TheVariants.{Waits}
-use Rattle.grs_wire.specs.declared.told.ToldLine.TheVariants.{Shown}
-use Rattle.grs_world.specs.AtRest.{DisplaysAreTold, first_uncoded, goes_on_with, is_coded, is_reserve, unit_count}
 use Rattle.grs_world.specs.Passed.{TellLines, state_in}
 use Rattle.grs_known.specs.Passed.{has_ended, lines_passed}
-use Rattle.grs_world.specs.Running.{task_end, units_of}
 use Rattle.grs_world.proofs.samples.Samples.{system, task_of, own, enq, deq, wait_for, deck_of, goes, turn, at}
 use Rattle.grs_base.specs.declared.line.Line.TheVariants as lines
 use Rattle.grs_base.specs.declared.resource.Res.TheVariants as kinds

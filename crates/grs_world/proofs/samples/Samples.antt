@@ -13,17 +13,17 @@ use Rattle.grs_world.proofs.Common.{tell_new, tell_untold, telling, Told, told, 
 use Rattle.grs_world.proofs.Common.{turned, unseen, Wait, wait, wakes, with_also, with_exclusive, with_line}
 use Rattle.grs_world.proofs.Common.{with_outstanding, with_phase, with_record, with_state, with_told, without}
 use Rattle.grs_world.proofs.Common.{without_record, World, ℕ}
+use Rattle.grs_node.specs.Node.{turned as system_turned}
+use Rattle.grs_wire.specs.declared.told.ToldLine.TheVariants.{Post}
 use Rattle.grs_base.specs.declared.resource.Ret.TheVariants.{RetUse, RetHave}
-use Rattle.grs_base.specs.declared.line.Scope.{Scope}
 use Rattle.grs_base.specs.declared.line.Scope.TheVariants.{System}
+use Rattle.grs_base.specs.declared.line.Scope.{Scope}
 use Rattle.grs_base.specs.declared.rnl.Which.{Which}
 use Rattle.grs_base.specs.declared.rnl.RnlType.TheVariants.{Specific}
 use Rattle.grs_base.specs.declared.rnl.RnlEntry.{RnlEntry}
 use Rattle.grs_base.specs.Rnl.{no_entries}
-use Rattle.grs_node.specs.Node.{turned as system_turned}
 use Rattle.grs_wire.specs.declared.history.HistEntry.TheVariants.{Enq, Deq, Release}
 use Rattle.grs_wire.specs.declared.medium.Reply.TheVariants.{Resting, Over}
-use Rattle.grs_wire.specs.declared.told.ToldLine.TheVariants.{Post}
 use Rattle.grs_base.specs.declared.resource.Res.TheVariants as kinds
 use Rattle.grs_base.specs.declared.line.Line.TheVariants as lines
 use Rattle.grs_base.specs.declared.rnl.Which.TheVariants as which

@@ -12,13 +12,13 @@ use Rattle.grs_world.proofs.Common.{tell_line, tell_new, tell_rows, tell_untold,
 use Rattle.grs_world.proofs.Common.{turn_row, turned, unseen, wakes, with_also, with_exclusive, with_line}
 use Rattle.grs_world.proofs.Common.{with_outstanding, with_phase, with_record, with_rows, with_state, with_told}
 use Rattle.grs_world.proofs.Common.{without, without_record, without_rows}
-use Rattle.grs_base.specs.declared.line.Line.TheVariants.{DisplayRes}
-use Rattle.grs_base.specs.declared.line.Scope.TheVariants.{System}
-use Rattle.grs_base.specs.declared.look.Filter.TheVariants.{Named}
 use Rattle.grs_node.specs.Node.{turned as system_turned}
-use Rattle.grs_wire.specs.declared.history.HistEntry.TheVariants.{Enq, Look}
 use Rattle.grs_wire.specs.declared.told.ToldLine.TheVariants.{Shown}
 use Rattle.grs_world.specs.Agree.{Agrees}
+use Rattle.grs_base.specs.declared.line.Scope.TheVariants.{System}
+use Rattle.grs_base.specs.declared.line.Line.TheVariants.{DisplayRes}
+use Rattle.grs_base.specs.declared.look.Filter.TheVariants.{Named}
+use Rattle.grs_wire.specs.declared.history.HistEntry.TheVariants.{Enq, Look}
 use Rattle.grs_world.proofs.samples.Samples.{at, deck_of, enq, goes, own, shared, system, task_of, turn}
 use Rattle.grs_wire.specs.declared.told.Verb.TheVariants as verbs
 

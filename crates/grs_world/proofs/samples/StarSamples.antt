@@ -14,8 +14,8 @@ use Rattle.grs_world.proofs.Common.{tell_control, tell_line, tell_new, tell_rows
 use Rattle.grs_world.proofs.Common.{true, Wait, with_also, with_exclusive, with_line, with_outstanding, with_phase}
 use Rattle.grs_world.proofs.Common.{with_rank, with_record, with_rows, with_state, with_told, without, without_record}
 use Rattle.grs_world.proofs.Common.{without_rows, ℕ}
-use Rattle.grs_wire.specs.declared.history.HistEntry.TheVariants.{Enq, Deq, Release, Look}
 use Rattle.grs_wire.specs.declared.told.ToldLine.TheVariants.{Shown, Post}
+use Rattle.grs_wire.specs.declared.history.HistEntry.TheVariants.{Enq, Deq, Release, Look}
 use Rattle.grs_world.proofs.samples.Samples.{system, task_of, shared, enq, deq, deck_of, goes, rest, at}
 use Rattle.grs_base.specs.declared.line.Line.TheVariants.{DisplayRes}
 use Rattle.grs_base.specs.declared.look.Filter.TheVariants.{Named}

@@ -13,8 +13,8 @@ use Rattle.grs_world.proofs.Common.{turn_reply, turn_row, turned, unseen, VaryDo
 use Rattle.grs_world.proofs.Common.{with_line, with_outstanding, with_phase, with_record, with_state, with_told}
 use Rattle.grs_world.proofs.Common.{without, without_record, ℕ}
 use Rattle.grs_node.specs.Node.{turned as system_turned}
-use Rattle.grs_wire.specs.declared.history.HistEntry.TheVariants.{Enq, Remove}
 use Rattle.grs_world.specs.Stopped.{stopped}
+use Rattle.grs_wire.specs.declared.history.HistEntry.TheVariants.{Enq, Remove}
 use Rattle.grs_world.proofs.samples.Samples.{system, task_of, shared, enq, deck_of, goes, turn, at}
 use Rattle.grs_world.proofs.samples.RemovalSamples.{purges}
 use Rattle.grs_wire.specs.declared.deck.Order.TheVariants as orders

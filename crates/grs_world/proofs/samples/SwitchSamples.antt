@@ -19,8 +19,8 @@ use Rattle.grs_world.proofs.Common.{Wait, wakes, with_also, with_exclusive, with
 use Rattle.grs_world.proofs.Common.{with_rank, with_record, with_rows, with_state, with_told, without, without_record}
 use Rattle.grs_world.proofs.Common.{without_rows, ℕ}
 use Rattle.grs_node.specs.Node.{turned as system_turned}
-use Rattle.grs_wire.specs.declared.history.HistEntry.TheVariants.{Enq, Deq, Look as Looked}
 use Rattle.grs_wire.specs.declared.told.Said.TheVariants.{StarAlready}
+use Rattle.grs_wire.specs.declared.history.HistEntry.TheVariants.{Enq, Deq, Look as Looked}
 use Rattle.grs_world.specs.Interest.{interest_at, manages_at}
 use Rattle.grs_world.proofs.samples.Samples.{system, task_of, shared, enq, deq, deck_of, goes, turn, at}
 use Rattle.grs_world.proofs.samples.StarSamples.{sends, takes, settles, tells}

@@ -13,11 +13,11 @@ use Rattle.grs_world.proofs.Common.{tell_code, tell_control, tell_line, tell_new
 use Rattle.grs_world.proofs.Common.{turn_reply, turn_row, turned, unseen, wait, wakes, with_also, with_exclusive}
 use Rattle.grs_world.proofs.Common.{with_line, with_outstanding, with_phase, with_record, with_state, with_told}
 use Rattle.grs_world.proofs.Common.{without, without_record, World, ℕ}
+use Rattle.grs_node.specs.Node.{turned as system_turned}
+use Rattle.grs_wire.specs.declared.request.Fixed.TheVariants.{Asked}
+use Rattle.grs_wire.specs.History.{answered}
 use Rattle.grs_base.specs.declared.look.Filter.TheVariants.{All}
 use Rattle.grs_base.specs.Rnl.{no_entries}
-use Rattle.grs_node.specs.Node.{turned as system_turned}
-use Rattle.grs_wire.specs.History.{answered}
-use Rattle.grs_wire.specs.declared.request.Fixed.TheVariants.{Asked}
 use Rattle.grs_world.specs.Laps.{LeftHome, given, told_next}
 use Rattle.grs_world.specs.Tables.{before_number, first_unseen}
 use Rattle.grs_known.specs.Parts.{systems_part}

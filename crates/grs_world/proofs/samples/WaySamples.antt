@@ -15,6 +15,7 @@ use Rattle.grs_world.proofs.Common.{tell_code, tell_control, tell_each, tell_lin
 use Rattle.grs_world.proofs.Common.{took_mail, true, turn_reply, turn_row, turned, unseen, wakes, with_also}
 use Rattle.grs_world.proofs.Common.{with_exclusive, with_line, with_outstanding, with_phase, with_rank, with_record}
 use Rattle.grs_world.proofs.Common.{with_state, with_told, without, without_record, ℕ}
+use Rattle.grs_node.specs.Node.{turned as system_turned}
 use Rattle.grs_world.proofs.gather.OnTheWay.{has_sent, is_here, is_noticed, owes_yet}
 use Rattle.grs_world.proofs.gather.Views.{WayAt}
 use Rattle.grs_world.proofs.samples.GatherSamples.{it_gathers, its_part, manager_goes, one_part, part_sent, two_go}
@@ -22,7 +23,6 @@ use Rattle.grs_world.proofs.samples.GatherSamples.{without_manager, goes_on, bot
 use Rattle.grs_world.proofs.samples.Samples.{system}
 use Rattle.grs_world.proofs.samples.StarSamples.{takes}
 use Rattle.grs_world.specs.InStar.{removals_in_star}
-use Rattle.grs_node.specs.Node.{turned as system_turned}
 use Rattle.lock_structure.specs.Purge.{purged_word}
 
 -- the item of a notice: the only entry, its new manager, who has interest in it, and how often it was moved

@@ -13,18 +13,18 @@ use Rattle.grs_world.proofs.Common.{res_wanted, rounds, RunItem, same_task, same
 use Rattle.grs_world.proofs.Common.{stand_apart, State, state_of, StaysGood, subst, sym, SysId, task-open, task_swap}
 use Rattle.grs_world.proofs.Common.{TaskId, TaskState, TasksView, tell_all, tell_answer, tell_answer_ranked, tell_new}
 use Rattle.grs_world.proofs.Common.{ToldBy, ToldLine, true, unasked_by, Want, with_phase, ℕ}
-use Rattle.grs_known.specs.Known.{Still}
-use Rattle.grs_known.specs.Past.{may_leave}
-use Rattle.grs_known.proofs.known.Knowing.{one-none, one-some}
+use Rattle.grs_known.proofs.lists.Facts.{list_all-push}
 use Rattle.grs_known.proofs.known.Histories.{live-push}
+use Rattle.grs_known.proofs.system.Good.{ours-home}
+use Rattle.grs_known.proofs.lists.Shows.{looks-are}
 use Rattle.grs_known.proofs.known.Knows.{KnowsLooks, owns-still, entry-learned, entry-decided, looks-learned}
 use Rattle.grs_known.proofs.known.Knows.{looks-decided}
-use Rattle.grs_known.proofs.lists.Facts.{list_all-push}
-use Rattle.grs_known.proofs.lists.Shows.{looks-are}
+use Rattle.grs_known.proofs.known.Knowing.{one-none, one-some}
+use Rattle.grs_known.specs.Known.{Still}
+use Rattle.grs_known.specs.Past.{may_leave}
+use Rattle.grs_known.proofs.system.Events.{Decides, Looks, Leaves, tells_good}
 use Rattle.grs_known.proofs.system.Askers.{apart-push}
 use Rattle.grs_world.proofs.system.AtNode.{opens_of, Seen}
-use Rattle.grs_known.proofs.system.Events.{Decides, Looks, Leaves, tells_good}
-use Rattle.grs_known.proofs.system.Good.{ours-home}
 use Rattle.grs_world.proofs.system.Puts.{MayPut, may_put, seen-put, put}
 use Rattle.grs_known.proofs.system.Outstanding.{asked-good}
 use Rattle.grs_world.proofs.star.Ghosts.{ghosted, IsAt, without-box, any_part}
@@ -200,8 +200,7 @@ module _ (deck : Deck) (s : ℕ) (T later : List RunItem) (right : IsHistory dec
       away = ap (λ qs. is_among t (askers qs)) (append-nil (without_asker t out)) ∙ among-without t out
 
       decides : (h : HistEntry) (r : Res) → entries_for S t a.req.want ≡ h ∷ []
-          → Decides deck (opens_of later out (ghosted n)) os' T T t (past_of t (k.good.tasks.each t ls ours).known T) h
-          r []
+          → Decides deck os os' T T t (past_of t (k.good.tasks.each t ls ours).known T) h r []
       decides h r e = record {
         right = right;
         learns =
@@ -251,8 +250,7 @@ module _ (deck : Deck) (s : ℕ) (T later : List RunItem) (right : IsHistory dec
       none_open =
           one-none (outstanding t (k.good.tasks.each t ls ours).known T) (sym idle ∙ (k.good.tasks.each t ls ours).due)
 
-      leaves :
-          Leaves deck (opens_of later out (ghosted n)) (opens_of later out (ghosted n)) T (T ++ x_own c ∷ []) t
+      leaves : Leaves deck os os T (T ++ x_own c ∷ []) t
       leaves u ms T1 T2 y apart told j =
           here-kept deck (opens_of later out (ghosted n)) (opens_of later out (ghosted n)) (T ++ x_own c ∷ []) T1 T2 u
           ms y refl (λ f. f) (λ f. f) told
@@ -262,8 +260,7 @@ module _ (deck : Deck) (s : ℕ) (T later : List RunItem) (right : IsHistory dec
       away = ap (λ qs. is_among t (askers qs)) (append-nil out) ∙ free
 
       decides : (h : HistEntry) (r : Res) → entries_for (lists T) t a.req.want ≡ h ∷ []
-          → Decides deck (opens_of later out (ghosted n)) (opens_of later out (ghosted n)) T (T ++ x_own c ∷ []) t
-          (past_of t (k.good.tasks.each t ls ours).known T) h r []
+          → Decides deck os os T (T ++ x_own c ∷ []) t (past_of t (k.good.tasks.each t ls ours).known T) h r []
       decides h r e = record {
         right = follows deck T (x_own c) right m;
         learns =
@@ -279,8 +276,8 @@ module _ (deck : Deck) (s : ℕ) (T later : List RunItem) (right : IsHistory dec
       }
 
       shows : res_wanted a.req.want ≡ None
-          → Looks deck (opens_of later out (ghosted n)) (opens_of later out (ghosted n)) T (T ++ x_own c ∷ []) t
-          (past_of t (k.good.tasks.each t ls ours).known T) (entries_for (lists T) t a.req.want)
+          → Looks deck os os T (T ++ x_own c ∷ []) t (past_of t (k.good.tasks.each t ls ours).known T)
+          (entries_for (lists T) t a.req.want)
           × (is_among t (askers (out ++ [])) ≡ false) × (is_among t (askers out) ≡ false)
       shows absent = (
         record {

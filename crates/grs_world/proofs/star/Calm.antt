@@ -10,12 +10,12 @@ use Rattle.grs_world.proofs.Common.{Some, Standing, standing, StarPart, suc, sym
 use Rattle.grs_world.proofs.Common.{take_up_below, TaskId, TasksView, tell_each, true, unwrap_or, zero, ℕ}
 use Rattle.std.proofs.Common.{is_some}
 use Rattle.std.specs.Prelude.{find}
+use Rattle.grs_node.specs.Star.{besides_first, gathers_asked, is_being_gathered, with_held}
+use Rattle.system_purge.specs.Gathers.{GathersView, behind_loss, without_sender}
+use Rattle.grs_node.specs.Removal.{take_up_if}
 use Rattle.contention_mgr.specs.Loses.{after_losing}
 use Rattle.contention_mgr.proofs.LoseNothing.{losing_nothing}
-use Rattle.grs_node.specs.Removal.{take_up_if}
-use Rattle.grs_node.specs.Star.{besides_first, gathers_asked, is_being_gathered, with_held}
 use Rattle.star_client.specs.Owes.{OwesView, any_owed}
-use Rattle.system_purge.specs.Gathers.{GathersView, behind_loss, without_sender}
 
 -- ---- options of which none is there
 pub none-at : {X : Type 0} (xs : List (Option X)) (i : ℕ) → list_any is_some xs ≡ false

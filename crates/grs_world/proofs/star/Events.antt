@@ -12,9 +12,10 @@ use Rattle.grs_world.proofs.Common.{submitted_words, subst, sym, SysId, task_ste
 use Rattle.grs_world.proofs.Common.{unwrap_or, with_interest, with_mail, with_phase, with_star, without_first, word_at}
 use Rattle.grs_world.proofs.Common.{World, ℕ}
 use Rattle.std.specs.Prelude.{drop}
+use Rattle.grs_known.proofs.lists.Alike.{alike-itself, alike-none}
 use Rattle.std.proofs.Math.Bool.{or-true}
-use Rattle.contention_mgr.proofs.ManagerLaws.{entries_are_well_kept}
 use Rattle.grs_node.specs.Star.{serves, told_by}
+use Rattle.contention_mgr.proofs.ManagerLaws.{entries_are_well_kept}
 use Rattle.lock_structure.proofs.LawProofs.{submit_keeps_all_managed, leave_keeps_all_managed, submit_joins}
 use Rattle.lock_structure.proofs.LawProofs.{submit_manages, leave_parts, leave_manages}
 use Rattle.grs_world.proofs.star.Plain.{begun, may_leave, settled_first, take_mail, took_mail, with_held, Acts, Came}
@@ -26,7 +27,6 @@ use Rattle.grs_world.proofs.star.Roles.{part-settled, part-told, part-held, part
 use Rattle.grs_world.proofs.star.Roles.{want-within, interest-within}
 use Rattle.grs_world.proofs.star.Tasks.{task-quiet}
 use Rattle.grs_world.proofs.star.Under.{under, under-other}
-use Rattle.grs_known.proofs.lists.Alike.{alike-itself, alike-none}
 use Rattle.grs_world.proofs.run.Came.{ChoiceRemovesNone}
 use Rattle.grs_world.proofs.run.Chosen.{came}
 use Rattle.grs_world.proofs.run.Site.{Site}
@@ -56,10 +56,9 @@ module _ (deck : Deck) (some : 0 < deck.entries) (w : World) (c : SysId) (few : 
 
   -- a step by which words and lists become these
   step : (ws : List ℕ) (boxes : List (List Mail)) (flags : ℕ) (v : TasksView) (q : StarPart) (fs : List Fixed)
-      → length boxes ≡ length w.medium.inboxes
-      → Moves deck c.0 w.medium.words ws (all_lists w) (lists_after (all_lists w) fs)
-      → IsPart deck ws (lists_after (all_lists w) fs) c.0 q →
-      Leads (record { medium = med ws boxes flags; step = with_star n (record { tasks = v; part = q; fixed = fs }) })
+      → length boxes ≡ length w.medium.inboxes → Moves deck c.0 w.medium.words ws L (lists_after L fs)
+      → IsPart deck ws (lists_after L fs) c.0 q
+      → Leads (record { medium = med ws boxes flags; step = with_star n (record { tasks = v; part = q; fixed = fs }) })
   step ws boxes flags v q fs same m k = record {
     mode = g.mode;
     removed = refl;
@@ -71,8 +70,8 @@ module _ (deck : Deck) (some : 0 < deck.entries) (w : World) (c : SysId) (few : 
 
   -- one that leaves words and lists
   still : (boxes : List (List Mail)) (flags : ℕ) (v : TasksView) (q : StarPart) → length boxes ≡ length w.medium.inboxes
-      → IsPart deck w.medium.words (all_lists w) c.0 q →
-      Leads (record { medium = med w.medium.words boxes flags; step = with_star n (fixing_none v q) })
+      → IsPart deck w.medium.words L c.0 q
+      → Leads (record { medium = med w.medium.words boxes flags; step = with_star n (fixing_none v q) })
   still boxes flags v q same k = step words boxes flags v q [] same (stays deck w c.0 g) k
 
   -- ---- nothing but a flag of rest, or it is told which systems were removed
@@ -136,7 +135,7 @@ module _ (deck : Deck) (some : 0 < deck.entries) (w : World) (c : SysId) (few : 
   -- ---- a request is decided by the manager of its entry
   -- what it does to the lists of all entries, where the words become these
   decides : (x : ℕ) (q : Req) → entry_wanted deck.entries q.want ≡ Some x → has_manager w.medium.words x c.0 ≡ true
-      → Moves deck c.0 w.medium.words w.medium.words (all_lists w) (after_want (all_lists w) q.task q.want)
+      → Moves deck c.0 w.medium.words w.medium.words L (after_want L q.task q.want)
   decides x q is mine = record {
     count = refl;
     managed = g.managed;
@@ -217,7 +216,7 @@ module _ (deck : Deck) (some : 0 < deck.entries) (w : World) (c : SysId) (few : 
       boxes : List (List Mail)
       boxes = without_first w.medium.inboxes c.0
 
-      takes_held : (e : ℕ) (q : Req) → IsPart deck w.medium.words (all_lists w) c.0 (with_held me.part e q)
+      takes_held : (e : ℕ) (q : Req) → IsPart deck w.medium.words L c.0 (with_held me.part e q)
       takes_held e q =
           by_test (IsPart deck words L c.0) (is_entry e (entry_for p q.want) && manages p e)
           (record p { held = p.held ++ q ∷ [] }) p (λ h. part-held deck words L c.0 p (p.held ++ q ∷ []) me.fits)
@@ -257,9 +256,8 @@ module _ (deck : Deck) (some : 0 < deck.entries) (w : World) (c : SysId) (few : 
 
     -- whatever the lists become that this system manages
     submits : (L' : State)
-        → ((e : ℕ) → has_manager joined_words e c.0 ≡ false
-        → under deck.entries e L' ≡ under deck.entries e (all_lists w))
-        → Moves deck c.0 w.medium.words joined_words (all_lists w) L'
+        → ((e : ℕ) → has_manager joined_words e c.0 ≡ false → under deck.entries e L' ≡ under deck.entries e L)
+        → Moves deck c.0 w.medium.words joined_words L L'
     submits L' lists = record {
       count = length-set words x _;
       managed = submit_keeps_all_managed words x c there few g.managed;
@@ -289,7 +287,7 @@ module _ (deck : Deck) (some : 0 < deck.entries) (w : World) (c : SysId) (few : 
 
         frees : (e : ℕ) (b : Bool) → (e == x) ≡ b
             → cond b (Some (unwrap_or (manager_at w.medium.words x) c)) (manager_at w.medium.words e) ≡ None
-            → under deck.entries e L' ≡ under deck.entries e (all_lists w) → under deck.entries e L' ≡ []
+            → under deck.entries e L' ≡ under deck.entries e L → under deck.entries e L' ≡ []
         frees e true f h j = absurd (cc)
         frees e false f h j = j ∙ g.free e h
 
@@ -317,7 +315,7 @@ module _ (deck : Deck) (some : 0 < deck.entries) (w : World) (c : SysId) (few : 
         go false f = refl
 
     sent_part : (s : SysId) → manager_at w.medium.words x ≡ Some s
-        → IsPart deck joined_words (all_lists w) c.0 (with_interest me.part x true)
+        → IsPart deck joined_words L c.0 (with_interest me.part x true)
     sent_part s is = part-interest deck words joined_words L c.0 p x true me.fits inside (role_stays s is) interest_now
 
     -- where nobody does
@@ -332,7 +330,7 @@ module _ (deck : Deck) (some : 0 < deck.entries) (w : World) (c : SysId) (few : 
         go true = ap (λ o. is_manager (Some (unwrap_or o c)) (record { 0 = c.0 })) is ∙ eq-eqb c.0 c.0 refl
         go false = refl
 
-    pub begun_part : manager_at w.medium.words x ≡ None → IsPart deck joined_words (all_lists w) c.0 (begun me.part x)
+    pub begun_part : manager_at w.medium.words x ≡ None → IsPart deck joined_words L c.0 (begun me.part x)
     begun_part is =
         part-place deck words joined_words L c.0 p x (Some no_elements) true me.fits inside (role_gained is)
         interest_now (λ h. subst (Alike []) (sym (g.free x is)) (alike-itself []))
@@ -403,7 +401,7 @@ module _ (deck : Deck) (some : 0 < deck.entries) (w : World) (c : SysId) (few : 
     words_left = left_words w.medium.words x c
 
     -- nothing stands in the lists of an entry that it manages
-    none_listed : has_manager w.medium.words x c.0 ≡ true → under deck.entries x (all_lists w) ≡ []
+    none_listed : has_manager w.medium.words x c.0 ≡ true → under deck.entries x L ≡ []
     none_listed mine =
         alike-none (under deck.entries x L) (subst (λ zs. Alike (plain zs) (under deck.entries x L))
         (no_items (items_of (managed_at p.manager x))
@@ -425,7 +423,7 @@ module _ (deck : Deck) (some : 0 < deck.entries) (w : World) (c : SysId) (few : 
           ≡ cond ((e == x) && is_manager (manager_at w.medium.words e) c) None (manager_at w.medium.words e)
       manages_left = leave_manages words x c there_leave g.managed is
 
-      leaves : Moves deck c.0 w.medium.words words_left (all_lists w) (all_lists w)
+      leaves : Moves deck c.0 w.medium.words words_left L L
       leaves = record {
         count = length-set words x _;
         managed = leave_keeps_all_managed words x c there_leave g.managed;
@@ -451,7 +449,7 @@ module _ (deck : Deck) (some : 0 < deck.entries) (w : World) (c : SysId) (few : 
               go false f = refl
 
           frees : (e : ℕ) (b : Bool) → (e == x) ≡ b → (d : Bool) → is_manager (manager_at w.medium.words e) c ≡ d
-              → cond (b && d) None (manager_at w.medium.words e) ≡ None → under deck.entries e (all_lists w) ≡ []
+              → cond (b && d) None (manager_at w.medium.words e) ≡ None → under deck.entries e L ≡ []
           frees e false f d h none = g.free e none
           frees e true f false h none = g.free e none
           frees e true f true h none =
@@ -459,7 +457,7 @@ module _ (deck : Deck) (some : 0 < deck.entries) (w : World) (c : SysId) (few : 
               ap (λ i. under deck.entries i L) same
               ∙ none_listed (ap (λ i. is_manager (manager_at words i) c) (sym same) ∙ h)
 
-      left_part : IsPart deck words_left (all_lists w) c.0 (left_at me.part x)
+      left_part : IsPart deck words_left L c.0 (left_at me.part x)
       left_part = part-left deck words words_left L c.0 p x me.fits inside_leave
           (λ e. ap (λ o. is_manager o (record { 0 = c.0 })) (manages_left e) ∙ role e (e == x) (manager_at words e))
           (λ e.

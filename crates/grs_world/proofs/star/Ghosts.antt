@@ -12,12 +12,12 @@ use Rattle.grs_world.proofs.Common.{res_wanted, rounds, RunItem, same_task, same
 use Rattle.grs_world.proofs.Common.{stand_apart, StarPart, state_of, Step, subst, suc, sym, SysId, take_line, task_step}
 use Rattle.grs_world.proofs.Common.{TaskId, TasksView, ToldBy, ToldLine, true, Want, with_line, with_phase, with_rows}
 use Rattle.grs_world.proofs.Common.{with_tasks, zero, ℕ}
+use Rattle.grs_known.proofs.system.Says.{Clears, more}
 use Rattle.grs_known.proofs.known.Histories.{stays-ask}
 use Rattle.grs_known.proofs.system.Askers.{apart-front}
 use Rattle.grs_world.proofs.system.AtNode.{opens_of, Seen, MayFix, QuietStep, keeps, fixes, seen-other, mine-left}
 use Rattle.grs_world.proofs.system.AtNode.{seen-fixed, fix-home, fix-stays}
 use Rattle.grs_world.proofs.system.Quiet.{quiet}
-use Rattle.grs_known.proofs.system.Says.{Clears, more}
 use Rattle.grs_legal.specs.declared.meaning.Meaning.TheVariants as lines
 use Rattle.grs_wire.specs.declared.told.ToldLine.TheVariants as told
 use Rattle.task_state.specs.declared.state.Phase.TheVariants as phases

@@ -7,10 +7,10 @@ use Rattle.grs_world.proofs.Common.{is_sent, is_systems, items, items_of, last_n
 use Rattle.grs_world.proofs.Common.{Managed, managed_at, managed_of, nat_le, NodeState, Notice, owns, Part, placed}
 use Rattle.grs_world.proofs.Common.{put_at, Release, Res, Rows, RunItem, same_res, same_task, StarPart, state_of, SysId}
 use Rattle.grs_world.proofs.Common.{TaskId, Turnout, Want, World}
+use Rattle.grs_wire.specs.declared.medium.Mail.TheVariants.{Request}
+use Rattle.contention_mgr.specs.Manager.{is_of}
 use Rattle.std.specs.Prelude.{◌≡◌, ◌≢◌, ◌<◌, ◌≤◌, ◌⊎◌, ℕ, suc, Bool, true, false, cond, not, ◌&&◌, ◌||◌, List, [], ◌∷◌}
 use Rattle.std.specs.Prelude.{◌++◌, length, Some}
-use Rattle.contention_mgr.specs.Manager.{is_of}
-use Rattle.grs_wire.specs.declared.medium.Mail.TheVariants.{Request}
 use Rattle.grs_wire.specs.declared.request.Answer.TheVariants.{Coded}
 use Rattle.grs_world.proofs.star.Members.{all_lists}
 use Rattle.grs_world.proofs.star.Worlds.{in_hands}

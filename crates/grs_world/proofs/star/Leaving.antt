@@ -10,11 +10,11 @@ use Rattle.grs_world.proofs.Common.{no_truth, NodeState, None, Notice, one, Opti
 use Rattle.grs_world.proofs.Common.{outstanding, owns-has, Part, Rec, refl, Req, Res, res_wanted, RunItem, same_res}
 use Rattle.grs_world.proofs.Common.{same_res-exact, same_task, same_task-itself, Some, StarPart, State, state_of, subst}
 use Rattle.grs_world.proofs.Common.{sym, TaskId, true, ℕ}
-use Rattle.std.proofs.lemmas.List.Folds.{list_any_at}
-use Rattle.grs_node.specs.Star.{asks_in}
 use Rattle.grs_wire.specs.declared.medium.Mail.TheVariants.{Request}
 use Rattle.grs_known.specs.Known.{Known, Still, learns_control, learns_item}
+use Rattle.grs_node.specs.Star.{asks_in}
 use Rattle.grs_known.proofs.known.Knowing.{one-some}
+use Rattle.std.proofs.lemmas.List.Folds.{list_any_at}
 use Rattle.grs_world.proofs.system.AtNode.{opens_of}
 use Rattle.grs_world.proofs.system.Puts.{home-task}
 use Rattle.grs_known.proofs.system.Busy.{busy-idle, busy-behind, busy-looks}

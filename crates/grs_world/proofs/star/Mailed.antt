@@ -11,17 +11,17 @@ use Rattle.grs_world.proofs.Common.{Req, Res, RunItem, same_task, same_task-exac
 use Rattle.grs_world.proofs.Common.{standing_of, StarPart, State, state_of, subst, sym, SysId, TaskId, TasksView}
 use Rattle.grs_world.proofs.Common.{tell_all, tell_answer_any_ranked, tell_answer_ranked, tell_control, tell_untold}
 use Rattle.grs_world.proofs.Common.{true, Want, ℕ}
+use Rattle.star_client.specs.Client.{can_get, is_code_of, deq_codes, has_sent, is_awaited}
+use Rattle.grs_wire.specs.declared.medium.Mail.TheVariants.{Request}
+use Rattle.grs_known.proofs.known.Blank.{coming-same, coming-late, no-answer}
+use Rattle.grs_known.specs.Known.{Still, learns_control, learns_item, is_answer_to}
 use Rattle.grs_base.specs.Lists.{deq_code}
 use Rattle.grs_base.specs.declared.decision.Standing.{Standing}
-use Rattle.grs_wire.specs.declared.medium.Mail.TheVariants.{Request}
-use Rattle.star_client.specs.Client.{can_get, is_code_of, deq_codes, has_sent, is_awaited}
-use Rattle.grs_known.specs.Known.{Still, learns_control, learns_item, is_answer_to}
 use Rattle.grs_world.proofs.system.AtNode.{opens_of}
 use Rattle.grs_world.proofs.system.Puts.{home-task}
 use Rattle.grs_world.proofs.star.Answering.{Taken, takes-control, takes-answer, others_of, without_asker, apart-filter}
 use Rattle.grs_world.proofs.star.Answering.{mine-others, mine-none}
 use Rattle.grs_world.proofs.star.Ghosts.{ghosted, IsAt, told-free}
-use Rattle.grs_known.proofs.known.Blank.{coming-same, coming-late, no-answer}
 use Rattle.grs_world.proofs.star.Named.{outstanding-named}
 use Rattle.grs_world.proofs.star.OwnEvents.{Goes, late-in}
 use Rattle.grs_world.proofs.star.Systems.{gives, gives_want, gives-none, is_plain_answer, any-answer, IsSystem, IsLate}

@@ -6,8 +6,8 @@ use Rattle.grs_world.proofs.Common.{is_manager, IsManaged, items, items-append, 
 use Rattle.grs_world.proofs.Common.{length-set, List, lists, lives, lt-ltb, managed_at, manager_at, manages, nat_lt}
 use Rattle.grs_world.proofs.Common.{no_truth, NodeState, None, Option, placed, plain, refl, same_Some, set, Some}
 use Rattle.grs_world.proofs.Common.{StarPart, State, subst, sym, SysId, true, Turnout, World, ℕ}
-use Rattle.contention_mgr.specs.Laws.{AreWellKept}
 use Rattle.grs_known.specs.Items.{lists_from}
+use Rattle.contention_mgr.specs.Laws.{AreWellKept}
 use Rattle.grs_known.proofs.known.ItemLaws.{lists_from-append}
 use Rattle.grs_world.proofs.star.Calm.{IsCalm}
 use Rattle.grs_world.proofs.star.Under.{under}

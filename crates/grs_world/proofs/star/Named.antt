@@ -7,13 +7,13 @@ use Rattle.grs_world.proofs.Common.{LocalLook, Look, look, looks, mine, names_of
 use Rattle.grs_world.proofs.Common.{refl, Release, replies_are_answers, reply_in, Res, Row, rows-lists, rows_of}
 use Rattle.grs_world.proofs.Common.{RunItem, same_res, Slice, Some, State, subst, suc, SysId, TaskId, true, Want, zero}
 use Rattle.grs_world.proofs.Common.{ℕ}
-use Rattle.std.specs.Prelude.{◌||◌}
-use Rattle.grs_base.specs.Looks.{is_shown}
 use Rattle.grs_known.proofs.known.Histories.{asks-push, elements-ask, may_have}
 use Rattle.grs_known.specs.Items.{AllMade}
-use Rattle.grs_known.specs.Known.{Known}
 use Rattle.grs_node.specs.Node.{has_deck_tasks}
+use Rattle.std.specs.Prelude.{◌||◌}
+use Rattle.grs_known.specs.Known.{Known}
 use Rattle.grs_wire.specs.declared.request.Fixed.TheVariants.{Asked}
+use Rattle.grs_base.specs.Looks.{is_shown}
 
 -- ---- rows of lists whose elements are of tasks of the deck
 module _ (deck : Deck) where

@@ -10,18 +10,18 @@ use Rattle.grs_world.proofs.Common.{Res, res_wanted, RunItem, same_res-exact, sa
 use Rattle.grs_world.proofs.Common.{Some, StarPart, state_of, Step, subst, sym, SysId, System, task_step, TaskId}
 use Rattle.grs_world.proofs.Common.{TasksView, tell_answer_ranked, tell_new, ToldBy, ToldLine, true, Want, wants_round}
 use Rattle.grs_world.proofs.Common.{with_phase, ℕ}
-use Rattle.grs_base.specs.declared.resource.Res.TheVariants.{Step as StepRes, Systems}
 use Rattle.grs_wire.specs.declared.medium.Mail.TheVariants.{Request}
+use Rattle.grs_known.proofs.known.Blank.{coming-other, coming-decided}
 use Rattle.grs_known.specs.Known.{IsRight}
-use Rattle.grs_known.specs.Laws.{is_given_back}
 use Rattle.grs_known.proofs.known.Knowing.{outstanding-own}
+use Rattle.grs_base.specs.declared.resource.Res.TheVariants.{Step as StepRes, Systems}
+use Rattle.grs_known.specs.Laws.{is_given_back}
 use Rattle.grs_known.proofs.lists.Facts.{list_all-push}
 use Rattle.grs_world.proofs.system.AtNode.{MayFix, fix-stays, part-round}
 use Rattle.grs_world.proofs.system.Puts.{MayPut}
 use Rattle.grs_world.proofs.star.Answering.{Taken, decides-own, may_own, sent, tells-new}
 use Rattle.grs_world.proofs.star.Ghosts.{IsAt, TaskStep, idles, does, task-goes, told-free}
 use Rattle.grs_world.proofs.star.Members.{has_manager}
-use Rattle.grs_known.proofs.known.Blank.{coming-other, coming-decided}
 use Rattle.grs_world.proofs.star.Systems.{IsSystem, IsLate, AllLate, AllFit, Keeps, is_near, is_late, news_of}
 use Rattle.grs_world.proofs.star.Systems.{late-none, here, behind-late, right-late, system-words}
 use Rattle.grs_world.proofs.star.Under.{res-entry}

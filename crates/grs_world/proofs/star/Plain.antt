@@ -12,12 +12,12 @@ use Rattle.grs_world.proofs.Common.{StarStep, state_of, submitted_words, subst, 
 use Rattle.grs_world.proofs.Common.{TasksView, tell_new, to_tell, true, true≢false, Turnout, with_entry, with_interest}
 use Rattle.grs_world.proofs.Common.{with_mail, with_phase, with_star, without, without_first, without_those, word_at}
 use Rattle.grs_world.proofs.Common.{zero, ℕ, ℕ_discrete}
-use Rattle.std.proofs.lemmas.List.{set-get_or}
-use Rattle.grs_medium.specs.Apply.{is_live}
-use Rattle.grs_node.specs.Node.{take_mail as take_now, took_mail as took_now}
 use Rattle.grs_node.specs.Star.{begun as begun_now, is_being_gathered, may_leave as may_leave_now, serves}
 use Rattle.grs_node.specs.Star.{settled_first as settled_now, told_by}
+use Rattle.grs_node.specs.Node.{take_mail as take_now, took_mail as took_now}
 use Rattle.grs_wire.specs.Masks.{without_all}
+use Rattle.std.proofs.lemmas.List.{set-get_or}
+use Rattle.grs_medium.specs.Apply.{is_live}
 use Rattle.grs_world.proofs.run.Came.{RemovesNoneInStar, Result, no_part}
 use Rattle.grs_world.proofs.run.Knowing.{KnowsRemoved}
 use Rattle.grs_world.proofs.star.Calm.{HasNoneOf, IsCalm, first-is, held-is, losing-nothing, not-owed, rest-is}

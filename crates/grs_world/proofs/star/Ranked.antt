@@ -5,10 +5,10 @@ use Rattle.grs_world.proofs.Common.{IsOurs, IsRec, IsTask, List, Look, map, Mean
 use Rattle.grs_world.proofs.Common.{Opens, Option, Past, past_of, Phase, quiet_good, Rec, refl, Release, Res, RunItem}
 use Rattle.grs_world.proofs.Common.{same_res, slice_get, Some, state_of, StaysGood, subst, sym, TaskId, TaskState}
 use Rattle.grs_world.proofs.Common.{TasksView, told-state, ToldBy, ToldLine, true, Want, with_rank, with_rank_of, ℕ}
-use Rattle.task_state.proofs.ViewLaws.{length-on_record, state_of-same}
-use Rattle.grs_known.proofs.tasks.Keys.{keys-on_record, distinct-on_record}
 use Rattle.grs_known.proofs.system.Asking.{unasked, unasked-told, IsOpen}
 use Rattle.grs_known.proofs.system.Ours.{changed-state}
+use Rattle.task_state.proofs.ViewLaws.{length-on_record, state_of-same}
+use Rattle.grs_known.proofs.tasks.Keys.{keys-on_record, distinct-on_record}
 
 abbrev pub ranked : ℕ → Rec → Rec
 ranked k y = record y { rank = k }

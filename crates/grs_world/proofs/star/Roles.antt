@@ -7,18 +7,18 @@ use Rattle.grs_world.proofs.Common.{managed_at, ManagerView, manages, nat_le, na
 use Rattle.grs_world.proofs.Common.{plain, refl, Release, Req, Res, settled, slice_get, slice_get_within}
 use Rattle.grs_world.proofs.Common.{slice_index_or, slice_of, slice_set, Some, some_of, StarPart, State, subst, sym}
 use Rattle.grs_world.proofs.Common.{System, TaskId, true, unwrap_or, Want, with_entry, with_interest, ℕ}
-use Rattle.std.proofs.lemmas.List.{get_or-set_same, get_or-set_other}
-use Rattle.std.proofs.lemmas.Nat.{mod_below}
-use Rattle.std.proofs.lemmas.Option.{unwrap_or-slice_get}
-use Rattle.contention_mgr.specs.Laws.{AreWellKept}
 use Rattle.contention_mgr.specs.Manager.{told, are_of}
+use Rattle.grs_known.proofs.lists.Alike.{alike-want}
+use Rattle.grs_node.specs.Star.{told_by}
+use Rattle.std.proofs.lemmas.List.{get_or-set_same, get_or-set_other}
+use Rattle.std.proofs.lemmas.Option.{unwrap_or-slice_get}
+use Rattle.grs_base.specs.declared.resource.Res.TheVariants.{Step, Systems}
+use Rattle.std.proofs.lemmas.Nat.{mod_below}
+use Rattle.contention_mgr.specs.Laws.{AreWellKept}
 use Rattle.contention_mgr.proofs.LawProofs.{lists_follow, telling_keeps_lists}
 use Rattle.contention_mgr.proofs.ManagerLaws.{entries_are_well_kept, requests_keep_well, telling_keeps_well}
-use Rattle.grs_base.specs.declared.resource.Res.TheVariants.{Step, Systems}
-use Rattle.grs_node.specs.Star.{told_by}
 use Rattle.grs_world.proofs.star.Members.{IsPart, has_manager}
 use Rattle.grs_world.proofs.star.Under.{under, under-want, under-other, entry-same}
-use Rattle.grs_known.proofs.lists.Alike.{alike-want}
 
 -- ---- entries are there
 pub res-within : (entries : ℕ) (r : Res) (x : ℕ) → 0 < entries → entry_of_res entries r ≡ Some x → x < entries

@@ -7,15 +7,15 @@ use Rattle.grs_world.proofs.Common.{ltb-true, manager, manager_at, manages, nat_
 use Rattle.grs_world.proofs.Common.{not-true, noticed, Option, option_map_or, plain, refl, replicate, Res, slice_get}
 use Rattle.grs_world.proofs.Common.{slice_get-past, slice_index_or, slice_of, Some, State, subst, suc, sym, SysId}
 use Rattle.grs_world.proofs.Common.{System, true, without_gone, word_at, World, zero, ℕ}
-use Rattle.contention_mgr.proofs.ManagerLaws.{well_kept_begins}
+use Rattle.grs_known.proofs.lists.Alike.{alike-itself}
+use Rattle.grs_world.specs.Kept.{kept_in, at_manager, at_node, has_to_gather, managed_list, named_by, shown_list}
 use Rattle.grs_base.specs.declared.resource.Res.TheVariants.{Step, Systems}
+use Rattle.contention_mgr.proofs.ManagerLaws.{well_kept_begins}
 use Rattle.lock_structure.proofs.LawProofs.{words_begin}
 use Rattle.grs_world.proofs.star.Calm.{calm-first, not-gathered}
-use Rattle.grs_world.specs.Kept.{kept_in, at_manager, at_node, has_to_gather, managed_list, named_by, shown_list}
 use Rattle.grs_world.proofs.run.Sound.{first_is}
 use Rattle.grs_world.proofs.star.Members.{IsPart, IsMember, IsStar, has_manager, manager-here, all_lists}
 use Rattle.grs_world.proofs.star.Under.{in_entry, under, entry-same, list-under}
-use Rattle.grs_known.proofs.lists.Alike.{alike-itself}
 use Rattle.grs_world.proofs.run.InRing.{count_first}
 use Rattle.grs_world.proofs.run.Site.{Site, at_site}
 

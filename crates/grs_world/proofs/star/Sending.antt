@@ -398,24 +398,22 @@ module _ (deck : Deck) (w : World) (g : IsWhole deck w) (c : SysId) (n : NodeSta
 
     pub outcome-decided :
         ((r : Res) → res_wanted a.req.want ≡ Some r → (u : TaskId) → is_among u ts ≡ true
-        → owns (list_of (lists (T ++ item ∷ [])) r) u ≡ true) →
-        (IsWhole deck (placed w c n (record {
+        → owns (list_of (lists (T ++ item ∷ [])) r) u ≡ true)
+        → (IsWhole deck (placed w c n (record {
           medium = record w.medium { words = words; rest = flags };
-          step = record { node = decided; fixed = fixing.Asked (request_of t a) ∷ [] };
+          step = record { node = decided; fixed = fixing.Asked q ∷ [] };
         }))
         → StaysHeard deck w c n (record {
           medium = record w.medium { words = words; rest = flags };
-          step = record { node = decided; fixed = fixing.Asked (request_of t a) ∷ [] };
+          step = record { node = decided; fixed = fixing.Asked q ∷ [] };
         }))
-        →
-        IsStep deck w c n (record {
+        → IsStep deck w c n (record {
           medium = record w.medium { words = words; rest = flags };
-          step = record { node = decided; fixed = fixing.Asked (request_of t a) ∷ [] };
+          step = record { node = decided; fixed = fixing.Asked q ∷ [] };
         })
-        →
-        IsOutcome deck w g c n (record {
+        → IsOutcome deck w g c n (record {
           medium = record w.medium { words = words; rest = flags };
-          step = record { node = decided; fixed = fixing.Asked (request_of t a) ∷ [] };
+          step = record { node = decided; fixed = fixing.Asked q ∷ [] };
         })
     outcome-decided owned heard step =
         let h = system-grown c.0 n at in

@@ -10,8 +10,8 @@ use Rattle.grs_world.proofs.Common.{put_other, refl, Req, Res, res_wanted, RunIt
 use Rattle.grs_world.proofs.Common.{same_task-exact, same_task-itself, slice_get, slice_get-get_or, Some, stand_apart}
 use Rattle.grs_world.proofs.Common.{StarPart, state_of, subst, sym, SysId, task_swap, TaskId, tell_new, true, Want}
 use Rattle.grs_world.proofs.Common.{with_mail, World, ℕ}
-use Rattle.grs_world.proofs.star.Elements.{AreNear, is_near_res, near-want}
 use Rattle.grs_wire.specs.declared.medium.Mail.TheVariants.{Request}
+use Rattle.grs_world.proofs.star.Elements.{AreNear, is_near_res, near-want}
 use Rattle.grs_world.proofs.star.Answering.{Taken, tells-new, asker-settled}
 use Rattle.grs_world.proofs.star.Ghosts.{IsOthers, others-ask, told-free}
 use Rattle.grs_world.proofs.star.Under.{res-entry}

@@ -4,16 +4,16 @@ use Rattle.grs_world.proofs.Common.{and_parts, ap, AreLists, arith, Bool, cond, 
 use Rattle.grs_world.proofs.Common.{List, list_all, list_all-append, list_of, lists, look, looks, lt-ltb, ltb-true}
 use Rattle.grs_world.proofs.Common.{nat_le, nat_lt, or_left, or_right, refl, Res, Row, rows-lists, rows_of, RunItem}
 use Rattle.grs_world.proofs.Common.{Slice, slice_of, Some, State, suc, true, zero, ℕ}
-use Rattle.std.specs.Ordering.{is_lt}
 use Rattle.std.proofs.lemmas.Bool.{leb-true, le-leb}
-use Rattle.grs_base.specs.Lists.{is_apart}
+use Rattle.grs_known.proofs.lists.Rows.{rows-tell}
+use Rattle.grs_known.specs.Items.{lists_from}
 use Rattle.grs_base.specs.Looks.{is_of_place, is_shown, matches, is_contended}
+use Rattle.std.specs.Ordering.{is_lt}
+use Rattle.grs_base.specs.Lists.{is_apart}
 use Rattle.grs_base.specs.ResOrder.{res_order}
 use Rattle.star_client.specs.Client.{slice_in, is_among, tells_owners, can_show, can_show_all, is_before_in}
 use Rattle.star_client.specs.Client.{is_shown_before, are_in_order}
-use Rattle.grs_known.specs.Items.{lists_from}
 use Rattle.grs_known.proofs.lists.Elements.{apart-fixed}
-use Rattle.grs_known.proofs.lists.Rows.{rows-tell}
 use Rattle.grs_known.proofs.lists.Shows.{do_rise, is_before_all, look-rises}
 use Rattle.grs_base.specs.declared.resource.Res.TheVariants as resources
 

@@ -33,7 +33,7 @@ module _ (deck : Deck) (some : 0 < deck.entries) (w : World) (g : IsWhole deck w
   abbrev p : StarPart
   p = part deck w g c n at
 
-  acts-outcome : (o : Turnout) → Acts deck w.medium c n (part deck w g c n at) o → Comes deck w g c n o
+  acts-outcome : (o : Turnout) → Acts deck w.medium c n p o → Comes deck w g c n o
   acts-outcome o (decided t a x asked mine) =
       outcome-own deck some w g c inside n at t asked.may a asked.asks x asked.entry mine
   acts-outcome o (began t a x asked other none) =
@@ -45,8 +45,7 @@ module _ (deck : Deck) (some : 0 < deck.entries) (w : World) (g : IsWhole deck w
   acts-outcome o (told e x first) = outcome-tell deck w g c n at e x first
   acts-outcome o (left x flags free by) = outcome-leave deck some w g c inside n at x free by flags
 
-  came-outcome : GoneAreRemoved deck w → (o : Turnout) → Came deck w.medium c n (part deck w g c n at) o
-      → Comes deck w g c n o
+  came-outcome : GoneAreRemoved deck w → (o : Turnout) → Came deck w.medium c n p o → Comes deck w g c n o
   came-outcome removed o (nothing flags) = comes-nothing deck w g c n at flags
   came-outcome removed o (informed known) = comes-known deck w g c n at known
   came-outcome removed o (went_on t may) = outcome-task deck w g c n at t may

@@ -10,9 +10,10 @@ use Rattle.grs_world.proofs.Common.{Option, or_right, outstanding, owns, Part, r
 use Rattle.grs_world.proofs.Common.{reply_in, Req, Res, RunItem, same_task, same_task-exact, Some, State, state_of}
 use Rattle.grs_world.proofs.Common.{subst, sym, SysId, TaskId, true, Want, ℕ}
 use Rattle.grs_wire.specs.declared.medium.Mail.TheVariants.{Request}
+use Rattle.grs_known.proofs.lists.Facts.{list_any-push}
+use Rattle.grs_known.proofs.known.Blank.{right-blank, coming-other, coming-sent, coming-granted}
 use Rattle.grs_known.specs.Known.{Known, IsRight, learns_item, learns_control, News, Answers, Grants, Wants, Silent}
 use Rattle.grs_known.specs.Known.{is_answer_to}
-use Rattle.grs_known.proofs.lists.Facts.{list_any-push}
 use Rattle.grs_known.proofs.lists.Truths.{or_off}
 use Rattle.grs_world.proofs.system.AtNode.{opens_of, seen-known}
 use Rattle.grs_world.proofs.system.Puts.{home-task}
@@ -20,7 +21,6 @@ use Rattle.grs_world.proofs.star.Answering.{Settled, asker-settled}
 use Rattle.grs_world.proofs.star.Ghosts.{ghosted, IsAt, IsOthers, at-other}
 use Rattle.grs_world.proofs.star.Members.{has_manager}
 use Rattle.grs_world.proofs.star.Shown.{AreApart, apart-lists}
-use Rattle.grs_known.proofs.known.Blank.{right-blank, coming-other, coming-sent, coming-granted}
 use Rattle.grs_wire.specs.declared.request.Fixed.TheVariants as fixing
 
 -- ---- what comes, by the mail

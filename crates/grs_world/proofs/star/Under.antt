@@ -6,10 +6,10 @@ use Rattle.grs_world.proofs.Common.{list_of-part, Look, look, looks, nat_le, nat
 use Rattle.grs_world.proofs.Common.{part, refl, Release, Res, res_wanted, Rows, same_res, same_res-exact, same_Some}
 use Rattle.grs_world.proofs.Common.{Slice, slice_of, Some, State, suc, sym, TaskId, true, Want, zero, ℕ}
 use Rattle.contention_mgr.specs.Manager.{are_of, entry_of_looks}
+use Rattle.grs_known.proofs.lists.Parts.{after_want-part, answer_to-part, new_owners-part, part-want_other}
 use Rattle.grs_base.specs.Looks.{is_of_place}
 use Rattle.grs_known.proofs.lists.All.{has_task-all}
 use Rattle.grs_known.proofs.lists.Shows.{look-alike}
-use Rattle.grs_known.proofs.lists.Parts.{after_want-part, answer_to-part, new_owners-part, part-want_other}
 use Rattle.grs_base.specs.declared.resource.Res.TheVariants as resources
 
 -- whether a resource is of a lock entry, where there are so many

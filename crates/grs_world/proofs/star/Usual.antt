@@ -7,9 +7,9 @@ use Rattle.grs_world.proofs.Common.{manages, no_truth, NodeState, None, not, Opt
 use Rattle.grs_world.proofs.Common.{same_res, same_res-itself, same_Some, same_task, same_task-itself, slice_get, Some}
 use Rattle.grs_world.proofs.Common.{StarPart, subst, suc, sym, SysId, true, true≢false, unwrap_or, World, zero, ℕ}
 use Rattle.std.proofs.Common.{is_some}
-use Rattle.contention_mgr.specs.Loses.{stays}
 use Rattle.contention_mgr.specs.Manager.{plain as plain_lists}
 use Rattle.grs_node.specs.Star.{serves}
+use Rattle.contention_mgr.specs.Loses.{stays}
 use Rattle.grs_world.proofs.run.Site.{Site}
 use Rattle.grs_world.proofs.star.Elements.{near-has}
 use Rattle.grs_world.proofs.star.Members.{IsPart, all_lists}
@@ -62,7 +62,7 @@ module _ (deck : Deck) (w : World) (g : IsWhole deck w) (c : SysId) (n : NodeSta
   abbrev p : StarPart
   p = part deck w g c n at
 
-  fits : IsPart deck w.medium.words (all_lists w) c.0 (part deck w g c n at)
+  fits : IsPart deck w.medium.words (all_lists w) c.0 p
   fits = (g.roles.node c.0 n at).fits
 
   -- who was removed isn't live
@@ -70,14 +70,13 @@ module _ (deck : Deck) (w : World) (g : IsWhole deck w) (c : SysId) (n : NodeSta
   dead u out = false_by (are_live w u) (λ live. no_truth (has w.medium.removed u) out (live-below w u live).1)
 
   -- an element is of a system with interest in its entry, so of a live one
-  item-stays : (u : ℕ) → has w.medium.removed u ≡ true → (e : ℕ) (m : Managed)
-      → kept_at (part deck w g c n at).manager.entries e ≡ Some m → (i : ℕ) (x : Ranked)
-      → slice_get m.items i ≡ Some x → stays u x ≡ true
+  item-stays : (u : ℕ) → has w.medium.removed u ≡ true → (e : ℕ) (m : Managed) → kept_at p.manager.entries e ≡ Some m
+      → (i : ℕ) (x : Ranked) → slice_get m.items i ≡ Some x → stays u x ≡ true
   item-stays u out e m kept i x there =
       ap (λ b. not (is_systems x.res && b)) (false_by (u == x.elem.task.system.0) apart)
       ∙ ap not (and-false (is_systems x.res))
     where
-      mine : manages (part deck w g c n at) e ≡ true
+      mine : manages p e ≡ true
       mine = ap is_some kept
 
       listed : has_task (list_of (under deck.entries e (all_lists w)) x.res) x.elem.task ≡ true
@@ -118,19 +117,16 @@ module _ (deck : Deck) (w : World) (g : IsWhole deck w) (c : SysId) (n : NodeSta
           ∙ (ap (λ v. is_interested w.medium.words e v) (sym (eqb-true u x.elem.task.system.0 same))
           ∙ (g.roles.nobody e u (dead u out)).0)))
 
-  lists-stay : (u : ℕ) → has w.medium.removed u ≡ true
-      → list_all (is_without u) (part deck w g c n at).manager.entries ≡ true
+  lists-stay : (u : ℕ) → has w.medium.removed u ≡ true → list_all (is_without u) p.manager.entries ≡ true
   lists-stay u out = all-at (is_without u) p.manager.entries one
     where
-      one : (e : ℕ) (o : Option Managed) → slice_get (part deck w g c n at).manager.entries e ≡ Some o
-          → is_without u o ≡ true
+      one : (e : ℕ) (o : Option Managed) → slice_get p.manager.entries e ≡ Some o → is_without u o ≡ true
       one e None at_e = refl
       one e (Some m) at_e =
           all-at (stays u) m.items (item-stays u out e m (ap (λ z. unwrap_or z None) at_e))
 
   -- ---- requests are of live systems
-  hands : Hands deck w.medium.words (are_live w) g.later g.out c.0
-      (in_hands (part deck w g c n at) (inbox w.medium c.0))
+  hands : Hands deck w.medium.words (are_live w) g.later g.out c.0 (in_hands p (inbox w.medium c.0))
   hands = g.hands c.0 n p at (g.roles.node c.0 n at).star
 
   hand-behind : (xs : List Req) (q : Req) (ys : List Req)
@@ -151,14 +147,13 @@ module _ (deck : Deck) (w : World) (g : IsWhole deck w) (c : SysId) (n : NodeSta
       ∙ (live-below w q.task.system.0 all.0.below).1))))))
       (held-stay u out qs zs all.1)
 
-  served : (q : Req) → IsHand deck w.medium.words (are_live w) g.later g.out c.0 q
-      → serves (part deck w g c n at) q ≡ true
+  served : (q : Req) → IsHand deck w.medium.words (are_live w) g.later g.out c.0 q → serves p q ≡ true
   served q hand =
       ap (λ k. is_some (kept_for p.manager.entries (entry_wanted k q.want))) fits.entries
       ∙ (ap (λ o. is_some (kept_for p.manager.entries o)) hand.at ∙ (fits.roles hand.entry ∙ hand.managed))
 
-  first-served : (qs zs : List Req) → AllHands deck w.medium.words (are_live w) g.later g.out c.0 (qs ++ zs)
-      → (q : Req) → slice_get qs 0 ≡ Some q → serves (part deck w g c n at) q ≡ true
+  first-served : (qs zs : List Req) → AllHands deck w.medium.words (are_live w) g.later g.out c.0 (qs ++ zs) → (q : Req)
+      → slice_get qs 0 ≡ Some q → serves p q ≡ true
   first-served [] zs all q here = absurd (cc)
   first-served (x ∷ qs) zs all q here =
       served q (subst (IsHand deck w.medium.words (are_live w) g.later g.out c.0) (same_Some x q here) all.0)
@@ -177,7 +172,7 @@ module _ (deck : Deck) (w : World) (g : IsWhole deck w) (c : SysId) (n : NodeSta
   mail-usual (mails.Part e from records) rest is =
       (subst (AllFit deck w.medium.words c.0) is (g.system c.0 n at).fits).0
 
-  pub usual : IsUsual deck w.medium c n (part deck w g c n at)
+  pub usual : IsUsual deck w.medium c n p
   usual = record {
     star = (g.roles.node c.0 n at).star;
     calm = fits.calm;

@@ -8,8 +8,8 @@ use Rattle.grs_world.proofs.Common.{NodeState, None, not-true, noticed, Option, 
 use Rattle.grs_world.proofs.Common.{Res, RunItem, slice_get-get_or, Some, stand_apart, StarPart, subst, sym, SysId}
 use Rattle.grs_world.proofs.Common.{System, task_step, TaskId, Told, true, Turnout, without_gone, World, ℕ}
 use Rattle.std.specs.Prelude.{not, ◌&&◌}
-use Rattle.grs_base.specs.declared.resource.Res.TheVariants.{Step as StepRes, Systems}
 use Rattle.grs_known.proofs.known.Histories.{wants-round}
+use Rattle.grs_base.specs.declared.resource.Res.TheVariants.{Step as StepRes, Systems}
 use Rattle.grs_world.proofs.star.Elements.{AreNear, is_near_res, near-stays, near-want}
 use Rattle.grs_world.proofs.system.AtNode.{MayFix, fix-history}
 use Rattle.grs_world.proofs.star.Ghosts.{IsOthers, others-fix}

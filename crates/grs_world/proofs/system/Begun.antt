@@ -5,9 +5,9 @@ use Rattle.grs_world.proofs.Common.{lt-ltb, Meaning, nat_lt, new_task, new_tasks
 use Rattle.grs_world.proofs.Common.{slice_get_within, Some, some_of, stand_apart, state_of, subst, suc, sym, TaskId}
 use Rattle.grs_world.proofs.Common.{true, zero, ℕ}
 use Rattle.std.proofs.Common.{get_or}
+use Rattle.grs_known.proofs.system.Ours.{script_at}
 use Rattle.grs_world.proofs.system.AtNode.{Seen}
 use Rattle.grs_world.proofs.system.First.{first_told}
-use Rattle.grs_known.proofs.system.Ours.{script_at}
 
 new_tasks-blank : (n i : ℕ) → get_or (new_tasks n) i new_task ≡ new_task
 new_tasks-blank zero i = grind (arith)

@@ -3,9 +3,9 @@
 use Rattle.grs_world.proofs.Common.{[], ◌||◌, ◌∙◌, ◌∷◌, ◌≡◌, Bool, Deck, eq-eqb, false, is_res_of, is_systems, Line}
 use Rattle.grs_world.proofs.Common.{lines_of, List, map, Meaning, meanings, None, Option, option_map, refl, Res}
 use Rattle.grs_world.proofs.Common.{scripts_of, slice_get, Some, subst, sym, SysId, TaskId, true, ℕ}
+use Rattle.grs_legal.specs.Asks.{meaning_of, lines_in}
 use Rattle.grs_base.specs.declared.line.Scope.{Scope}
 use Rattle.grs_base.specs.declared.rnl.Lists.{Lists}
-use Rattle.grs_legal.specs.Asks.{meaning_of, lines_in}
 use Rattle.scope_resolve.specs.Resolve.{res_in}
 use Rattle.grs_node.proofs.Places.{slice_get-map}
 use Rattle.grs_base.specs.declared.line.Line.TheVariants as written

@@ -12,15 +12,15 @@ use Rattle.grs_world.proofs.Common.{res_wanted, rounds, RunItem, same_task, same
 use Rattle.grs_world.proofs.Common.{stand_apart, State, state_of, StaysGood, subst, sym, task-open, TaskId, TaskState}
 use Rattle.grs_world.proofs.Common.{TasksView, tell_answer, tell_answer_any, tell_new, ToldBy, true, unasked_by, Want}
 use Rattle.grs_world.proofs.Common.{wants_round, ℕ}
-use Rattle.grs_wire.specs.contracts.request.WantPartialEq.TheImpl.{eq-value as same_want}
 use Rattle.ring_mode.specs.Ring.{Side, is_asked}
+use Rattle.grs_known.proofs.lists.Shows.{looks-are}
+use Rattle.grs_known.proofs.system.Events.{Decides, Leaves, Looks, tells_good}
+use Rattle.grs_wire.specs.contracts.request.WantPartialEq.TheImpl.{eq-value as same_want}
 use Rattle.ring_mode.proofs.WantLaws.{want-itself}
 use Rattle.grs_known.proofs.known.Knowing.{one-some}
 use Rattle.grs_known.proofs.ring.Due.{ReadBy, read_by}
 use Rattle.grs_known.proofs.known.Knows.{KnowsLooks, entry-learned, looks-learned}
-use Rattle.grs_known.proofs.lists.Shows.{looks-are}
 use Rattle.grs_world.proofs.system.AtNode.{opens_of, Seen, after-asked, not-ours}
-use Rattle.grs_known.proofs.system.Events.{Decides, Leaves, Looks, tells_good}
 use Rattle.grs_known.proofs.system.Outstanding.{asked-good}
 use Rattle.grs_wire.specs.declared.request.Fixed.TheVariants as fixing
 

@@ -12,16 +12,16 @@ use Rattle.grs_world.proofs.Common.{same_Some, same_task, same_task-exact, same_
 use Rattle.grs_world.proofs.Common.{Speaks, speaks-known, stand_apart, state_of, subst, suc, sym, SysId, take}
 use Rattle.grs_world.proofs.Common.{take-none, task-open, TaskId, TaskState, TasksView, true, unasked_by, Want}
 use Rattle.grs_world.proofs.Common.{with_phase, zero, ℕ}
-use Rattle.std.proofs.lemmas.List.{take-append-drop}
-use Rattle.grs_legal.specs.Asks.{AsksEnq, AsksDeq, AsksRelease}
-use Rattle.grs_known.specs.Known.{falls_behind}
-use Rattle.grs_known.proofs.known.Knowing.{one-none, outstanding-own}
-use Rattle.grs_known.proofs.known.Following.{is_full-known, may_follow, may_follow_looks}
+use Rattle.grs_known.proofs.system.Asking.{unasked, looks-asked}
 use Rattle.grs_known.proofs.known.Histories.{stays-ask}
 use Rattle.grs_known.proofs.known.Knows.{Knows, knows-behind, past-behind}
+use Rattle.grs_legal.specs.Asks.{AsksEnq, AsksDeq, AsksRelease}
+use Rattle.grs_known.proofs.known.Knowing.{one-none, outstanding-own}
+use Rattle.grs_known.specs.Known.{falls_behind}
+use Rattle.std.proofs.lemmas.List.{take-append-drop}
+use Rattle.grs_known.proofs.known.Following.{is_full-known, may_follow, may_follow_looks}
 use Rattle.grs_known.proofs.tasks.Asked.{next-asked}
 use Rattle.grs_known.proofs.tasks.Steps.{next-ending}
-use Rattle.grs_known.proofs.system.Asking.{unasked, looks-asked}
 use Rattle.grs_world.proofs.system.AtNode.{opens_of, Seen, mine-left, part-round, seen-more}
 use Rattle.grs_known.proofs.system.Telling.{told-phase}
 use Rattle.grs_legal.specs.declared.meaning.Meaning.TheVariants as lines

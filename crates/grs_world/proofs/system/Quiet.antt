@@ -19,38 +19,38 @@ use Rattle.grs_world.proofs.Common.{StaysGood, subst, suc, sym, SysId, take_line
 use Rattle.grs_world.proofs.Common.{TaskState, TasksView, tell_code, tell_new, tell_rows, telling, tells_control}
 use Rattle.grs_world.proofs.Common.{ToldBy, ToldLine, true, wait, Want, with_line, with_outstanding, with_phase}
 use Rattle.grs_world.proofs.Common.{with_rows, with_tasks, zero, ℕ}
-use Rattle.grs_base.specs.State.{is_full, enq_code, deq_reply}
-use Rattle.grs_legal.specs.Asks.{AsksEnq, AsksDeq, AsksRelease, asks_in, home_asks}
+use Rattle.grs_known.proofs.system.Askers.{apart-push}
+use Rattle.grs_known.proofs.system.Says.{more}
+use Rattle.grs_known.proofs.known.Histories.{live-push, wants-round, has-may}
+use Rattle.grs_known.proofs.tasks.Invariant.{may_pass}
+use Rattle.grs_known.proofs.system.Good.{Untold, home-ours, ours-home}
 use Rattle.grs_known.specs.Items.{rows_in}
+use Rattle.grs_known.proofs.lists.Shows.{look-own}
+use Rattle.grs_known.proofs.lists.Parts.{own-one_system, answer_to-part}
+use Rattle.grs_base.specs.State.{is_full, enq_code, deq_reply}
+use Rattle.grs_known.proofs.system.Asking.{unasked, IsAtLines, asked-absent, asked-none, sent-absent, held-none}
+use Rattle.grs_known.proofs.system.Asking.{stays-open}
+use Rattle.grs_known.proofs.system.Ours.{ours-line, agrees-ours}
+use Rattle.grs_known.proofs.known.Knows.{knows-closed, owns-still, entry-decided, looks-decided}
+use Rattle.grs_legal.specs.Asks.{AsksEnq, AsksDeq, AsksRelease, asks_in, home_asks}
 use Rattle.grs_known.specs.Past.{has_own}
+use Rattle.grs_known.proofs.system.Turns.{state-is, plain-task}
+use Rattle.grs_known.proofs.system.Events.{Decides, Looks, task-closed, enq-good, deq-good, release-good}
 use Rattle.grs_known.specs.Told.{LineAgrees, TellsWait}
 use Rattle.grs_known.proofs.known.Following.{has-known, is_full-known, may_follow, may_look}
-use Rattle.grs_known.proofs.known.Histories.{live-push, wants-round, has-may}
-use Rattle.grs_known.proofs.known.Knows.{knows-closed, owns-still, entry-decided, looks-decided}
 use Rattle.grs_known.proofs.ring.Reading.{owner-behind}
 use Rattle.grs_known.proofs.lists.Facts.{all-more}
-use Rattle.grs_known.proofs.lists.Parts.{own-one_system, answer_to-part}
-use Rattle.grs_known.proofs.lists.Shows.{look-own}
 use Rattle.grs_known.proofs.tasks.Asked.{Asks, next-asked}
-use Rattle.grs_known.proofs.tasks.Invariant.{may_pass}
 use Rattle.grs_known.proofs.tasks.Keys.{has_res-own}
 use Rattle.grs_known.proofs.tasks.Looks.{next-home}
 use Rattle.grs_known.proofs.tasks.Others.{task-leaving, task-told}
 use Rattle.grs_known.proofs.tasks.Records.{found, not_found}
 use Rattle.grs_known.proofs.tasks.Speaking.{has-speaks}
 use Rattle.grs_known.proofs.tasks.Steps.{task-skipped, task-waited, task-held, task-ending, next-ending, task-ended}
-use Rattle.grs_known.proofs.system.Askers.{apart-push}
-use Rattle.grs_known.proofs.system.Asking.{unasked, IsAtLines, asked-absent, asked-none, sent-absent, held-none}
-use Rattle.grs_known.proofs.system.Asking.{stays-open}
 use Rattle.grs_world.proofs.system.AtNode.{opens_of, Seen, MayFix, own_ask, own_look, QuietStep, keeps, fixes}
 use Rattle.grs_world.proofs.system.AtNode.{fix-history, part-look, part-same}
 use Rattle.grs_known.proofs.system.Displays.{looks-begun, shown-at_once}
-use Rattle.grs_known.proofs.system.Events.{Decides, Looks, task-closed, enq-good, deq-good, release-good}
-use Rattle.grs_known.proofs.system.Good.{Untold, home-ours, ours-home}
 use Rattle.grs_world.proofs.system.Meant.{is_own, IsHome, lines_own}
-use Rattle.grs_known.proofs.system.Ours.{ours-line, agrees-ours}
-use Rattle.grs_known.proofs.system.Says.{more}
-use Rattle.grs_known.proofs.system.Turns.{state-is, plain-task}
 use Rattle.grs_legal.specs.declared.meaning.Meaning.TheVariants as lines
 use Rattle.grs_wire.specs.declared.history.HistEntry.TheVariants as entries
 use Rattle.grs_wire.specs.declared.request.Answer.TheVariants as answers

@@ -5,13 +5,13 @@ use Rattle.grs_world.proofs.Common.{is_systems, IsGood, IsHistory, lines_of, Lis
 use Rattle.grs_world.proofs.Common.{NodeState, none, not, Opens, owns, refl, remove_state, Req, Res, rounds, Row}
 use Rattle.grs_world.proofs.Common.{rows-lists, rows_of, RunItem, Some, State, StaysGood, sym, SysId, TaskId, TasksView}
 use Rattle.grs_world.proofs.Common.{tell_freed, tell_new, ToldBy, ToldLine, true, ℕ}
-use Rattle.grs_base.specs.State.{is_of_other}
-use Rattle.grs_node.specs.Node.{process_removal}
-use Rattle.grs_wire.proofs.RemoveLaws.{list_of-remove}
 use Rattle.freed_owners.specs.Freed.{newcomers}
 use Rattle.grs_known.proofs.lists.Owners.{picked-owns}
-use Rattle.grs_known.proofs.ring.Due.{owns_left}
+use Rattle.grs_base.specs.State.{is_of_other}
+use Rattle.grs_node.specs.Node.{process_removal}
 use Rattle.grs_known.proofs.system.Events.{tells_good}
+use Rattle.grs_wire.proofs.RemoveLaws.{list_of-remove}
+use Rattle.grs_known.proofs.ring.Due.{owns_left}
 use Rattle.grs_known.proofs.system.Telling.{StillOwns}
 use Rattle.grs_world.proofs.system.AtNode.{opens_of, Seen}
 use Rattle.grs_wire.specs.declared.request.Fixed.TheVariants as fixing

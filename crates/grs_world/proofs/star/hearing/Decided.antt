@@ -98,9 +98,7 @@ module _ (deck : Deck) (w : World) (g : IsWhole deck w) (c : SysId) (n : NodeSta
   here : (u : TaskId) → is_home_at deck c.0 u ≡ true → is_task n.tasks u ≡ true
   here u own = (g.system c.0 n at).at.good.here u own
 
-  k :
-      Answered n.tasks (tell_answer_ranked n.tasks t a (answer_to (lists (items w.fixed)) t a.req.want) rank) t
-      a.req.want (grants (answer_to (lists (items w.fixed)) t a.req.want))
+  k : Answered n.tasks v1 t a.req.want (grants (answer_to (lists T) t a.req.want))
   k = answered n.tasks t (here t home) a (answer_to (lists T) t want) rank
 
   gentle : Gentle v1 v2
@@ -196,7 +194,7 @@ module _ (deck : Deck) (w : World) (g : IsWhole deck w) (c : SysId) (n : NodeSta
     asker-stays (inr (inr u)) = inr (inr (untold-own deck w g c n at o refl t v u))
 
     -- it owns by this answer
-    asker-gains : owns (list_of (lists (items w.fixed)) v) t ≡ false → had_by n' t v ≡ true
+    asker-gains : owns (list_of (lists T) v) t ≡ false → had_by n' t v ≡ true
     asker-gains before =
         let asks = gain-asks (lists T) t want v t before after in
         let res : v ≡ asks.0 = gained-res (lists T) t want asks.0 v t asks.1 before after in

@@ -7,12 +7,12 @@ use Rattle.grs_world.proofs.Common.{IsOutstanding, last_of, List, list_all, list
 use Rattle.grs_world.proofs.Common.{NodeState, None, one, Option, outstanding, past_of, refl, replies_are_answers}
 use Rattle.grs_world.proofs.Common.{reply_in, Req, Res, res_wanted, RunItem, same_Some, same_task-itself, Some}
 use Rattle.grs_world.proofs.Common.{speaks-known, State, state_of, subst, sym, TaskId, true, ℕ}
+use Rattle.grs_known.proofs.known.Blank.{no-answer}
+use Rattle.grs_known.proofs.tasks.Invariant.{key}
+use Rattle.grs_known.proofs.system.Asking.{records-unasked}
 use Rattle.std.specs.Prelude.{◌⊎◌}
 use Rattle.grs_known.proofs.known.Following.{has-known}
-use Rattle.grs_known.proofs.known.Blank.{no-answer}
-use Rattle.grs_known.proofs.system.Asking.{records-unasked}
 use Rattle.grs_known.proofs.system.Busy.{busy-behind, busy-idle, busy-looks}
-use Rattle.grs_known.proofs.tasks.Invariant.{key}
 use Rattle.grs_known.proofs.tasks.Keys.{has_res-own}
 use Rattle.grs_world.proofs.star.Ghosts.{ghosted}
 use Rattle.grs_world.proofs.star.Mailed.{sent-among}

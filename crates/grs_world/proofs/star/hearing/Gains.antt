@@ -11,21 +11,21 @@ use Rattle.grs_world.proofs.Common.{Option, option_map_or, owns, owns-has, plain
 use Rattle.grs_world.proofs.Common.{res_wanted, Ret, RunItem, same_res, same_res-exact, same_Some, same_task, settled}
 use Rattle.grs_world.proofs.Common.{slice_get, slice_get_within, slice_set, Some, standing_of, State, subst, suc, sym}
 use Rattle.grs_world.proofs.Common.{TaskId, true, unwrap_or, Want, with_entry, ℕ}
+use Rattle.contention_mgr.specs.Manager.{queues, rank_for, told, enqueued, given_up}
+use Rattle.grs_wire.specs.Wants.{became_owners, became_owners_of}
+use Rattle.grs_base.specs.Lists.{can_have, decide_enq, enq_decision, is_owner, list_after, list_without}
+use Rattle.grs_known.proofs.lists.Owners.{is_among-became}
+use Rattle.grs_base.specs.State.{without}
 use Rattle.contention_mgr.specs.Elements.{holds}
 use Rattle.contention_mgr.specs.Laws.{gains, untold_at}
-use Rattle.contention_mgr.specs.Manager.{queues, rank_for, told, enqueued, given_up}
 use Rattle.contention_mgr.proofs.ItemLemmas.{holds-list}
 use Rattle.contention_mgr.proofs.OwnLemmas.{gainers_are_untold, telling_tells, untold_follow}
-use Rattle.grs_base.specs.Lists.{can_have, decide_enq, enq_decision, is_owner, list_after, list_without}
-use Rattle.grs_base.specs.State.{without}
 use Rattle.grs_base.specs.declared.decision.Effect.{Effect}
 use Rattle.grs_base.specs.declared.decision.Effect.TheVariants.{Nothing, Append, MakeExclusive}
 use Rattle.grs_base.specs.declared.decision.Standing.TheVariants.{Absent}
 use Rattle.grs_base.proofs.ListLaws.{has_task-append, has_task-exclusive, has_task-filter, is_owner-standing}
 use Rattle.grs_base.proofs.StateLaws.{appends_absent, list_at-without, list_of-effect, only_owner, res_equality}
-use Rattle.grs_wire.specs.Wants.{became_owners, became_owners_of}
 use Rattle.grs_wire.proofs.WantLaws.{absent-has, list_of-want_other, speaks_of}
-use Rattle.grs_known.proofs.lists.Owners.{is_among-became}
 use Rattle.grs_known.proofs.lists.Requests.{owns-push}
 use Rattle.grs_world.proofs.star.Roles.{kept-set}
 use Rattle.grs_world.proofs.star.Heard.{enq_count, grants, is_enq, is_enq_want}

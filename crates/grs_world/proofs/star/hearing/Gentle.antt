@@ -16,17 +16,17 @@ use Rattle.grs_world.proofs.Common.{take_line, task_step, TaskId, TaskState, Tas
 use Rattle.grs_world.proofs.Common.{tell_answer_ranked, tell_code, tell_control, tell_new, tell_rows, tell_untold}
 use Rattle.grs_world.proofs.Common.{telling, ToldLine, true, unrecorded, Wait, wait, Want, with_line, with_phase}
 use Rattle.grs_world.proofs.Common.{with_rank, with_rank_of, with_rows, with_tasks, zero, â„•}
-use Rattle.grs_base.specs.declared.decision.Code.TheVariants.{C18}
-use Rattle.grs_wire.specs.declared.request.Answer.TheVariants.{Coded as CodedAnswer}
 use Rattle.task_state.specs.Replies.{is_changed, is_queued, phase_after, phase_asking, answered as answered_by}
 use Rattle.task_state.specs.Replies.{next_asked}
+use Rattle.grs_base.specs.declared.decision.Code.TheVariants.{C18}
 use Rattle.task_state.specs.View.{with_last, with_last_by, without_first}
+use Rattle.grs_known.proofs.records.Control.{Controlled, hears-has, hears-marked, hears-marks, hears-phase}
 use Rattle.grs_known.proofs.system.Did.{did-after_code_deq, did-after_code_enq, did-after_code_release, did-state}
+use Rattle.grs_wire.specs.declared.request.Answer.TheVariants.{Coded as CodedAnswer}
 use Rattle.grs_known.proofs.tasks.Asked.{told_after}
 use Rattle.grs_known.proofs.tasks.Decided.{enq_records}
 use Rattle.grs_known.proofs.tasks.Keys.{gone-without}
 use Rattle.grs_known.proofs.tasks.Records.{found_has}
-use Rattle.grs_known.proofs.records.Control.{Controlled, hears-has, hears-marked, hears-marks, hears-phase}
 use Rattle.grs_world.proofs.star.Heard.{grants}
 use Rattle.grs_base.specs.declared.resource.Ctl.TheVariants as ctls
 use Rattle.grs_legal.specs.declared.meaning.Meaning.TheVariants as lines
@@ -409,13 +409,11 @@ told-code : (v w : TasksView) (t : TaskId) (x : TaskState) (T : List ToldLine) â
 unfolding after_code
 told-code v w t x T here d (Enq r c ret full) unit code =
     let y :
-    TaskState = record {
-      line = x.line;
+    TaskState =
+    record x {
       phase = phase_after code;
       code = code_in (phase_after code) x.code;
       records = enq_records r c unit ret code x.line x.records;
-      outstanding = x.outstanding;
-      rows = x.rows;
     } in
     record {
       state = y;
@@ -427,13 +425,11 @@ told-code v w t x T here d (Enq r c ret full) unit code =
     }
 told-code v w t x T here d (Deq r have) unit code =
     let y :
-    TaskState = record {
-      line = x.line;
+    TaskState =
+    record x {
       phase = phase_after code;
       code = code_in (phase_after code) x.code;
       records = cond (is_granted code) (without_first x.records r) x.records;
-      outstanding = x.outstanding;
-      rows = x.rows;
     } in
     record {
       state = y;
@@ -540,14 +536,7 @@ answered v t here a answer rank =
     let x : TaskState = state_of v t in
     let p : Phase = phase_asking w x.code in
     let y :
-    TaskState = record {
-      line = x.line;
-      phase = p;
-      code = code_in p x.code;
-      records = x.records;
-      outstanding = None;
-      rows = x.rows;
-    } in
+    TaskState = record x { phase = p; code = code_in p x.code; outstanding = None } in
     let d : Did v (recalled v t w) t y v.told =
     did-outstanding v (with_phase v t p) t (record x { phase = p; code = code_in p x.code }) v.told here
     (did-phase v v t x v.told here (did-none v t) p) None in

@@ -3,9 +3,9 @@ use Rattle.grs_world.proofs.Common.{[], ◌&&◌, ◌++◌, ◌||◌, ◌∙◌,
 use Rattle.grs_world.proofs.Common.{askers, Bool, cond, Deck, false, Granted, inl, inr, is_among, last_number, List}
 use Rattle.grs_world.proofs.Common.{list_any, Mail, nat_le, not, Notice, or_left, or_right, Part, refl, Req, Res}
 use Rattle.grs_world.proofs.Common.{same_res, same_res-itself, same_task, same_task-itself, subst, sym, TaskId, true, ℕ}
+use Rattle.grs_wire.specs.declared.medium.Mail.TheVariants.{Request}
 use Rattle.std.specs.Prelude.{◌⊎◌}
 use Rattle.grs_known.specs.Known.{is_answer_to}
-use Rattle.grs_wire.specs.declared.medium.Mail.TheVariants.{Request}
 use Rattle.grs_world.proofs.star.Heard.{AreAddressed, grants, hears, is_timely}
 use Rattle.grs_world.proofs.star.Systems.{news_of, requests_in}
 

@@ -4,8 +4,8 @@ use Rattle.grs_world.proofs.Common.{[], ◌&&◌, ◌++◌, ◌∙◌, ◌∷◌
 use Rattle.grs_world.proofs.Common.{arith, Bool, Deck, entry_of_res, entry_wanted, false, is_entry, is_some, items_of}
 use Rattle.grs_world.proofs.Common.{length, List, list_of, Managed, managed_at, ne_eqb, not, owns, plain, refl, Res}
 use Rattle.grs_world.proofs.Common.{RunItem, same_task, Some, StarPart, State, subst, suc, sym, TaskId, true, Want, ℕ}
-use Rattle.contention_mgr.specs.Laws.{is_elsewhere, owns_by}
 use Rattle.grs_known.proofs.lists.Alike.{alike-want}
+use Rattle.contention_mgr.specs.Laws.{is_elsewhere, owns_by}
 use Rattle.grs_world.proofs.star.Heard.{enq_count, is_enq, is_enq_want}
 use Rattle.grs_world.proofs.star.Members.{IsPart}
 use Rattle.grs_world.proofs.star.Under.{entry-same, in_entry, list-under, res-entry, under, under-want}

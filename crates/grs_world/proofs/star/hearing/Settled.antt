@@ -234,7 +234,7 @@ module _ (deck : Deck) (w : World) (g : IsWhole deck w) (c : SysId) (n : NodeSta
         (ap (λ (z : StarPart). managed_at z.manager e) (same_Some p' v known) ∙ is));
   })
     where
-      ranks : (e : ℕ) (x : Managed) → managed_at p.manager e ≡ Some x → x.next ≤ suc (enq_count (items w.fixed))
+      ranks : (e : ℕ) (x : Managed) → managed_at p.manager e ≡ Some x → x.next ≤ suc (enq_count T)
       ranks e x is = h.ranks c.0 n p e x at star is
 
       part : (v : StarPart) → n.star ≡ Some v → p ≡ v

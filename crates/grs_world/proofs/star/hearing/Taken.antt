@@ -14,12 +14,12 @@ use Rattle.grs_world.proofs.Common.{same_task-exact, Some, standing_of, StarPart
 use Rattle.grs_world.proofs.Common.{SysId, TaskId, TaskState, TasksView, tell_answer_any_ranked, tell_answer_ranked}
 use Rattle.grs_world.proofs.Common.{tell_control, true, Turnout, Wait, Want, without_first, World, ℕ}
 use Rattle.std.specs.Prelude.{◌⊎◌, drop}
-use Rattle.grs_base.specs.Lists.{can_have, deq_code, enq_decision}
+use Rattle.star_client.specs.Client.{can_get, deq_codes, enq_codes, has_sent, is_awaited, is_code_of, same_code}
+use Rattle.grs_wire.specs.declared.medium.Mail.TheVariants.{Request}
 use Rattle.grs_base.specs.declared.decision.Code.TheVariants.{C18}
+use Rattle.grs_base.specs.Lists.{can_have, deq_code, enq_decision}
 use Rattle.grs_base.specs.declared.decision.Standing.{Standing}
 use Rattle.grs_base.specs.declared.decision.Standing.TheVariants.{Exclusive, OnlyShared, AmongShared, Waits, Absent}
-use Rattle.grs_wire.specs.declared.medium.Mail.TheVariants.{Request}
-use Rattle.star_client.specs.Client.{can_get, deq_codes, enq_codes, has_sent, is_awaited, is_code_of, same_code}
 use Rattle.grs_world.proofs.star.Heard.{AreAddressed, IsAddressed, StaysHeard, enq_count, grants, had_by, hears}
 use Rattle.grs_world.proofs.star.Heard.{is_timely}
 use Rattle.grs_world.proofs.star.Members.{IsPart, all_lists, has_manager}
@@ -488,8 +488,7 @@ module _ (deck : Deck) (w : World) (g : IsWhole deck w) (c : SysId) (n : NodeSta
                 ap (λ (y : Asked). res_wanted y.req.want) (same_Some z.asked d.asked (sym z.is ∙ d.is)) ∙ d.wanted
 
         takes-answered : IsWhole deck (placed w c n o)
-            → Takes deck w g c n at p star (Answered t answer rank) rest is flags
-            (tell_answer_ranked n.tasks t z.asked answer rank) p
+            → Takes deck w g c n at p star (Answered t answer rank) rest is flags v p
         takes-answered g' = record {
           manager = refl;
           hands = λ h u among. among;

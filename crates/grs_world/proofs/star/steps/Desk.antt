@@ -23,8 +23,7 @@ module _ (deck : Deck) (w : World) (g : IsWhole deck w) (c : SysId) (n : NodeSta
   T = items w.fixed
 
   own : (said : Said)
-      → IsSystem deck w.medium.words (items w.fixed) c.0 (desk_told n said) (inbox w.medium c.0) (g.later c.0)
-      (g.out c.0)
+      → IsSystem deck w.medium.words T c.0 (desk_told n said) (inbox w.medium c.0) (g.later c.0) (g.out c.0)
   own said =
       let h = g.system c.0 n at in
       record {

@@ -11,6 +11,7 @@ use Rattle.grs_world.proofs.Common.{owns, Phase, plain, rank_of, refl, Req, requ
 use Rattle.grs_world.proofs.Common.{same_task, Some, StarPart, State, state_of, submitted_words, subst, suc, sym, SysId}
 use Rattle.grs_world.proofs.Common.{TaskId, TasksView, tell_answer_ranked, tell_new, true, with_interest, with_mail}
 use Rattle.grs_world.proofs.Common.{with_phase, with_star, World, ℕ}
+use Rattle.grs_known.proofs.lists.Alike.{answer-alike, owners-alike}
 use Rattle.grs_node.specs.Star.{lists_for}
 use Rattle.grs_known.proofs.lists.Owners.{new-owns}
 use Rattle.grs_world.proofs.star.Plain.{begun}
@@ -28,7 +29,6 @@ use Rattle.grs_world.proofs.star.Worlds.{IsWhole}
 use Rattle.grs_world.proofs.star.hearing.Decided.{heard-decided}
 use Rattle.grs_world.proofs.star.hearing.Gains.{beginning-next, beginning-untold, untold_of}
 use Rattle.grs_world.proofs.star.steps.Outcome.{Comes}
-use Rattle.grs_known.proofs.lists.Alike.{answer-alike, owners-alike}
 use Rattle.grs_world.proofs.run.Site.{Site}
 use Rattle.grs_wire.specs.declared.medium.Mail.TheVariants as mails
 use Rattle.grs_wire.specs.declared.request.Fixed.TheVariants as fixing
@@ -137,11 +137,8 @@ module _ (deck : Deck) (some : 0 < deck.entries) (w : World) (g : IsWhole deck w
 
     -- what it asks
     module _ (a : Asked) (is : (state_of n.tasks t).outstanding ≡ Some a) where
-      owned : (r : Res) → res_wanted a.req.want ≡ Some r → (u : TaskId)
-          → is_among u (new_owners (all_lists w) t a.req.want) ≡ true
-          → owns (list_of (lists (items w.fixed ++ made_item c (items w.fixed) (fixing.Asked (request_of t a)) ∷ [])) r)
-          u
-          ≡ true
+      owned : (r : Res) → res_wanted a.req.want ≡ Some r → (u : TaskId) → is_among u (new_owners L t a.req.want) ≡ true
+          → owns (list_of (lists (items w.fixed ++ made_item c T (fixing.Asked (request_of t a)) ∷ [])) r) u ≡ true
       owned r wanted u among =
           subst (λ s. owns (list_of s r) u ≡ true) (sym (lists-push T (made_item c T (fixing.Asked (request_of t a)))))
           (new-owns L t a.req.want r u wanted among)
@@ -155,13 +152,12 @@ module _ (deck : Deck) (some : 0 < deck.entries) (w : World) (g : IsWhole deck w
         inside_words = let k = want-within deck.entries a.req.want x some of_entry in omega (arith, k, g.roles.words)
 
         -- it is decided by these words and this part, which manages the entry
-        decided : (ws : List ℕ) (flags : ℕ) (grow : WordsGrow w.medium.words ws) (q : StarPart)
-            → IsPart deck ws (all_lists w) c.0 q → manages q x ≡ true → q.held ≡ p.held
+        decided : (ws : List ℕ) (flags : ℕ) (grow : WordsGrow w.medium.words ws) (q : StarPart) → IsPart deck ws L c.0 q
+            → manages q x ≡ true → q.held ≡ p.held
             → ((v : Res) (u : TaskId) → untold_of p.manager v u ≡ true → untold_of q.manager v u ≡ true)
             → ((k : ℕ) → ((i : ℕ) (z : Managed) → managed_at p.manager i ≡ Some z → z.next ≤ suc k)
             → (i : ℕ) (z : Managed) → managed_at q.manager i ≡ Some z → z.next ≤ suc k)
-            →
-            Comes deck w g c n (record {
+            → Comes deck w g c n (record {
               medium = record w.medium { words = ws; rest = flags };
               step = with_star n (decide_own n.tasks q t a);
             })
@@ -194,7 +190,7 @@ module _ (deck : Deck) (some : 0 < deck.entries) (w : World) (g : IsWhole deck w
           abbrev now : List ℕ
           now = submitted_words w.medium.words x c
 
-          grow : WordsGrow w.medium.words (submitted_words w.medium.words x c)
+          grow : WordsGrow w.medium.words now
           grow = submit-grows words x c inside_words inside g.roles.managed
 
           -- nothing is kept of an entry that the system doesn't manage

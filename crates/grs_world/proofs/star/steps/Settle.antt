@@ -6,10 +6,11 @@ use Rattle.grs_world.proofs.Common.{MediumState, new_owners, NodeState, None, Op
 use Rattle.grs_world.proofs.Common.{refl, Release, Req, Res, res_wanted, RunItem, same_Some, slice_get, Some, StarPart}
 use Rattle.grs_world.proofs.Common.{subst, sym, SysId, TaskId, tell_new, told-news, ToldNews, true, Want, with_mail}
 use Rattle.grs_world.proofs.Common.{with_star, World}
-use Rattle.std.specs.Prelude.{drop}
 use Rattle.contention_mgr.specs.Manager.{rank_for}
-use Rattle.grs_known.proofs.lists.Owners.{new-owns}
+use Rattle.grs_known.proofs.lists.Alike.{answer-alike, owners-alike}
 use Rattle.grs_node.specs.Star.{lists_for}
+use Rattle.grs_known.proofs.lists.Owners.{new-owns}
+use Rattle.std.specs.Prelude.{drop}
 use Rattle.grs_world.proofs.star.Plain.{settled_first}
 use Rattle.grs_world.proofs.star.Members.{IsMember, all_lists}
 use Rattle.grs_world.proofs.star.Settling.{follows-now, hand, manager-after, whole-settled}
@@ -18,7 +19,6 @@ use Rattle.grs_world.proofs.star.Under.{under, answer-under, entry-same, owners-
 use Rattle.grs_world.proofs.star.Worlds.{IsHand, IsWhole, are_live, items-one}
 use Rattle.grs_world.proofs.star.hearing.Settled.{heard-settled}
 use Rattle.grs_world.proofs.star.steps.Outcome.{Comes}
-use Rattle.grs_known.proofs.lists.Alike.{answer-alike, owners-alike}
 use Rattle.grs_world.proofs.run.Desks.{tells_tasks}
 use Rattle.grs_world.proofs.at_rest.StarTasks.{dated-by, keeps-new}
 use Rattle.grs_world.proofs.run.Site.{Site}

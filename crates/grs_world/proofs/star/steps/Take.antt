@@ -223,7 +223,7 @@ module _ (deck : Deck) (w : World) (g : IsWhole deck w) (c : SysId) (n : NodeSta
       (g.roles.node c.0 n at).fits
 
   hands_now : (mail : Mail) → inbox w.medium c.0 ≡ mail ∷ rest
-      → Hands deck w.medium.words (are_live w) g.later g.out c.0 (in_hands p (mail ∷ rest))
+      → Hands deck w.medium.words live g.later g.out c.0 (in_hands p (mail ∷ rest))
   hands_now mail is =
       subst (λ ms. Hands deck words live g.later g.out c.0 (in_hands p ms)) is (g.hands c.0 n p at star)
 

@@ -7,11 +7,11 @@ use Rattle.grs_world.proofs.Common.{no_truth, NodeState, None, not, not-true, No
 use Rattle.grs_world.proofs.Common.{owns-has, owns-may, Part, placed, plain, Ranked, refl, Res, RunItem, same_Some}
 use Rattle.grs_world.proofs.Common.{Some, StarPart, State, still-told, subst, sym, SysId, TaskId, to_tell, true}
 use Rattle.grs_world.proofs.Common.{Turnout, with_mail, with_star, World, ℕ}
+use Rattle.grs_wire.specs.declared.medium.Mail.TheVariants.{Request}
+use Rattle.grs_node.specs.Star.{told_by}
 use Rattle.contention_mgr.specs.Manager.{first_untold, owner_of}
 use Rattle.contention_mgr.proofs.LawProofs.{first_is_untold}
 use Rattle.contention_mgr.proofs.OwnLemmas.{first_untold_owns}
-use Rattle.grs_node.specs.Star.{told_by}
-use Rattle.grs_wire.specs.declared.medium.Mail.TheVariants.{Request}
 use Rattle.grs_world.proofs.star.Elements.{near-has}
 use Rattle.grs_world.proofs.star.Members.{IsPart, has_manager, one-manages}
 use Rattle.grs_world.proofs.star.Systems.{IsSystem, IsAway, near_at, requests_in, system-granted}
@@ -145,7 +145,7 @@ module _ (deck : Deck) (w : World) (g : IsWhole deck w) (c : SysId) (n : NodeSta
     box_there = let k = below in omega (arith, k, g.roles.systems, g.roles.inboxes)
 
     others : (u : ℕ) (k : NodeState) → Site w u k
-        → IsSystem deck w.medium.words (items w.fixed) u k (inbox sent_on u) (g.later u) (g.out u)
+        → IsSystem deck w.medium.words T u k (inbox sent_on u) (g.later u) (g.out u)
     others u k found =
         by_box w.medium.inboxes t.system.0 (Granted t r)
         (λ ms. IsSystem deck words T u k ms (g.later u) (g.out u)) box_there u
@@ -166,15 +166,15 @@ module _ (deck : Deck) (w : World) (g : IsWhole deck w) (c : SysId) (n : NodeSta
       after = record { medium = sent_on; step = with_star n (fixing_none n.tasks q) }
 
       own :
-          IsSystem deck w.medium.words (items w.fixed) c.0 (with_star n (fixing_none n.tasks q)).node
-          (inbox sent_on c.0) (g.later c.0) (g.out c.0)
+          IsSystem deck w.medium.words T c.0 (with_star n (fixing_none n.tasks q)).node (inbox sent_on c.0)
+          (g.later c.0) (g.out c.0)
       own =
           subst (λ ms. IsSystem deck words T c.0 (record n { star = Some q }) ms (g.later c.0) (g.out c.0))
           (sym own_box) (with_part (g.system c.0 n at))
         where
-          with_part : IsSystem deck w.medium.words (items w.fixed) c.0 n (inbox w.medium c.0) (g.later c.0) (g.out c.0)
-              → IsSystem deck w.medium.words (items w.fixed) c.0 (record n { star = Some q }) (inbox w.medium c.0)
-              (g.later c.0) (g.out c.0)
+          with_part : IsSystem deck w.medium.words T c.0 n (inbox w.medium c.0) (g.later c.0) (g.out c.0)
+              → IsSystem deck w.medium.words T c.0 (record n { star = Some q }) (inbox w.medium c.0) (g.later c.0)
+              (g.out c.0)
           with_part h = record {
             at = h.at;
             late = h.late;
@@ -210,19 +210,17 @@ module _ (deck : Deck) (w : World) (g : IsWhole deck w) (c : SysId) (n : NodeSta
       }
 
   -- ---- the event
-  pub outcome-tell : (entry : ℕ) (x : TaskId × Res) → to_tell (part deck w g c n at) entry ≡ Some x →
-      Comes deck w g c n (record {
+  pub outcome-tell : (entry : ℕ) (x : TaskId × Res) → to_tell p entry ≡ Some x
+      → Comes deck w g c n (record {
         medium =
-            record w.medium {
-              inboxes = with_mail w.medium.inboxes x.0.system.0 (Granted x.0 x.1);
-              rest = awake w.medium c;
-            };
-        step = with_star n (fixing_none n.tasks (told_by (part deck w g c n at) (Some x)));
+            record w.medium
+            { inboxes = with_mail w.medium.inboxes x.0.system.0 (Granted x.0 x.1); rest = awake w.medium c };
+        step = with_star n (fixing_none n.tasks (told_by p (Some x)));
       })
   outcome-tell entry x is =
       tells entry x.0 x.1 owner (awake w.medium c) (told_by p (Some x)) refl
       (heard-told deck w g c n at p (g.roles.node c.0 n at).star x.0 x.1 owner.apart
       (below entry x.0 x.1 owner (awake w.medium c)) (awake w.medium c))
     where
-      owner : IsOwner deck w.medium.words (lists (items w.fixed)) c.0 entry x.0 x.1
+      owner : IsOwner deck w.medium.words (lists T) c.0 entry x.0 x.1
       owner = first-owns deck words (lists T) c.0 p (g.roles.node c.0 n at).fits entry x is
