@@ -4,6 +4,8 @@ pub mod AtNode
 pub mod Processed
 pub mod Removed
 pub mod Puts
+pub mod Free
+pub mod Shown
 pub mod Quiet
 pub mod Begun
 pub mod First
