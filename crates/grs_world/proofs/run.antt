@@ -1,4 +1,6 @@
 -- The run: what the systems and the message come to together.
+pub mod Placed
+pub mod First
 pub mod Each
 pub mod Spared
 pub mod Lost

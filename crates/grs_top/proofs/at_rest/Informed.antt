@@ -45,7 +45,7 @@ use Rattle.grs_world.proofs.run.GoesOn.{as_many}
 use Rattle.grs_world.proofs.run.InRing.{is_ring, told-ring}
 use Rattle.grs_world.proofs.run.Knowing.{acts-known, changed-known, losing-known, switched-known}
 use Rattle.grs_world.proofs.run.Laps.{goes_on, stays_star}
-use Rattle.grs_world.proofs.run.Runs.{by_node}
+use Rattle.grs_world.proofs.run.Placed.{by_node}
 use Rattle.grs_world.specs.World.{Turnout, World, carry_out, chosen, first_world, placed, run}
 use Rattle.grs_top.proofs.at_rest.Flags.{goes, rest_knows}
 use Rattle.grs_top.proofs.at_rest.Idle.{AreInformed, IsInformed, IsNoRest, chosen-flags, chosen-live, no_rest}

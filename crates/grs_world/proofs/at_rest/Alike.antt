@@ -32,7 +32,7 @@ pub record SameShown (deck : Deck) (w w' : World) : Type 0 where
   pub count : enq_count (items w.fixed) ≤ enq_count (items w'.fixed)
 
 module _ (deck : Deck) (w w' : World) (z : SameShown deck w w') where
-  hands-alike : (t : TaskId) → IsInHands w t → IsInHands w' t
+  hands-alike : (t : TaskId) → IsInHands w.medium w.nodes t → IsInHands w'.medium w'.nodes t
   hands-alike t i =
       let f = z.forth i.system i.node i.site.at i.site.live in
       record {
@@ -44,7 +44,7 @@ module _ (deck : Deck) (w w' : World) (z : SameShown deck w w') where
         among = ap (λ ms. is_among t (askers (in_hands i.part ms))) (z.boxes i.system) ∙ i.among;
       }
 
-  untold-alike : (s : ℕ) (t : TaskId) (r : Res) → IsUntold w s t r → IsUntold w' s t r
+  untold-alike : (s : ℕ) (t : TaskId) (r : Res) → IsUntold w.medium w.nodes s t r → IsUntold w'.medium w'.nodes s t r
   untold-alike s t r i =
       let f = z.forth i.system i.node i.site.at i.site.live in
       record {
@@ -86,18 +86,21 @@ module _ (deck : Deck) (w w' : World) (z : SameShown deck w w') where
       was : (s : ℕ) → has w'.medium.removed s ≡ false → has w.medium.removed s ≡ false
       was s live = sym (ap (λ m. has m s) z.removed) ∙ live
 
-      by-request : (s : ℕ) (t : TaskId) → IsInHands w t ⊎ (list_any (is_timely t) (inbox w.medium s) ≡ true)
-          → IsInHands w' t ⊎ (list_any (is_timely t) (inbox w'.medium s) ≡ true)
+      by-request : (s : ℕ) (t : TaskId)
+          → IsInHands w.medium w.nodes t ⊎ (list_any (is_timely t) (inbox w.medium s) ≡ true)
+          → IsInHands w'.medium w'.nodes t ⊎ (list_any (is_timely t) (inbox w'.medium s) ≡ true)
       by-request s t (inl i) = inl (hands-alike t i)
       by-request s t (inr e) = inr (ap (list_any (is_timely t)) (z.boxes s) ∙ e)
 
       by-owner : (s : ℕ) (k' : NodeState) (t : TaskId) (r : Res) (b : IsBack deck w s k') → is_home_at deck s t ≡ true
           → is_systems r ≡ true → (had s t r ≡ true → had' s t r ≡ true) →
           (had s t r ≡ true)
-          ⊎ ((hears t r (has_res r (state_of b.node.tasks t).records) (inbox w.medium s) ≡ true) ⊎ IsUntold w s t r)
+          ⊎ ((hears t r (has_res r (state_of b.node.tasks t).records) (inbox w.medium s) ≡ true)
+          ⊎ IsUntold w.medium w.nodes s t r)
           →
           (had' s t r ≡ true)
-          ⊎ ((hears t r (has_res r (state_of k'.tasks t).records) (inbox w'.medium s) ≡ true) ⊎ IsUntold w' s t r)
+          ⊎ ((hears t r (has_res r (state_of k'.tasks t).records) (inbox w'.medium s) ≡ true)
+          ⊎ IsUntold w'.medium w'.nodes s t r)
       by-owner s k' t r b home wide keep (inl e) = inl (keep e)
       by-owner s k' t r b home wide keep (inr (inl e)) =
           inr (inl (ap (hears t r (has_res r (state_of k'.tasks t).records)) (z.boxes s)

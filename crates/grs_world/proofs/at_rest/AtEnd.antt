@@ -29,6 +29,7 @@ use Rattle.grs_world.specs.AtRest.{IsWaiting, TasksWait, first_uncoded, is_next,
 use Rattle.grs_world.specs.AtRest.{waits_at, waits_on}
 use Rattle.grs_known.proofs.system.Asking.{unasked-none}
 use Rattle.grs_known.specs.Past.{has_own}
+use Rattle.grs_known.specs.Passed.{has_code, passed_by}
 use Rattle.std.proofs.lemmas.Map.Views.{any-filter_same}
 use Rattle.grs_node.specs.Log.{end_in}
 use Rattle.grs_wire.specs.declared.seen.TaskEnd.TheVariants.{Ended}
@@ -43,7 +44,6 @@ use Rattle.grs_world.proofs.at_rest.Held.{unmarked-has, waits-among, waits_well}
 use Rattle.grs_world.specs.Running.{end_at, task_end, end_of, end_removed}
 use Rattle.grs_world.proofs.at_rest.Steps.{AllDate, one-task}
 use Rattle.grs_known.proofs.tasks.UpToDate.{is_code_at, is_end_at, is_placed, is_kept}
-use Rattle.grs_known.specs.Passed.{has_code, passed_by}
 use Rattle.grs_world.proofs.run.Runs.{GoodTold}
 use Rattle.grs_wire.specs.declared.history.HistEntry.TheVariants as entries
 use Rattle.grs_wire.specs.declared.told.ToldLine.TheVariants as told

@@ -22,10 +22,10 @@ use Rattle.grs_node.specs.Change.{first_look, more_left}
 use Rattle.grs_wire.specs.declared.request.Answer.TheVariants.{Coded as CodedBy}
 use Rattle.grs_node.specs.Removal.{again, has_sent_in}
 use Rattle.star_client.specs.Client.{can_get}
+use Rattle.grs_known.specs.Passed.{is_at_line, passed_by, passed_asking}
 use Rattle.grs_wire.specs.contracts.request.WantPartialEq.TheImpl.{eq-value as same_want}
 use Rattle.grs_known.proofs.tasks.Answered.{IsAnswerTo, answer-told}
 use Rattle.grs_world.proofs.at_rest.Steps.{AllDate, date-did, date-new, date-own, placed-here}
-use Rattle.grs_known.specs.Passed.{is_at_line, passed_asking, passed_by}
 use Rattle.grs_world.proofs.at_rest.Freed.{date-freed}
 use Rattle.task_state.specs.declared.state.Phase.TheVariants as phases
 

@@ -7,14 +7,14 @@ use Rattle.grs_world.proofs.Common.{freed, goes_on_looking, Granted, has_effect,
 use Rattle.grs_world.proofs.Common.{is_held_for, is_item_of, is_leaving, is_none, is_of_deck, is_task, known_from}
 use Rattle.grs_world.proofs.Common.{length, length-map, lines_of, List, Look, look_around, look_home, looked, losing}
 use Rattle.grs_world.proofs.Common.{Mail, Meaning, MediumState, members, most_additions, names_of, nat_lt, new_owners}
-use Rattle.grs_world.proofs.Common.{new_tasks, NodeState, None, Notice, one_by_one, Option, owners_by, Part}
-use Rattle.grs_world.proofs.Common.{passes_wait, Phase, phase_step, placed, post, process, process_entry, purged}
-use Rattle.grs_world.proofs.Common.{put_in, rank_of, ranked_by, RankedRow, read_entries, read_entry, ready_step, Rec}
-use Rattle.grs_world.proofs.Common.{recalled, record_enq, record_of, refl, Release, Remove, replied, Req, Request}
-use Rattle.grs_world.proofs.Common.{request_of, Res, res_wanted, Ret, RingBody, RingEntry, Row, Rows, rows_of, run}
-use Rattle.grs_world.proofs.Common.{Said, scripts_of, sent_again, show, Showing, side_of, slice_get, Some, stale}
-use Rattle.grs_world.proofs.Common.{standing, StarPart, state_of, Step, suc, switched, SysId, take, take_line}
-use Rattle.grs_world.proofs.Common.{take_mail, task_step, TaskId, TasksView, tell_all, tell_answer, tell_answer_any}
+use Rattle.grs_world.proofs.Common.{new_tasks, NodeState, None, Nothing, Notice, one_by_one, Option, owners_by, Part}
+use Rattle.grs_world.proofs.Common.{passes_wait, Phase, phase_step, post, process, process_entry, purged, put_in}
+use Rattle.grs_world.proofs.Common.{rank_of, ranked_by, RankedRow, read_entries, read_entry, ready_step, Rec, recalled}
+use Rattle.grs_world.proofs.Common.{record_enq, record_of, refl, Release, Remove, replied, Req, Request, request_of}
+use Rattle.grs_world.proofs.Common.{Res, res_wanted, Ret, RingBody, RingEntry, Row, Rows, rows_of, run, Said}
+use Rattle.grs_world.proofs.Common.{scripts_of, sent_again, show, Showing, side_of, slice_get, Some, stale, standing}
+use Rattle.grs_world.proofs.Common.{StarPart, state_of, Step, suc, switched, SysId, take, take_line, take_mail}
+use Rattle.grs_world.proofs.Common.{task_step, TaskId, TasksView, tell_all, tell_answer, tell_answer_any}
 use Rattle.grs_world.proofs.Common.{tell_answer_any_ranked, tell_answer_ranked, tell_code, tell_control, tell_freed}
 use Rattle.grs_world.proofs.Common.{tell_line, tell_new, tell_rows, tell_untold, telling, ToldLine, took_mail, true}
 use Rattle.grs_world.proofs.Common.{Turnout, unrecorded, unseen, Wait, wait, Want, with_also, with_first_look}
@@ -28,9 +28,7 @@ use Rattle.grs_node.specs.Star.{own_step}
 use Rattle.grs_base.specs.declared.decision.Code.TheVariants.{C18}
 use Rattle.grs_wire.specs.declared.medium.Mail.TheVariants.{Request as RequestMail, Answered as AnsweredMail}
 use Rattle.grs_wire.specs.declared.request.Answer.TheVariants.{Coded}
-use Rattle.grs_world.proofs.run.Sound.{first_of}
-use Rattle.grs_world.proofs.run.Each.{each_run}
-use Rattle.grs_world.proofs.run.Runs.{by_node}
+use Rattle.grs_world.proofs.run.Each.{systems_run}
 use Rattle.grs_wire.specs.declared.told.Verb.{Verb}
 use Rattle.task_state.proofs.Keeps.{count-enq, system-enq}
 use Rattle.task_state.proofs.Stays.{count-line, count-outstanding, count-phase, count-rank, count-telling, count-told}
@@ -40,7 +38,7 @@ use Rattle.task_state.proofs.Stays.{system-told, system-without}
 use Rattle.grs_world.proofs.run.Came.{Acts, Came, acted, already, began, changed, decided, informed, last_turn, left}
 use Rattle.grs_world.proofs.run.Came.{no_such, nothing, parted, removes_one, removes_star, sent, settled, took, turn}
 use Rattle.grs_world.proofs.run.Came.{went_on, told as told_one, Result}
-use Rattle.grs_world.proofs.run.Chosen.{each_came}
+use Rattle.grs_world.proofs.run.Chosen.{came}
 use Rattle.grs_world.proofs.run.Lost.{tasks-lost, tasks-notice, tasks-part}
 use Rattle.grs_wire.specs.declared.told.Said.TheVariants as saids
 use Rattle.grs_legal.specs.declared.meaning.Meaning.TheVariants as lines
@@ -471,20 +469,8 @@ first-size : (deck : Deck) (s : ℕ) → length (first_node deck s).tasks.tasks 
 unfolding first_node
 first-size deck s = length-new (length (scripts_of deck s))
 
-full-placed : (deck : Deck) (w : World) (c : SysId) (n : NodeState) (at : slice_get w.nodes c.0 ≡ Some n) (o : Turnout)
-    → size o.step.node.tasks ≡ size n.tasks → AreFull deck w → AreFull deck (placed w c n o)
-unfolding placed
-full-placed deck w c n at o same h =
-    by_node w.nodes c.0 n o.step.node at (λ s k. length k.tasks.tasks ≡ length (scripts_of deck s))
-    (ap (λ (z : ℕ × ℕ). z.1) same ∙ h c.0 n at)
-    (λ s k ne f. h s k f)
-
 pub full_run : (deck : Deck) (es : List Event) → AreFull deck (run deck es)
 full_run deck =
-    each_run deck (λ es (w : World). AreFull deck w)
-    (λ s n at. ap (λ (k : NodeState). length k.tasks.tasks) (first_of deck s n at) ∙ first-size deck s)
-    (λ es e h.
-    each_came deck (run deck es) e (AreFull deck) (λ s n at. h s n at)
-    (λ n b o at alive came.
-    full-placed deck (run deck es) e.system n at o
-    (size-came deck (run deck es).medium e.system n e.choice b o came) h))
+    systems_run deck (λ s n. length n.tasks.tasks ≡ length (scripts_of deck s)) (first-size deck)
+    (λ m c n choice live h.
+    ap (λ (z : ℕ × ℕ). z.1) (size-came deck m c n choice _ _ (came deck m c n live choice)) ∙ h)

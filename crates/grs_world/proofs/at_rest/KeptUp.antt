@@ -2,18 +2,18 @@
 -- run, of a system that was removed too.
 use Rattle.grs_world.proofs.Common.{[], ◌++◌, ◌∙◌, ◌∷◌, ◌≡◌, after_mail, and_from, and_parts, answer_to, ap, ask, Asked}
 use Rattle.grs_world.proofs.Common.{begun, Bool, by_test, change_to_star, Choice, cond, decide, decide_own, Deck, Deq}
-use Rattle.grs_world.proofs.Common.{desk_told, Display, end_step, Event, false, filter, first_node, fixing_none}
+use Rattle.grs_world.proofs.Common.{desk_told, Display, end_step, Enq, Event, false, filter, first_node, fixing_none}
 use Rattle.grs_world.proofs.Common.{Granted, is_for_all, is_for_deck, is_item_of, is_none, is_of_deck, is_some, is_task}
 use Rattle.grs_world.proofs.Common.{is_to_send, known_from, length, lines_of, List, list_all, list_all-append}
 use Rattle.grs_world.proofs.Common.{look_around, look_home, looks_asked, losing, losing_in, Mail, may_go, may_send}
 use Rattle.grs_world.proofs.Common.{Meaning, MediumState, members, most_additions, names_of, names_of_deck, NodeState}
-use Rattle.grs_world.proofs.Common.{None, Notice, one_by_one, Option, owners_by, Part, Phase, phase_step, placed, post}
-use Rattle.grs_world.proofs.Common.{posted, purged, put_in, rank_of, ranked_by, read_entries, ready_step, Rec, refl}
-use Rattle.grs_world.proofs.Common.{Release, Req, request_of, Res, res_wanted, RingEntry, run, Said, show, slice_get}
-use Rattle.grs_world.proofs.Common.{Some, stale, standing, StarPart, StarStep, state_of, Step, subst, suc, switched}
-use Rattle.grs_world.proofs.Common.{sym, SysId, take, take-append-drop, take_line, take_mail, task_step, TaskId}
-use Rattle.grs_world.proofs.Common.{TasksView, tell_answer_ranked, took_mail, true, Turnout, unseen, Want, with_also}
-use Rattle.grs_world.proofs.Common.{with_line, with_phase, with_tasks, without_those, World, zero, ℕ}
+use Rattle.grs_world.proofs.Common.{None, Notice, one_by_one, Option, owners_by, Part, Phase, phase_step, post, posted}
+use Rattle.grs_world.proofs.Common.{purged, put_in, rank_of, ranked_by, read_entries, ready_step, Rec, refl, Release}
+use Rattle.grs_world.proofs.Common.{Req, request_of, Res, res_wanted, RingEntry, run, Said, show, slice_get, Some}
+use Rattle.grs_world.proofs.Common.{stale, standing, StarPart, StarStep, state_of, Step, subst, suc, switched, sym}
+use Rattle.grs_world.proofs.Common.{SysId, take, take-append-drop, take_line, take_mail, task_step, TaskId, TasksView}
+use Rattle.grs_world.proofs.Common.{tell_answer_ranked, took_mail, true, Turnout, unseen, Want, with_also, with_line}
+use Rattle.grs_world.proofs.Common.{with_phase, with_tasks, without_those, World, zero, ℕ}
 use Rattle.grs_node.specs.Node.{changed as changed_now}
 use Rattle.grs_node.specs.Star.{lists_for}
 use Rattle.std.specs.Prelude.{◌&&◌, drop}
@@ -24,17 +24,15 @@ use Rattle.grs_world.proofs.at_rest.Events.{date-ranked, date-ranks, date-sent, 
 use Rattle.grs_world.proofs.at_rest.Full.{here-of, size, size-acts, size-desk, size-entries, size-lost, size-put}
 use Rattle.grs_world.proofs.at_rest.Full.{size-step}
 use Rattle.grs_world.proofs.at_rest.RingRun.{first-read}
-use Rattle.grs_world.proofs.run.Sound.{first_of}
 use Rattle.grs_world.proofs.at_rest.Steps.{AllDate, date-control, date-new, date-task, going-ours}
 use Rattle.grs_world.proofs.at_rest.StarTasks.{keeps-mail}
-use Rattle.grs_world.proofs.run.Each.{each_run}
+use Rattle.grs_world.proofs.run.Each.{systems_run}
 use Rattle.grs_world.proofs.run.Lost.{tasks-lost, tasks-notice, tasks-part}
-use Rattle.grs_world.proofs.run.Runs.{by_node}
 use Rattle.grs_world.proofs.run.Came.{told, Result, Acts, Came, acted, already, began, changed, decided, informed}
 use Rattle.grs_world.proofs.run.Came.{last_turn, left, no_such, nothing, parted, removes_one, removes_star, sent}
 use Rattle.grs_world.proofs.run.Came.{settled, took, turn, went_on}
 use Rattle.grs_world.proofs.run.Fixing.{outbox-entries}
-use Rattle.grs_world.proofs.run.Chosen.{each_came}
+use Rattle.grs_world.proofs.run.Chosen.{came}
 use Rattle.grs_legal.specs.declared.meaning.Meaning.TheVariants as lines
 use Rattle.grs_wire.specs.declared.deck.Choice.TheVariants as choices
 use Rattle.grs_wire.specs.declared.told.Said.TheVariants as saids
@@ -314,12 +312,6 @@ kept-came deck m s n choice b o (acted p is k r x acts) h = record {
 abbrev pub AreKeptUp : Deck → World → Type 0
 AreKeptUp deck w = (s : ℕ) (n : NodeState) → slice_get w.nodes s ≡ Some n → IsKeptUp deck n
 
-kept-placed : (deck : Deck) (w : World) (c : SysId) (n : NodeState) → slice_get w.nodes c.0 ≡ Some n → (o : Turnout)
-    → IsKeptUp deck o.step.node → AreKeptUp deck w → AreKeptUp deck (placed w c n o)
-unfolding placed
-kept-placed deck w c n at o own h =
-    by_node w.nodes c.0 n o.step.node at (λ s k. IsKeptUp deck k) own (λ s k ne f. h s k f)
-
 first-box : (deck : Deck) (s : ℕ) → IsBoxed (first_node deck s).tasks (first_node deck s).outbox
 unfolding first_node
 first-box deck s = refl
@@ -332,10 +324,5 @@ first-kept deck s = record {
 
 pub kept_run : (deck : Deck) (es : List Event) → AreKeptUp deck (run deck es)
 kept_run deck =
-    each_run deck (λ es (w : World). AreKeptUp deck w)
-    (λ s n at. subst (IsKeptUp deck) (sym (first_of deck s n at)) (first-kept deck s))
-    (λ es e h.
-    each_came deck (run deck es) e (AreKeptUp deck) (λ s n at. h s n at)
-    (λ n b o at alive came.
-    kept-placed deck (run deck es) e.system n at o
-    (kept-came deck (run deck es).medium e.system n e.choice b o came (h e.system.0 n at)) h))
+    systems_run deck (λ s n. IsKeptUp deck n) (first-kept deck)
+    (λ m c n choice live h. kept-came deck m c n choice _ _ (came deck m c n live choice) h)

@@ -7,6 +7,7 @@ use Rattle.grs_world.proofs.Common.{slice_get, slice_get_within, Some, state_of,
 use Rattle.grs_world.proofs.Common.{TaskState, ToldLine, true, World, zero, ℕ}
 use Rattle.grs_known.specs.Told.{is_end_of}
 use Rattle.std.proofs.lemmas.Option.{get_or_from_slice_get}
+use Rattle.grs_known.specs.Passed.{has_code, has_ended, lines_passed}
 use Rattle.std.proofs.lemmas.Map.Views.{any-filter_same}
 use Rattle.grs_known.proofs.system.Ours.{script_at}
 use Rattle.grs_world.proofs.move.Sound.{GoodRun, every_run, good_told, in_ring, in_star}
@@ -19,7 +20,6 @@ use Rattle.grs_known.proofs.tasks.UpToDate.{is_code_at, is_end_at}
 use Rattle.grs_world.proofs.run.Desks.{GoodDesks}
 use Rattle.grs_world.proofs.run.Runs.{GoodTold}
 use Rattle.grs_world.specs.Passed.{DesksAreTold, EndsAreTold, LinesAreTold, PassedIsTold, is_desk_of}
-use Rattle.grs_known.specs.Passed.{has_code, has_ended, lines_passed}
 
 good_desks : (deck : Deck) (es : List Event) (w : World) → GoodRun deck es w → GoodDesks deck w
 good_desks deck es w (in_ring begins ring g d) = d

@@ -21,7 +21,7 @@ use Rattle.grs_world.proofs.at_rest.RingRun.{read-more, still_of}
 use Rattle.grs_world.proofs.at_rest.StarTasks.{IsDated}
 use Rattle.grs_world.proofs.at_rest.Unseen.{waits-elsewhere}
 use Rattle.grs_world.proofs.at_rest.View.{read_by, shown-star, shown-waits, shown_at, system_of, view-is, view-of}
-use Rattle.grs_world.proofs.run.Runs.{by_node}
+use Rattle.grs_world.proofs.run.Placed.{by_node, by_set}
 use Rattle.grs_world.proofs.star.Events.{good_choice}
 use Rattle.grs_world.proofs.star.Heard.{IsHeard, enq_count, had_by, had_with, sent_by, sent_with}
 use Rattle.grs_world.proofs.star.Members.{IsStep}
@@ -53,18 +53,6 @@ pub record IsRestful (deck : Deck) (w : World) : Type 0 where
       → IsRead deck s n (still_of s w.medium.message.entries)
   pub heard : (g : IsChanging deck w)
       → IsHeard deck (record w { nodes = g.view }) (sent_of w.nodes) (had_of deck w.medium.message.entries w.nodes)
-
--- one system stands otherwise
-pub by_set : (ns : List NodeState) (c : ℕ) (n k : NodeState) → slice_get ns c ≡ Some n
-    → (s : ℕ) (Q : ℕ → Option NodeState → Type 0) → Q c (Some k) → (s ≢ c → Q s (slice_get ns s))
-    → Q s (slice_get (set ns c k) s)
-by_set ns c n k at s Q own other = go (s == c) refl
-  where
-    go : (b : Bool) → (s == c) ≡ b → Q s (slice_get (set ns c k) s)
-    go true e =
-        let same : s ≡ c = eqb-true s c e in
-        subst (λ u. Q u (slice_get (set ns c k) u)) (sym same) (subst (Q c) (sym (slice_get-set ns c n k at)) own)
-    go false e = let ne : s ≢ c = eqb-false s c e in subst (Q s) (sym (slice_get-set_other ns c s k ne)) (other ne)
 
 -- what a system has sent and was told, in star mode and before
 pub sent-star : (n : NodeState) (p : StarPart) (t : TaskId) → n.star ≡ Some p → sent_in (Some n) t ≡ sent_by n t

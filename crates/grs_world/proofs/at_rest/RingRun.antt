@@ -11,6 +11,7 @@ use Rattle.grs_world.proofs.Common.{refl, Remove, Req, RingEntry, rounds, run, R
 use Rattle.grs_world.proofs.Common.{state_of, subst, suc, sym, SysId, take, take-none, task_step, TaskId, TaskState}
 use Rattle.grs_world.proofs.Common.{true, turned_open, Turnout, unseen, with_also, without_system, World, zero, ℕ}
 use Rattle.grs_known.proofs.lists.Facts.{take-taken}
+use Rattle.grs_world.proofs.run.First.{first_of}
 use Rattle.grs_world.proofs.move.Sound.{GoodRun, every_run, in_ring, in_star}
 use Rattle.grs_world.proofs.at_rest.Ring.{IsRead, distinct-at, is_local, kept-all, kept-put, desk-read, known-read}
 use Rattle.grs_world.proofs.at_rest.Tasks.{read-task}
@@ -22,8 +23,8 @@ use Rattle.grs_world.proofs.run.InRing.{removed_by, CameInRing, changed, each_in
 use Rattle.grs_world.proofs.run.InRing.{went_on, IsRing, informed, live-there, no_such, removes_one}
 use Rattle.grs_world.proofs.run.Messages.{given-later}
 use Rattle.grs_world.proofs.run.Reading.{ReadTo, all-rounds, read-entries, read_all, reading}
-use Rattle.grs_world.proofs.run.Runs.{GoodWorld, by_node}
-use Rattle.grs_world.proofs.run.Sound.{first_of}
+use Rattle.grs_world.proofs.run.Runs.{GoodWorld}
+use Rattle.grs_world.proofs.run.Placed.{by_node, medium-placed, nodes_then, of_both}
 use Rattle.grs_world.proofs.system.AtNode.{Seen}
 use Rattle.grs_wire.specs.declared.told.Said.TheVariants as saids
 
@@ -31,10 +32,13 @@ use Rattle.grs_wire.specs.declared.told.Said.TheVariants as saids
 abbrev pub still_of : ℕ → List RingEntry → List Req
 still_of s es = requests_of (unseen (record { 0 = s }) es)
 
+abbrev AreRead : Deck → MediumState → List NodeState → Type 0
+AreRead deck m nodes =
+    (s : ℕ) (n : NodeState) → slice_get nodes s ≡ Some n → has m.removed s ≡ false
+    → IsRead deck s n (still_of s m.message.entries)
+
 abbrev pub AllRead : Deck → World → Type 0
-AllRead deck w =
-    (s : ℕ) (n : NodeState) → slice_get w.nodes s ≡ Some n → has w.medium.removed s ≡ false
-    → IsRead deck s n (still_of s w.medium.message.entries)
+AllRead deck w = AreRead deck w.medium w.nodes
 
 -- more requests are there
 pub read-more : (deck : Deck) (s : ℕ) (n : NodeState) (qs qs' : List Req)
@@ -196,8 +200,7 @@ module _ (deck : Deck) (es : List Event) (w : World) (ring : IsRing deck w) (g :
         (λ t home e. dropped-on c.0 (was-there c.0 l).0 t e)
         (desk-read deck c.0 n saids.VaryDone (still_of c.0 w.medium.message.entries) (h c.0 n at alive))))
 
-  pub read-came : (o : Turnout) → CameInRing deck w c n o → o.medium.star ≡ false → AllRead deck (placed w c n o)
-  unfolding placed
+  read-came : (o : Turnout) → CameInRing deck w c n o → o.medium.star ≡ false → AreRead deck o.medium (nodes_then w c o)
   read-came o (nothing flags) mode = same-read flags n (h c.0 n at alive)
   read-came o (went_on t may) mode =
       same-read w.medium.rest (task_step deck.limit n t (lines_of deck t)).node (goes-read t may)
@@ -256,11 +259,6 @@ first-read deck s qs = record {
       });
 }
 
-star-of : (w : World) (c : SysId) (n : NodeState) (o : Turnout) → (placed w c n o).medium.star ≡ false
-    → o.medium.star ≡ false
-unfolding placed
-star-of w c n o z = z
-
 -- ---- every list of events
 pub ring_read : (deck : Deck) → (may_be_star deck ≡ true → FitsStar deck) → (es : List Event) → NoneInStar deck es
     → (run deck es).medium.star ≡ false → AllRead deck (run deck es)
@@ -295,4 +293,6 @@ ring_read deck fits = each_spared deck (λ es (w : World). w.medium.star ≡ fal
                 → (placed (run deck es) e.system n o).medium.star ≡ false
                 → AllRead deck (placed (run deck es) e.system n o)
             by_placed n o there alive came z =
-                read-came deck es w ring g e.system n there alive (more at) o came (star-of w e.system n o z)
+                of_both w e.system n o
+                (AreRead deck) (read-came deck es w ring g e.system n there alive (more at) o came
+                (sym (ap (λ m. m.star) (medium-placed w e.system n o)) ∙ z))

@@ -7,9 +7,9 @@ use Rattle.grs_world.proofs.Common.{fixing_none, is_for_deck, is_item_of, is_new
 use Rattle.grs_world.proofs.Common.{known_from, left_at, length, length-map, length-replicate, length-set, lines_of}
 use Rattle.grs_world.proofs.Common.{List, lose, losing, losing_in, Mail, Managed, managed_at, managed_of, ManagerView}
 use Rattle.grs_world.proofs.Common.{MediumState, members, most_additions, move_entry, Moved, names_of, no_elements}
-use Rattle.grs_world.proofs.Common.{NodeState, None, Option, option_map, option_map_or, owing, part_by_table, placed}
-use Rattle.grs_world.proofs.Common.{purged, read_entries, refl, Req, request_of, Res, run, Said, same_Some, sent_again}
-use Rattle.grs_world.proofs.Common.{settled, slice_get, Some, stale, Standing, standing, StarPart, State, stays-task}
+use Rattle.grs_world.proofs.Common.{NodeState, None, Option, option_map, option_map_or, owing, part_by_table, purged}
+use Rattle.grs_world.proofs.Common.{read_entries, refl, Req, request_of, Res, run, Said, same_Some, sent_again, settled}
+use Rattle.grs_world.proofs.Common.{slice_get, Some, stale, Standing, standing, StarPart, State, stays-task}
 use Rattle.grs_world.proofs.Common.{stays-turned, subst, switched, sym, SysId, take, take_mail, take_up, TaskId}
 use Rattle.grs_world.proofs.Common.{took_mail, true, Turnout, unseen, Want, with_also, with_entry, with_role}
 use Rattle.grs_world.proofs.Common.{without_those, World, ℕ}
@@ -24,11 +24,9 @@ use Rattle.mode_migrate.specs.Migrate.{interest_by_table}
 use Rattle.grs_world.proofs.run.Came.{Acts, Came, Result, acted, already, began, changed, decided, informed, last_turn}
 use Rattle.grs_world.proofs.run.Came.{left, no_such, nothing, parted, removes_one, removes_star, sent}
 use Rattle.grs_world.proofs.run.Came.{settled as settled_one, told, took, turn, went_on}
-use Rattle.grs_world.proofs.run.Chosen.{each_came}
-use Rattle.grs_world.proofs.run.Each.{each_run}
+use Rattle.grs_world.proofs.run.Chosen.{came}
+use Rattle.grs_world.proofs.run.Each.{systems_run}
 use Rattle.grs_world.proofs.run.Lost.{by-loss, by-notice, by-part}
-use Rattle.grs_world.proofs.run.Runs.{by_node}
-use Rattle.grs_world.proofs.run.Sound.{first_of}
 use Rattle.grs_wire.specs.declared.medium.Mail.TheVariants as mails
 use Rattle.grs_wire.specs.declared.told.Said.TheVariants as saids
 
@@ -236,18 +234,7 @@ sized-first deck s p is = go deck.star is
         subst (IsSized deck.entries) (same_Some (first_part (record { 0 = s }) deck.entries) p f)
         (length-replicate deck.entries None, length-replicate deck.entries false, length-replicate deck.entries None)
 
-sized-placed : (deck : Deck) (w : World) (c : SysId) (n : NodeState) → slice_get w.nodes c.0 ≡ Some n → (o : Turnout)
-    → NodeSized deck o.step.node → AreSized deck w → AreSized deck (placed w c n o)
-unfolding placed
-sized-placed deck w c n at o own h =
-    by_node w.nodes c.0 n o.step.node at (λ s k. NodeSized deck k) own (λ s k ne found. h s k found)
-
 pub sized_run : (deck : Deck) (es : List Event) → AreSized deck (run deck es)
 sized_run deck =
-    each_run deck (λ es (w : World). AreSized deck w)
-    (λ s n at. subst (NodeSized deck) (sym (first_of deck s n at)) (sized-first deck s))
-    (λ es e h.
-    each_came deck (run deck es) e (AreSized deck) (λ s n at. h s n at)
-    (λ n b o at alive came.
-    sized-placed deck (run deck es) e.system n at o
-    (sized-came deck (run deck es).medium e.system n e.choice b o came (h e.system.0 n at)) h))
+    systems_run deck (λ s n. NodeSized deck n) (sized-first deck)
+    (λ m c n choice live h. sized-came deck m c n choice _ _ (came deck m c n live choice) h)

@@ -155,7 +155,7 @@ module _ (deck : Deck) (w : World) (g : IsChanging deck w) (h : IsRestful deck w
       ∙ ap (λ (z : NodeState). Some z)
       (sym (shown-star deck w.medium.message.entries s n (part-here s n at live).0 (part-here s n at live).1)))
 
-  no-hands : (t : TaskId) → IsInHands (record w { nodes = g.view }) t → ⊥
+  no-hands : (t : TaskId) → IsInHands w.medium g.view t → ⊥
   no-hands t i =
       let at : slice_get w.nodes i.system ≡ Some i.node = view-nodes i.system i.site.live ∙ i.site.at in
       let p = part-here i.system i.node at i.site.live in
@@ -174,7 +174,7 @@ module _ (deck : Deck) (w : World) (g : IsChanging deck w) (h : IsRestful deck w
       by_not true e = refl
       by_not false e = absurd (cc)
 
-  no-untold : (s : ℕ) (t : TaskId) (r : Res) → t.system.0 ≡ s → IsUntold (record w { nodes = g.view }) s t r → ⊥
+  no-untold : (s : ℕ) (t : TaskId) (r : Res) → t.system.0 ≡ s → IsUntold w.medium g.view s t r → ⊥
   no-untold s t r home i =
       let at : slice_get w.nodes i.system ≡ Some i.node = view-nodes i.system i.site.live ∙ i.site.at in
       let p = part-here i.system i.node at i.site.live in
@@ -210,7 +210,7 @@ module _ (deck : Deck) (w : World) (g : IsChanging deck w) (h : IsRestful deck w
             by-request (H.requests s n t (at_site (there s n at alive) alive) (ours-home deck s n.tasks t ls ours)
             (ap (λ o. sent_in o t) at ∙ (sent-star n (part-here s n at alive).0 t (part-here s n at alive).1 ∙ e)))
           where
-            by-request : IsInHands (record w { nodes = g.view }) t ⊎ (list_any (is_timely t) (inbox w.medium s) ≡ true)
+            by-request : IsInHands w.medium g.view t ⊎ (list_any (is_timely t) (inbox w.medium s) ≡ true)
                 → ⊥
             by-request (inl i) = no-hands t i
             by-request (inr f) =
@@ -238,7 +238,7 @@ module _ (deck : Deck) (w : World) (g : IsChanging deck w) (h : IsRestful deck w
 
         by-owner : (had_of deck w.medium.message.entries w.nodes s t r ≡ true)
             ⊎ ((hears t r (has_res r (state_of n.tasks t).records) (inbox w.medium s) ≡ true)
-            ⊎ IsUntold (record w { nodes = g.view }) s t r)
+            ⊎ IsUntold w.medium g.view s t r)
             → is_marked r (state_of n.tasks t).records ≡ true
         by-owner (inl e) =
             sym (had-star deck w.medium.message.entries s n (part-here s n at alive).0 t r (part-here s n at alive).1)

@@ -7,6 +7,8 @@ use Rattle.grs_world.proofs.Common.{Option, owns, placed, refl, Res, run, same_S
 use Rattle.grs_world.proofs.Common.{StarPart, state_of, subst, suc, sym, SysId, TaskId, TaskState, true, Turnout, World}
 use Rattle.grs_world.proofs.Common.{zero, ℕ}
 use Rattle.grs_wire.specs.Decks.{IsBounded}
+use Rattle.grs_world.proofs.run.Placed.{fixed-placed, medium-placed}
+use Rattle.grs_world.proofs.run.First.{first_of}
 use Rattle.grs_world.proofs.move.Changing.{IsChanging}
 use Rattle.grs_world.proofs.move.Late.{came_late}
 use Rattle.grs_world.proofs.move.Sound.{GoodRun, every_run, good_history, in_ring, in_star}
@@ -15,7 +17,6 @@ use Rattle.grs_world.proofs.at_rest.Restful.{IsRestful, restful-counted, restful
 use Rattle.grs_world.proofs.at_rest.Events.{date-any}
 use Rattle.grs_world.proofs.at_rest.Ring.{IsRead}
 use Rattle.grs_world.proofs.at_rest.RingRun.{first-read, first-state, ring_read, still_of}
-use Rattle.grs_world.proofs.run.Sound.{first_of}
 use Rattle.grs_world.proofs.at_rest.Switching.{restful-begun}
 use Rattle.grs_world.proofs.at_rest.View.{node-of, shown-star, shown_at}
 use Rattle.grs_world.proofs.at_rest.Waiting.{restful-late}
@@ -148,15 +149,6 @@ module _ (deck : Deck) (star : deck.star ≡ true) where
               managed
 
 -- ---- every list of events
-star-placed : (w : World) (c : SysId) (n : NodeState) (o : Turnout) → (placed w c n o).medium.star ≡ o.medium.star
-unfolding placed
-star-placed w c n o = refl
-
-fixed-placed : (w : World) (c : SysId) (n : NodeState) (o : Turnout)
-    → (placed w c n o).fixed ≡ w.fixed ++ fixed_by c o.step.fixed
-unfolding placed
-fixed-placed w c n o = refl
-
 first-mode : (deck : Deck) → (first_world deck).medium.star ≡ deck.star
 unfolding first_world
 first-mode deck = refl
@@ -211,7 +203,9 @@ restful_run deck bounds = each_spared deck (λ es (w : World). w.medium.star ≡
                 → (placed (run deck es) e.system n o).medium.star ≡ true
                 → IsRestful deck (placed (run deck es) e.system n o)
             ring-mode n o flat z =
-                absurd (let no : true ≡ false = sym z ∙ (star-placed (run deck es) e.system n o ∙ flat) in cc)
+                absurd (let no : true ≡ false =
+                sym z ∙ (ap (λ m. m.star) (medium-placed (run deck es) e.system n o) ∙ flat) in
+                cc)
 
             by_came : (n : NodeState) (o : Turnout) → slice_get (run deck es).nodes e.system.0 ≡ Some n
                 → has (run deck es).medium.removed e.system.0 ≡ false → CameInRing deck (run deck es) e.system n o

@@ -18,9 +18,9 @@ use Rattle.grs_known.proofs.system.Did.{did-code}
 use Rattle.task_state.specs.View.{record_place}
 use Rattle.grs_known.proofs.tasks.UpToDate.{AreCoded, HasUnit, IsUpToDate, hears-date, is_code_at, is_end_at, is_kept}
 use Rattle.grs_known.proofs.tasks.UpToDate.{is_placed, more-told, unit_of}
+use Rattle.grs_known.specs.Passed.{has_code, is_at_line, passed_by, has_ended, passed_asking}
 use Rattle.gqscan.specs.Shown.{code_for}
 use Rattle.grs_known.proofs.tasks.Asked.{any-after, told_after}
-use Rattle.grs_known.specs.Passed.{has_ended, has_code, is_at_line, passed_asking, passed_by}
 use Rattle.grs_known.proofs.tasks.Answered.{IsCoded, IsDue, answered, coded-line, is_free, shown-line}
 use Rattle.grs_known.proofs.records.Places.{state_at}
 use Rattle.grs_legal.specs.declared.meaning.Meaning.TheVariants as lines

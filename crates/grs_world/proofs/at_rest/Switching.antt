@@ -13,8 +13,9 @@ use Rattle.grs_world.proofs.move.Begin.{front-within, more-within}
 use Rattle.grs_world.proofs.move.Changing.{IsChanging}
 use Rattle.grs_world.proofs.at_rest.Changed.{change-dated, change-had, change-has, change-unsent}
 use Rattle.grs_world.proofs.at_rest.Loaded.{table-few, table-ranks}
-use Rattle.grs_world.proofs.at_rest.Restful.{IsRestful, by_set, had-ring, had-star, had_in, had_of, sent-ring}
-use Rattle.grs_world.proofs.at_rest.Restful.{sent-star, sent_in, sent_of}
+use Rattle.grs_world.proofs.at_rest.Restful.{IsRestful, had-ring, had-star, had_in, had_of, sent-ring, sent-star}
+use Rattle.grs_world.proofs.at_rest.Restful.{sent_in, sent_of}
+use Rattle.grs_world.proofs.run.Placed.{by_set, by_node}
 use Rattle.grs_world.proofs.at_rest.Events.{date-any}
 use Rattle.grs_world.proofs.at_rest.Ring.{IsRead, box-here, desk-read}
 use Rattle.grs_world.proofs.at_rest.RingRun.{AllRead, node_is, read-due, reads, still_of}
@@ -24,7 +25,7 @@ use Rattle.grs_world.proofs.at_rest.View.{node-of, read_by, shown-star, shown-wa
 use Rattle.grs_world.proofs.at_rest.Waiting.{desk-shared}
 use Rattle.grs_world.proofs.run.Growing.{asks-rounds}
 use Rattle.grs_world.proofs.run.InRing.{IsRing, live-there}
-use Rattle.grs_world.proofs.run.Runs.{GoodWorld, by_node}
+use Rattle.grs_world.proofs.run.Runs.{GoodWorld}
 use Rattle.grs_world.proofs.star.Heard.{AreAddressed, IsHeard, enq_count}
 use Rattle.grs_world.proofs.star.Sound.{no_mail}
 use Rattle.grs_world.proofs.star.Worlds.{items-none}

@@ -13,7 +13,7 @@ pub happens-live : (deck : Deck) (w : World) (e : Event) → is_live w e.system 
     → happens deck w e
     ≡ placed w e.system (node_at deck w.nodes e.system)
     (chosen deck w.medium e.system (node_at deck w.nodes e.system) e.choice)
-unfolding happens happens_at placed
+unfolding happens happens_at
 happens-live deck w e h =
     let both = and_parts (nat_lt e.system.0 (length w.nodes)) (not (has w.medium.removed e.system.0)) h in
     ap (λ o. happens_at deck w e o)
@@ -30,7 +30,7 @@ happens-live deck w e h =
 
 -- any other event
 pub happens-idle : (deck : Deck) (w : World) (e : Event) → is_live w e.system ≡ false → happens deck w e ≡ counted w
-unfolding happens happens_at placed
+unfolding happens happens_at
 happens-idle deck w e h = by_place (nat_lt e.system.0 (length w.nodes)) refl
   where
     by_removed : (n : NodeState) (b : Bool) → true && not b ≡ false

@@ -8,11 +8,11 @@ use Rattle.grs_world.proofs.Common.{has-with_other, has-zero, has_most, hist, Hi
 use Rattle.grs_world.proofs.Common.{length, lines_of, List, list_all, list_any, list_any-append, LocalLook, map}
 use Rattle.grs_world.proofs.Common.{may_send, may_settle, Meaning, MediumState, most_additions, most_systems, nat_lt}
 use Rattle.grs_world.proofs.Common.{no_truth, NodeState, None, Option, or-false, or_left, or_parts, or_right, OrdersFit}
-use Rattle.grs_world.proofs.Common.{Phase, placed, prepare, prepared_by, Purged, purged, put_in, rank_of, Rec, refl}
-use Rattle.grs_world.proofs.Common.{removes, Reply, reply_to, Req, res_wanted, row, run, same_task-exact, Some}
-use Rattle.grs_world.proofs.Common.{star_call, StarPart, State, state_of, subst, suc, sym, SysId, take, TaskId, true}
-use Rattle.grs_world.proofs.Common.{Turnout, unseen, Want, with_also, without_in_star, without_system, without_target}
-use Rattle.grs_world.proofs.Common.{World, zero, ℕ, ℕ_discrete}
+use Rattle.grs_world.proofs.Common.{Phase, prepare, prepared_by, Purged, purged, put_in, rank_of, Rec, refl, removes}
+use Rattle.grs_world.proofs.Common.{Reply, reply_to, Req, res_wanted, row, run, same_task-exact, Some, star_call}
+use Rattle.grs_world.proofs.Common.{StarPart, State, state_of, subst, suc, sym, SysId, take, TaskId, true, Turnout}
+use Rattle.grs_world.proofs.Common.{unseen, Want, with_also, without_in_star, without_system, without_target, World}
+use Rattle.grs_world.proofs.Common.{zero, ℕ, ℕ_discrete}
 use Rattle.std.proofs.Common.{is_some}
 use Rattle.grs_wire.specs.History.{answered_from, look_entries}
 use Rattle.grs_node.specs.Star.{settle_by}
@@ -28,7 +28,7 @@ use Rattle.grs_world.proofs.run.Came.{Acts, Came, Result, acted, already, began,
 use Rattle.grs_world.proofs.run.Came.{left, no_such, parted, removes_one, removes_star, replied, result_of, sent}
 use Rattle.grs_world.proofs.run.Came.{settled, told, took, turn, went_on}
 use Rattle.grs_world.proofs.run.Chosen.{came}
-use Rattle.grs_world.proofs.run.Each.{each_live, each_run}
+use Rattle.grs_world.proofs.run.Each.{each_live, each_run, each_medium}
 use Rattle.grs_world.proofs.run.Fixing.{by_task, fixed-mail, may_go-task, outbox-entries}
 use Rattle.grs_world.proofs.run.Purges.{Removes, RemovesNone, nobody, one, what_removes}
 use Rattle.grs_world.proofs.run.Purging.{target-fits}
@@ -37,6 +37,7 @@ use Rattle.grs_world.specs.Agree.{is_purge}
 use Rattle.grs_world.specs.Fixing.{at_once, fixed_at_end, fixed_by_line, fixed_by_task, fixed_in_phase}
 use Rattle.grs_world.specs.Fixing.{fixed_when_ready}
 use Rattle.grs_world.specs.Removing.{NoneFollows}
+use Rattle.grs_world.proofs.run.Placed.{fixed-placed}
 use Rattle.grs_legal.specs.declared.meaning.Meaning.TheVariants as lines
 use Rattle.grs_wire.specs.declared.deck.Choice.TheVariants as choices
 use Rattle.grs_wire.specs.declared.medium.Act.TheVariants as acts
@@ -249,8 +250,8 @@ module _ (removed : ℕ) (c : SysId) where
 -- ---- every run
 module _ (deck : Deck) (fits : length deck.systems ≤ most_systems) (fit : OrdersFit deck) where
   -- who was removed is a system of the deck
-  abbrev RemovedFit : World → Type 0
-  RemovedFit w = (u : ℕ) → has w.medium.removed u ≡ true → u < length deck.systems
+  abbrev RemovedFit : MediumState → Type 0
+  RemovedFit m = (u : ℕ) → has m.removed u ≡ true → u < length deck.systems
 
   without-removed : (m : MediumState) (c target : SysId)
       → (without_target m c target).removed ≡ with_also m.removed target.0
@@ -258,42 +259,39 @@ module _ (deck : Deck) (fits : length deck.systems ≤ most_systems) (fit : Orde
       by_test (λ (k : MediumState). k.removed ≡ with_also m.removed target.0) m.star (without_in_star m target)
       (without_system m c target) (λ star. refl) (λ ring. refl)
 
-  removed-fit : (w : World) (c : SysId) (n : NodeState) (choice : Choice) (o : Turnout)
-      → Removes deck w.medium c n choice o → RemovedFit w → RemovedFit (placed w c n o)
-  unfolding placed
-  removed-fit w c n choice o (nobody kept none) h u out = h u (ap (λ i. has i u) (sym kept) ∙ out)
-  removed-fit w c n choice o (one target chose next lives is) h u out = by_place (ℕ_discrete u target.0)
+  removed-fit : (m : MediumState) (c : SysId) (n : NodeState) (choice : Choice) (o : Turnout)
+      → Removes deck m c n choice o → RemovedFit m → RemovedFit o.medium
+  removed-fit m c n choice o (nobody kept none) h u out = h u (ap (λ i. has i u) (sym kept) ∙ out)
+  removed-fit m c n choice o (one target chose next lives is) h u out = by_place (ℕ_discrete u target.0)
     where
-      now : has (with_also w.medium.removed target.0) u ≡ true
+      now : has (with_also m.removed target.0) u ≡ true
       now =
-          ap (λ i. has i u)
-          (sym (ap (λ (z : Turnout). z.medium.removed) is ∙ without-removed w.medium c target))
-          ∙ out
+          ap (λ i. has i u) (sym (ap (λ (z : Turnout). z.medium.removed) is ∙ without-removed m c target)) ∙ out
 
       by_place : Dec (u ≡ target.0) → u < length deck.systems
       by_place (yes same) =
           subst (λ k. k < length deck.systems) (sym same) (target-fits deck n target fit next).0
-      by_place (no other) = h u (sym (has-with_other w.medium.removed target.0 u other) ∙ now)
+      by_place (no other) = h u (sym (has-with_other m.removed target.0 u other) ∙ now)
 
-  none-yet : RemovedFit (first_world deck)
+  none-yet : RemovedFit (first_world deck).medium
   unfolding first_world
   none-yet u out = no_truth (has 0 u) out (has-zero u)
 
-  removed_fit : (es : List Event) → RemovedFit (run deck es)
+  removed_fit : (es : List Event) → RemovedFit (run deck es).medium
   removed_fit =
-      each_run deck (λ es (w : World). RemovedFit w) none-yet
+      each_run deck (λ es (w : World). RemovedFit w.medium) none-yet
       (λ es e h.
-      each_live deck (run deck es) e RemovedFit h
+      each_medium deck (run deck es) e RemovedFit h
       (λ n at alive.
-      removed-fit (run deck es) e.system n e.choice (chosen deck (run deck es).medium e.system n e.choice)
+      removed-fit (run deck es).medium e.system n e.choice _
       (what_removes deck (run deck es).medium e.system n alive e.choice) h))
 
   -- what one event more fixes
   next-allowed : (es : List Event) (c : SysId) (n : NodeState) (choice : Choice) (o : Turnout)
       → AreOfLive (run deck es).medium.removed o.step.fixed
       → Removes deck (run deck es).medium c n choice o → AreAllowed [] (run deck es).fixed
-      → AreAllowed [] (placed (run deck es) c n o).fixed
-  unfolding placed purged
+      → AreAllowed [] ((run deck es).fixed ++ fixed_by c o.step.fixed)
+  unfolding purged
   next-allowed es c n choice o live (nobody kept none) h =
       more-allowed [] (run deck es).fixed (fixed_by c o.step.fixed) h
       (new-allowed (run deck es).medium.removed c o.step.fixed live none (run deck es).fixed
@@ -312,11 +310,13 @@ module _ (deck : Deck) (fits : length deck.systems ≤ most_systems) (fit : Orde
       (λ es e h.
       each_live deck (run deck es) e (λ (w : World). AreAllowed [] w.fixed) h
       (λ n at alive.
-      next-allowed es e.system n e.choice (chosen deck (run deck es).medium e.system n e.choice)
+      let o = chosen deck (run deck es).medium e.system n e.choice in
+      subst (AreAllowed []) (sym (fixed-placed (run deck es) e.system n o))
+      (next-allowed es e.system n e.choice o
       (chosen-live deck (run deck es).medium e.system n (homes_run deck es e.system.0 n at) alive
       (held_run deck es e.system.0 n at) (kept_run deck es e.system.0 n at).box
       (λ u out. let below : u < length deck.systems = removed_fit es u out in omega (arith, below, fits)) e.choice)
-      (what_removes deck (run deck es).medium e.system n alive e.choice) h))
+      (what_removes deck (run deck es).medium e.system n alive e.choice) h)))
 
 -- ---- the history
 -- each entry of a task stands behind no removal of its system

@@ -8,10 +8,10 @@ use Rattle.grs_world.proofs.Common.{is_for_deck, is_item_of, is_news, is_none, i
 use Rattle.grs_world.proofs.Common.{List, list_all, list_all-append, list_any, list_any-append, lose, lose_all}
 use Rattle.grs_world.proofs.Common.{lose_each, losing, losing_in, Mail, manages, may_settle, MediumState, members}
 use Rattle.grs_world.proofs.Common.{members_below, most_additions, most_systems, move_entry, Moved, names_of, no_truth}
-use Rattle.grs_world.proofs.Common.{NodeState, None, not, Option, or_left, or_right, owing, part_by_table, placed}
-use Rattle.grs_world.proofs.Common.{purged, read_entries, refl, Req, run, Said, same_Some, sent_again, slice_get, Some}
-use Rattle.grs_world.proofs.Common.{stale, Standing, standing, StarPart, stays-task, stays-turned, subst, suc, switched}
-use Rattle.grs_world.proofs.Common.{sym, SysId, take, take_mail, TaskId, took_mail, true, Turnout, unseen, with_also}
+use Rattle.grs_world.proofs.Common.{NodeState, None, not, Option, or_left, or_right, owing, part_by_table, purged}
+use Rattle.grs_world.proofs.Common.{read_entries, refl, Req, run, Said, same_Some, sent_again, slice_get, Some, stale}
+use Rattle.grs_world.proofs.Common.{Standing, standing, StarPart, stays-task, stays-turned, subst, suc, switched, sym}
+use Rattle.grs_world.proofs.Common.{SysId, take, take_mail, TaskId, took_mail, true, Turnout, unseen, with_also}
 use Rattle.grs_world.proofs.Common.{with_role, without_those, World, zero, ℕ, ℕ_discrete}
 use Rattle.std.specs.Prelude.{find}
 use Rattle.grs_node.specs.Node.{changed as changed_now}
@@ -20,11 +20,9 @@ use Rattle.grs_wire.proofs.MaskLaws.{has-without_all}
 use Rattle.grs_world.proofs.run.Came.{Acts, Came, Result, acted, already, began, changed, decided, informed, last_turn}
 use Rattle.grs_world.proofs.run.Came.{left, no_part, no_such, nothing, parted, removes_one, removes_star, sent, settled}
 use Rattle.grs_world.proofs.run.Came.{told, took, turn, went_on}
-use Rattle.grs_world.proofs.run.Chosen.{each_came}
-use Rattle.grs_world.proofs.run.Each.{each_run}
+use Rattle.grs_world.proofs.run.Chosen.{came}
+use Rattle.grs_world.proofs.run.Each.{systems_run}
 use Rattle.grs_world.proofs.run.Lost.{by-loss, by-notice, by-part}
-use Rattle.grs_world.proofs.run.Runs.{by_node}
-use Rattle.grs_world.proofs.run.Sound.{first_of}
 use Rattle.grs_wire.specs.declared.deck.Choice.TheVariants as choices
 use Rattle.grs_wire.specs.declared.medium.Mail.TheVariants as mails
 use Rattle.grs_wire.specs.declared.told.Said.TheVariants as saids
@@ -334,18 +332,7 @@ first-holds : (deck : Deck) (s : ℕ) → HoldsNone (first_node deck s)
 unfolding first_node
 first-holds deck s = record { none = λ p is u below knows. no_truth (has 0 u) knows (has-zero u) }
 
-holds-placed : (w : World) (c : SysId) (n : NodeState) → slice_get w.nodes c.0 ≡ Some n → (o : Turnout)
-    → HoldsNone o.step.node → AllHoldNone w → AllHoldNone (placed w c n o)
-unfolding placed
-holds-placed w c n at o own h =
-    by_node w.nodes c.0 n o.step.node at (λ s k. HoldsNone k) own (λ s k ne found. h s k found)
-
 pub held_run : (deck : Deck) (es : List Event) → AllHoldNone (run deck es)
 held_run deck =
-    each_run deck (λ es (w : World). AllHoldNone w)
-    (λ s n at. subst HoldsNone (sym (first_of deck s n at)) (first-holds deck s))
-    (λ es e h.
-    each_came deck (run deck es) e AllHoldNone (λ s n at. h s n at)
-    (λ n b o at alive came.
-    holds-placed (run deck es) e.system n at o
-    (holds-came deck (run deck es).medium e.system n e.choice b o came (h e.system.0 n at)) h))
+    systems_run deck (λ s n. HoldsNone n) (first-holds deck)
+    (λ m c n choice live h. holds-came deck m c n choice _ _ (came deck m c n live choice) h)

@@ -7,7 +7,7 @@ use Rattle.grs_world.proofs.Common.{Gathering, has, has-with_other, has-zero, in
 use Rattle.grs_world.proofs.Common.{is_none, is_of_deck, is_task, known_from, length, lines_of, List, list_all}
 use Rattle.grs_world.proofs.Common.{list_any, lose_all, lose_each, losing, losing_in, Mail, may_send, may_settle}
 use Rattle.grs_world.proofs.Common.{MediumState, members, most_additions, most_systems, names_of, nat_lt, no_truth}
-use Rattle.grs_world.proofs.Common.{NodeState, None, not, Option, or_left, OrdersFit, part_by_table, placed, purged}
+use Rattle.grs_world.proofs.Common.{NodeState, None, not, Option, or_left, OrdersFit, part_by_table, purged}
 use Rattle.grs_world.proofs.Common.{read_entries, refl, run, Said, same_Some, slice_get, Some, stale, Standing}
 use Rattle.grs_world.proofs.Common.{standing, StarPart, stays-task, stays-turned, subst, suc, switched, sym, SysId}
 use Rattle.grs_world.proofs.Common.{take, take_mail, TaskId, took_mail, true, Turnout, unseen, with_also, without_those}
@@ -32,8 +32,8 @@ use Rattle.grs_world.proofs.run.Each.{each_run}
 use Rattle.grs_world.proofs.run.Knowing.{KnowsRemoved, known_run}
 use Rattle.grs_world.proofs.run.Lost.{by-loss, by-notice}
 use Rattle.grs_world.proofs.run.Purging.{target-fits}
-use Rattle.grs_world.proofs.run.Runs.{by_node}
-use Rattle.grs_world.proofs.run.Sound.{first_of}
+use Rattle.grs_world.proofs.run.Placed.{of_nodes}
+use Rattle.grs_world.proofs.run.First.{first_of}
 use Rattle.grs_wire.specs.declared.deck.Choice.TheVariants as choices
 use Rattle.grs_wire.specs.declared.medium.Mail.TheVariants as mails
 use Rattle.grs_wire.specs.declared.told.Said.TheVariants as saids
@@ -367,12 +367,6 @@ first-clean deck s = record {
         subst (λ (r : StarPart). AreRight r.gathers) (same_Some (first_part (record { 0 = s }) deck.entries) p is)
         (none-yet deck.entries)
 
-clean-placed : (w : World) (c : SysId) (n : NodeState) → slice_get w.nodes c.0 ≡ Some n → (o : Turnout)
-    → KeepsClean o.step.node → AllKeepClean w → AllKeepClean (placed w c n o)
-unfolding placed
-clean-placed w c n at o own h =
-    by_node w.nodes c.0 n o.step.node at (λ s k. KeepsClean k) own (λ s k ne found. h s k found)
-
 pub clean_run : (deck : Deck) → OrdersFit deck → (es : List Event) → AllKeepClean (run deck es)
 clean_run deck fit =
     each_run deck (λ es (w : World). AllKeepClean w)
@@ -380,7 +374,7 @@ clean_run deck fit =
     (λ es e h.
     each_came deck (run deck es) e AllKeepClean (λ s n at. h s n at)
     (λ n b o at alive came.
-    clean-placed (run deck es) e.system n at o
+    of_nodes (run deck es) e.system n o at (λ s k. KeepsClean k)
     (clean-came deck fit (run deck es).medium e.system n (homes_run deck es e.system.0 n at) alive
     (known_run deck es e.system.0 n at) (held_run deck es e.system.0 n at) (h e.system.0 n at) e.choice b o came)
-    h))
+    (λ s k ne there. h s k there)))

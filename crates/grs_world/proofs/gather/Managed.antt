@@ -2,7 +2,7 @@
 -- removed: the words change by requests, by entries that are left, and by removals, each of which keeps that.
 use Rattle.grs_world.proofs.Common.{[], ◌++◌, ◌<◌, ◌∷◌, ◌≡◌, All, arith, Bool, Choice, Deck, Event, false, first_world}
 use Rattle.grs_world.proofs.Common.{FitsStar, happens, IsManaged, left_word, left_words, List, may_be_star}
-use Rattle.grs_world.proofs.Common.{most_systems, no_truth, NodeState, None, Option, placed, refl, run, slice_get}
+use Rattle.grs_world.proofs.Common.{most_systems, no_truth, NodeState, None, Option, refl, run, slice_get}
 use Rattle.grs_world.proofs.Common.{slice_get-past, slice_get_within, Some, StarPart, submitted, submitted_words, subst}
 use Rattle.grs_world.proofs.Common.{sym, SysId, true, Turnout, word_at, World, ℕ}
 use Rattle.std.proofs.lemmas.List.Elements.{All-set}
@@ -17,6 +17,7 @@ use Rattle.grs_world.proofs.run.Each.{each_run, run-push}
 use Rattle.grs_world.proofs.run.GoesOn.{as_many}
 use Rattle.grs_world.proofs.run.Spared.{none_behind_ring}
 use Rattle.grs_world.proofs.star.Runs.{word_past}
+use Rattle.grs_world.proofs.run.Placed.{of_medium}
 use Rattle.grs_world.proofs.run.Came as any
 
 -- the word of an entry, also of one that isn't there
@@ -81,7 +82,6 @@ module _ (deck : Deck) (fits : may_be_star deck ≡ true → FitsStar deck) wher
 
   next-managed : (es : List Event) (e : Event) → ((run deck es).medium.star ≡ true → AreManaged deck (run deck es))
       → (happens deck (run deck es) e).medium.star ≡ true → AreManaged deck (happens deck (run deck es) e)
-  unfolding placed
   next-managed es e more mode = by_mode (run deck es).medium.star refl
     where
       w : World
@@ -95,8 +95,9 @@ module _ (deck : Deck) (fits : may_be_star deck ≡ true → FitsStar deck) wher
             fits = h.fits;
             words =
                 let here = slice_get_within w.nodes e.system.0 n at in
-                came-managed deck w e.system n (omega (arith, here, as_many deck es, h.fits.few)) star h.words
-                e.choice b o came;
+                of_medium w e.system n o (λ m. All IsManaged m.words)
+                (came-managed deck w e.system n (omega (arith, here, as_many deck es, h.fits.few)) star h.words
+                e.choice b o came);
           })
       by_mode false ring =
           subst (λ (x : World). x.medium.star ≡ true → AreManaged deck x) (run-push deck es (first_world deck) e)

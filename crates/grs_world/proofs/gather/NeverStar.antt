@@ -2,8 +2,8 @@
 -- removes no system in star mode.
 use Rattle.grs_world.proofs.Common.{[], ◌&&◌, ◌++◌, ◌∙◌, ◌∷◌, ◌≡◌, ap, Bool, Choice, cond, Deck, Event, false}
 use Rattle.grs_world.proofs.Common.{first_world, FitsStar, happens, is_purged, List, list_any, may_be_star, MediumState}
-use Rattle.grs_world.proofs.Common.{no_truth, NodeState, NoneInStar, or_parts, OrdersFit, placed, refl, reply_of, run}
-use Rattle.grs_world.proofs.Common.{subst, SysId, true, Turnout, World}
+use Rattle.grs_world.proofs.Common.{no_truth, NodeState, NoneInStar, or_parts, OrdersFit, refl, reply_of, run, subst}
+use Rattle.grs_world.proofs.Common.{SysId, true, Turnout, World}
 use Rattle.grs_world.specs.Decks.{orders_star}
 use Rattle.grs_world.specs.InStar.{removals_from}
 use Rattle.grs_world.specs.Removing.{NoneFollows}
@@ -15,6 +15,7 @@ use Rattle.grs_world.proofs.run.Came.{Came, Result, acted, acts-keep, already, c
 use Rattle.grs_world.proofs.run.Came.{nothing, removes_one, removes_star, turn, went_on}
 use Rattle.grs_world.proofs.run.Chosen.{each_came}
 use Rattle.grs_world.proofs.run.Each.{each_run, run-push}
+use Rattle.grs_world.proofs.run.Placed.{of_medium}
 
 module _ (deck : Deck) (never : may_be_star deck ≡ false) where
   mode-first : (first_world deck).medium.star ≡ false
@@ -35,18 +36,14 @@ module _ (deck : Deck) (never : may_be_star deck ≡ false) where
   mode-came m s n choice b o (no_such target next gone) ring = ring
   mode-came m s n choice b o (acted p is k r x acts) ring = (acts-keep deck m s n p k r x acts).star ∙ ring
 
-  mode-placed : (w : World) (c : SysId) (n : NodeState) (o : Turnout) → o.medium.star ≡ false
-      → (placed w c n o).medium.star ≡ false
-  unfolding placed
-  mode-placed w c n o ring = ring
-
   in_ring_mode : (es : List Event) → (run deck es).medium.star ≡ false
   in_ring_mode =
       each_run deck (λ es (w : World). w.medium.star ≡ false) mode-first
       (λ es e ring.
       each_came deck (run deck es) e (λ (w : World). w.medium.star ≡ false) ring
       (λ n b o at alive came.
-      mode-placed (run deck es) e.system n o (mode-came (run deck es).medium e.system n e.choice b o came ring)))
+      of_medium (run deck es) e.system n o (λ m. m.star ≡ false)
+      (mode-came (run deck es).medium e.system n e.choice b o came ring)))
 
   none-from : (es us : List Event) → removals_from deck (run deck us) es ≡ []
   none-from [] us = refl

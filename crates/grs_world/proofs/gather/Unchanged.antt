@@ -23,7 +23,8 @@ use Rattle.grs_world.proofs.run.InRing.{CameInRing, IsRing, each_in_ring, first_
 use Rattle.grs_world.proofs.run.InRing.{removed_by, told-ring}
 use Rattle.grs_world.proofs.run.Laps.{goes}
 use Rattle.grs_world.proofs.run.Messages.{given-later}
-use Rattle.grs_world.proofs.run.Runs.{GoodWorld, by_node}
+use Rattle.grs_world.proofs.run.Runs.{GoodWorld}
+use Rattle.grs_world.proofs.run.Placed.{by_node, medium-placed, of_both}
 use Rattle.grs_world.proofs.system.AtNode.{QuietStep, Seen, fix-history, fixes, keeps, seen-known}
 use Rattle.grs_world.proofs.system.Desks.{desk-seen}
 use Rattle.grs_world.proofs.system.Quiet.{quiet}
@@ -235,14 +236,16 @@ module _ (deck : Deck) (w : World) (h : AllMeet deck w) (c : SysId) (n : NodeSta
   placed-meets : (o : Turnout)
       → (has o.medium.removed c.0 ≡ false → Meets deck c o.medium.message.entries o.step.node) → Others o
       → AllMeet deck (placed w c n o)
-  unfolding placed
   placed-meets o own others =
-      by_node w.nodes c.0 n o.step.node at
+      of_both w c n o
+      (λ m ns. (u : ℕ) (k : NodeState) → slice_get ns u ≡ Some k → has m.removed u ≡ false
+      → Meets deck (record { 0 = u }) m.message.entries k)
+      (by_node w.nodes c.0 n o.step.node at
       (λ u k. has o.medium.removed u ≡ false → Meets deck (record { 0 = u }) o.medium.message.entries k) own
       (λ u k ne there live.
       let old = others u ne live in
       meets-left deck (record { 0 = u }) w.medium.message.entries o.medium.message.entries k old.1
-      (h u k there old.0))
+      (h u k there old.0)))
 
 -- an event in star mode
 module _ (deck : Deck) (w : World) (e : Event) (star : w.medium.star ≡ true)
@@ -327,10 +330,12 @@ module _ (deck : Deck) (w : World) (e : Event) (star : w.medium.star ≡ true)
 -- an event in ring mode, behind which the medium is in star mode
 module _ (deck : Deck) (w : World) (e : Event) (ring : IsRing deck w) (h : AllMeet deck w) where
   begin-meets : (happens deck w e).medium.star ≡ true → AllMeet deck (happens deck w e)
-  unfolding placed closed_by
+  unfolding closed_by
   begin-meets =
       each_in_ring deck w e (λ (x : World). x.medium.star ≡ true → AllMeet deck x) ring
-      (λ mode. no_truth w.medium.star mode ring.mode) by_ring
+      (λ mode. no_truth w.medium.star mode ring.mode)
+      (λ n o at alive came mode.
+      by_ring n o at alive came (sym (ap (λ m. m.star) (medium-placed w e.system n o)) ∙ mode))
     where
       by_ring : (n : NodeState) (o : Turnout) → slice_get w.nodes e.system.0 ≡ Some n
           → has w.medium.removed e.system.0 ≡ false → CameInRing deck w e.system n o → o.medium.star ≡ true

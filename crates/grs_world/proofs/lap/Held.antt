@@ -5,16 +5,16 @@ use Rattle.grs_world.proofs.Common.{Bool, cleared, cond, Deck, dropped, eq-eqb, 
 use Rattle.grs_world.proofs.Common.{first_medium, first_world, happens, has, has-live, has-with_other, has-with_same}
 use Rattle.grs_world.proofs.Common.{has-without_other, has-zero, is_unseen, left_by, length, List, list_any, live}
 use Rattle.grs_world.proofs.Common.{ltb-true, map, MediumState, most_additions, nat_lt, no_truth, NodeState, not}
-use Rattle.grs_world.proofs.Common.{or_left, or_right, placed, refl, Req, RingEntry, run, stamped, subst, suc, sym}
-use Rattle.grs_world.proofs.Common.{SysId, take, true, true≢false, turned_open, Turnout, WaitsForLive, with_also}
-use Rattle.grs_world.proofs.Common.{without, without_system, World, ℕ, ℕ_discrete}
+use Rattle.grs_world.proofs.Common.{or_left, or_right, refl, Req, RingEntry, run, stamped, subst, suc, sym, SysId, take}
+use Rattle.grs_world.proofs.Common.{true, true≢false, turned_open, Turnout, WaitsForLive, with_also, without}
+use Rattle.grs_world.proofs.Common.{without_system, World, ℕ, ℕ_discrete}
 use Rattle.grs_wire.specs.Masks.{only}
 use Rattle.grs_medium.proofs.LiveLaws.{same_set}
 use Rattle.grs_medium.specs.Apply.{is_live}
 use Rattle.grs_medium.proofs.GoesOn.{masks_of}
 use Rattle.grs_world.proofs.lap.Old.{Search, nobody, search_below, somebody}
 use Rattle.grs_world.proofs.run.Each.{each_run}
-use Rattle.grs_world.proofs.run.InRing.{CameInRing, IsRing, begins_ring, changed, each_in_ring, informed, is_ring}
+use Rattle.grs_world.proofs.run.InRing.{CameInRing, IsRing, begins_ring, changed, medium_in_ring, informed, is_ring}
 use Rattle.grs_world.proofs.run.InRing.{no_such, nothing, removes_one, star-stays, turn, went_on}
 use Rattle.grs_world.proofs.run.Waits.{run_waits}
 
@@ -143,9 +143,8 @@ module _ (deck : Deck) (w : World) (e : Event) (ring : IsRing deck w) (waits : W
       (stamped_held m.systems m.next (live w.medium) s e.system out (below s h) h)
 
   next_held : HeldIn (happens deck w e).medium
-  unfolding placed dropped
-  next_held =
-      each_in_ring deck w e (λ (x : World). HeldIn x.medium) ring held (λ n o at alive came. by_case n o came)
+  unfolding dropped
+  next_held = medium_in_ring deck w e HeldIn ring held (λ n o at alive came. by_case n o came)
     where
       by_case : (n : NodeState) (o : Turnout) → CameInRing deck w e.system n o → HeldIn o.medium
       by_case n o (nothing flags) = held

@@ -1,13 +1,14 @@
 -- What the Turn of the system comes to at which the message stands, in ring mode.
 use Rattle.grs_world.proofs.Common.{[], ◌==◌, ◌∙◌, ◌≡◌, ◌≢◌, and_parts, ap, Bool, Call, chosen, cond, Deck, eq-eqb}
 use Rattle.grs_world.proofs.Common.{false, finish, finish_call, first_node, happens, has, is_live, is_turned, length}
-use Rattle.grs_world.proofs.Common.{List, live, lt-ltb, ltb-true, most_additions, nat_lt, node_at, NodeState, None, not}
-use Rattle.grs_world.proofs.Common.{only, placed, prepare, refl, reply_of, Req, same_Some, slice_get, slice_get-get_or}
-use Rattle.grs_world.proofs.Common.{slice_get-set, Some, stands_at, Step, sym, SysId, take, true, true≢false, Turn}
-use Rattle.grs_world.proofs.Common.{turn_of, turn_row, turned, turned_open, Turnout, World}
+use Rattle.grs_world.proofs.Common.{List, live, lt-ltb, ltb-true, MediumState, most_additions, nat_lt, node_at}
+use Rattle.grs_world.proofs.Common.{NodeState, None, not, only, placed, prepare, refl, reply_of, Req, same_Some}
+use Rattle.grs_world.proofs.Common.{slice_get, slice_get-get_or, Some, stands_at, Step, sym, SysId, take, true}
+use Rattle.grs_world.proofs.Common.{true≢false, Turn, turn_of, turn_row, turned, turned_open, Turnout, World}
 use Rattle.std.specs.Prelude.{◌^◌}
 use Rattle.grs_node.specs.Node.{turn_call}
 use Rattle.grs_medium.specs.TurnReplies.{refusal}
+use Rattle.grs_world.proofs.run.Placed.{medium-placed, own-placed}
 use Rattle.grs_world.proofs.code.Happens.{happens-live}
 use Rattle.grs_world.proofs.code.Lapped.{reply_of-live, turned-call}
 use Rattle.grs_world.proofs.code.Turns.{chosen-given, chosen-refused}
@@ -61,6 +62,9 @@ module _ (deck : Deck) (w : World) (ring : IsRing deck w) (s : SysId) (here : w.
   by : (out : Turnout) → chosen deck w.medium s n Turn ≡ out → happens deck w (turn_of s) ≡ placed w s n out
   by out is = happens-live deck w (turn_of s) lives ∙ ap (placed w s n) is
 
+  medium_by : (out : Turnout) → chosen deck w.medium s n Turn ≡ out → (happens deck w (turn_of s)).medium ≡ out.medium
+  medium_by out is = ap (λ (x : World). x.medium) (by out is) ∙ medium-placed w s n out
+
   open_turn : (out : List Req)
       → turned w.medium.message s out (live w.medium) w.medium.rest
       ≡ turned_open w.medium.message s out (live w.medium) w.medium.rest
@@ -68,16 +72,16 @@ module _ (deck : Deck) (w : World) (ring : IsRing deck w) (s : SysId) (here : w.
   open_turn out = rw (stands, ring.unclosed) refl
 
   at_message : (n.known == w.medium.removed) ≡ true → TurnCame deck w s
-  unfolding turn_row placed
+  unfolding turn_row
   at_message k =
       let none = refused true k in
       let out : List Req = take most_additions n.outbox in
-      let is = by _ (chosen-given deck w.medium s n n.known asks none) in
+      let is = medium_by _ (chosen-given deck w.medium s n n.known asks none) in
       served out
       (ap is_turned (reply_of-live deck w s lives)
       ∙ turned-call deck n w.medium s n.known None asks (sym none))
-      (ap (λ (x : World). x.medium.message) is ∙ open_turn out) (ap (λ (x : World). x.medium.removed) is)
-      (ap (λ (x : World). x.medium.star) is)
+      (ap (λ (m : MediumState). m.message) is ∙ open_turn out) (ap (λ (m : MediumState). m.removed) is)
+      (ap (λ (m : MediumState). m.star) is)
 
   not_knowing : (n.known == w.medium.removed) ≡ false → Knows w s → ⊥
   not_knowing k knows =
@@ -93,22 +97,21 @@ module _ (deck : Deck) (w : World) (ring : IsRing deck w) (s : SysId) (here : w.
       (lt-ltb w.medium.removed (2 ^ length deck.systems) ring.within)
 
   elsewhere : (n.known == w.medium.removed) ≡ false → TurnCame deck w s
-  unfolding placed
   elsewhere k =
       let some = refused false k in
-      let is =
-      by _ (chosen-refused deck w.medium s n n.known asks (replies.Stale w.medium.removed) some
-      ∙ ap (λ (st : Step). record { medium = w.medium; step = st }) told_step) in
+      let informed : Turnout = record { medium = w.medium; step = only (record n { known = w.medium.removed }) } in
+      let came : chosen deck w.medium s n Turn ≡ informed =
+      chosen-refused deck w.medium s n n.known asks (replies.Stale w.medium.removed) some
+      ∙ ap (λ (st : Step). record { medium = w.medium; step = st }) told_step in
       told
       (ap is_turned (reply_of-live deck w s lives)
       ∙ turned-call deck n w.medium s n.known (Some (refusals.Stale w.medium.removed)) asks (sym some))
-      (ap (λ (x : World). x.medium) is)
+      (medium_by informed came)
       (λ t at.
       let now : slice_get (happens deck w (turn_of s)).nodes s.0 ≡ Some (record n { known = w.medium.removed }) =
-      ap (λ (x : World). slice_get x.nodes s.0) is
-      ∙ slice_get-set w.nodes s.0 n (record n { known = w.medium.removed }) there in
+      ap (λ (x : World). slice_get x.nodes s.0) (by informed came) ∙ own-placed w s n informed there in
       ap (λ (x : NodeState). x.known) (same_Some t (record n { known = w.medium.removed }) (sym at ∙ now))
-      ∙ ap (λ (x : World). x.medium.removed) (sym is))
+      ∙ ap (λ (m : MediumState). m.removed) (sym (medium_by informed came)))
       (not_knowing k)
 
   pub turn_came : TurnCame deck w s

@@ -29,7 +29,8 @@ use Rattle.grs_world.proofs.run.Growing.{asks-rounds, fixeds}
 use Rattle.grs_world.proofs.run.InRing.{IsRing, live-there}
 use Rattle.grs_world.proofs.run.Removals.{AreTakenOut, removes-fixed}
 use Rattle.grs_world.proofs.run.Messages.{given-later, message-kept}
-use Rattle.grs_world.proofs.run.Runs.{GoodMessage, GoodSystems, by_node, message_log, seen_at}
+use Rattle.grs_world.proofs.run.Runs.{GoodMessage, GoodSystems, message_log, seen_at}
+use Rattle.grs_world.proofs.run.Placed.{by_node}
 use Rattle.grs_world.proofs.star.Elements.{AreNear}
 use Rattle.grs_world.proofs.star.Members.{IsMember, IsPart, IsStar, has_manager}
 use Rattle.grs_world.proofs.star.Sound.{no_mail}

@@ -13,7 +13,8 @@ use Rattle.std.proofs.Common.{set}
 use Rattle.grs_wire.specs.Masks.{others}
 use Rattle.grs_world.proofs.run.Desks.{EventTells}
 use Rattle.grs_world.proofs.star.Worlds.{Fixes, IsWhole, none_fixed, one_fixed}
-use Rattle.grs_world.proofs.run.Runs.{GoodMessage, by_node, seen_at}
+use Rattle.grs_world.proofs.run.Runs.{GoodMessage, seen_at}
+use Rattle.grs_world.proofs.run.Placed.{by_node}
 use Rattle.grs_world.proofs.star.Ghosts.{IsAt}
 use Rattle.grs_world.proofs.star.Systems.{IsSystem}
 use Rattle.grs_world.proofs.run.Reading.{ReadTo, read_all, reading}

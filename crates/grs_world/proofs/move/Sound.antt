@@ -8,6 +8,8 @@ use Rattle.grs_world.proofs.Common.{Some, SysId, take, true, Turnout, World, ℕ
 use Rattle.grs_world.specs.Decks.{orders_star}
 use Rattle.std.specs.Prelude.{◌&&◌}
 use Rattle.grs_world.proofs.move.Begin.{switched-moved}
+use Rattle.grs_world.proofs.run.Placed.{fixed-placed, of_medium}
+use Rattle.grs_world.proofs.run.First.{count_first, first_is}
 use Rattle.grs_world.proofs.move.Changing.{IsChanging, IsMoved, Shown, has_changed, waits_yet}
 use Rattle.grs_world.proofs.move.Decks.{order-may}
 use Rattle.grs_world.proofs.move.Moved.{changing-counted, event-moved}
@@ -17,13 +19,12 @@ use Rattle.grs_world.proofs.run.Chosen.{removes-none}
 use Rattle.grs_world.proofs.run.Knowing.{known_run}
 use Rattle.grs_world.proofs.run.Each.{each_live}
 use Rattle.grs_world.proofs.run.Spared.{each_spared, none_in_ring, none_next}
-use Rattle.grs_world.proofs.run.InRing.{CameInRing, IsRing, changed, count_first, each_in_ring, first_ring, informed}
-use Rattle.grs_world.proofs.run.InRing.{live-there, no_such, nothing, removes_one, ring-counted, ring-placed, turn}
-use Rattle.grs_world.proofs.run.InRing.{went_on}
+use Rattle.grs_world.proofs.run.InRing.{CameInRing, IsRing, changed, each_in_ring, first_ring, informed, live-there}
+use Rattle.grs_world.proofs.run.InRing.{no_such, nothing, removes_one, ring-counted, ring-placed, turn, went_on}
 use Rattle.grs_world.proofs.run.Removals.{gone_are_removed, taken_out}
 use Rattle.grs_world.proofs.run.Runs.{GoodTold, GoodWorld, told-after, told-counted}
 use Rattle.grs_world.proofs.run.Sound.{came_tells, first_good, first_good_told, first_message, good_came, good_counted}
-use Rattle.grs_world.proofs.run.Sound.{first_is, sound-of}
+use Rattle.grs_world.proofs.run.Sound.{sound-of}
 use Rattle.grs_world.proofs.star.Sound.{first_whole}
 use Rattle.grs_world.specs.Agree.{Sound}
 use Rattle.grs_world.proofs.run.Site.{at_site}
@@ -56,8 +57,7 @@ module _ (deck : Deck) (fits : may_be_star deck ≡ true → FitsStar deck) (es 
 
   module _ (n : NodeState) (at : slice_get (run deck es).nodes e.system.0 ≡ Some n) where
     came : (o : Turnout) → items (placed w e.system n o).fixed ≡ items (w.fixed ++ fixed_by e.system o.step.fixed)
-    unfolding placed
-    came o = refl
+    came o = ap items (fixed-placed (run deck es) e.system n o)
 
     -- the medium is in star mode behind it
     to_star : FitsStar deck → GoodTold deck es w → GoodDesks deck w → n.tasks.system ≡ e.system.0 → (o : Turnout)
@@ -87,7 +87,7 @@ module _ (deck : Deck) (fits : may_be_star deck ≡ true → FitsStar deck) (es 
           told-after deck es e n at g.told o (items (w.fixed ++ fixed_by c o.step.fixed)) (came n at o) is
           (desk-agrees deck es w g.told d c n at home (history (items (w.fixed ++ fixed_by c o.step.fixed)))
           o.step.fixed o.step.node o.medium.star tells) in
-          in_ring begins (ring-placed deck w ring c n at o h mode)
+          in_ring begins (ring-placed deck w ring c n at o h (of_medium w c n o (λ m. m.star ≡ false) mode))
           (good_came deck es e ring g n at alive o h mode told is)
           (desks-after deck w d c n at o (history (items (w.fixed ++ fixed_by c o.step.fixed))) tells)
 

@@ -34,7 +34,7 @@ use Rattle.grs_world.proofs.star.Systems.{IsSystem, is_late, news_of}
 use Rattle.grs_world.proofs.system.AtNode.{QuietStep, Seen, keeps, fixes, fix-history, fix-stays, seen-known}
 use Rattle.grs_world.proofs.run.Reading.{all-rounds, read-entries, read_all}
 use Rattle.grs_world.proofs.run.Growing.{asks-rounds, fixeds}
-use Rattle.grs_world.proofs.run.Runs.{by_node}
+use Rattle.grs_world.proofs.run.Placed.{by_node}
 use Rattle.grs_world.proofs.star.OwnEvents.{coming-own, local-calm}
 use Rattle.grs_world.proofs.system.Desks.{desk-seen, desk-told}
 use Rattle.grs_world.proofs.run.Messages.{given-due, message-closed}

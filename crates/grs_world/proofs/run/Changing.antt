@@ -2,10 +2,11 @@
 use Rattle.grs_world.proofs.Common.{[], ◌++◌, ◌||◌, ◌∙◌, ◌≡◌, ◌⊎◌, and_parts, ap, append-nil, Bool, Choice, Deck}
 use Rattle.grs_world.proofs.Common.{desk_told, Event, false, first_world, fixed_by, happens, inl, inr, is_none, length}
 use Rattle.grs_world.proofs.Common.{lines_of, List, MediumState, most_additions, NodeState, None, Option, placed}
-use Rattle.grs_world.proofs.Common.{purged, refl, run, slice_get, slice_get-set, Some, StarPart, stays-task}
-use Rattle.grs_world.proofs.Common.{stays-turned, Step, sym, SysId, take, true, Turnout, unseen, World}
+use Rattle.grs_world.proofs.Common.{purged, refl, run, slice_get, Some, StarPart, stays-task, stays-turned, Step, sym}
+use Rattle.grs_world.proofs.Common.{SysId, take, true, Turnout, unseen, World}
 use Rattle.std.proofs.Common.{is_some}
 use Rattle.grs_world.proofs.run.InRing.{purged-ring, removed_by}
+use Rattle.grs_world.proofs.run.Placed.{fixed-placed, own-placed}
 use Rattle.grs_world.specs.Changing.{ChangesFixNothing, has_moved, is_switch}
 use Rattle.grs_world.proofs.run.Each.{run-push}
 use Rattle.grs_world.proofs.run.Came.{Acts, Came, acted, already, began, changed, decided, informed, last_turn, left}
@@ -87,16 +88,6 @@ module _ (deck : Deck) (m : MediumState) (s : SysId) (n : NodeState) where
           let parts = and_parts (is_none n.star) (is_some st.node.star) k in moved n.star refl parts.0 parts.1
 
 -- ---- in the world
-placed_fixed : (w : World) (s : SysId) (n : NodeState) (o : Turnout) → o.step.fixed ≡ []
-    → (placed w s n o).fixed ≡ w.fixed
-unfolding placed
-placed_fixed w s n o none = ap (λ fs. w.fixed ++ fixed_by s fs) none ∙ append-nil w.fixed
-
-placed_node : (w : World) (s : SysId) (n : NodeState) (o : Turnout) → slice_get w.nodes s.0 ≡ Some n
-    → slice_get (placed w s n o).nodes s.0 ≡ Some o.step.node
-unfolding placed
-placed_node w s n o at = slice_get-set w.nodes s.0 n o.step.node at
-
 next_none : (deck : Deck) (w : World) (e : Event)
     → (is_switch e.choice || has_moved (slice_get w.nodes e.system.0) (slice_get (happens deck w e).nodes e.system.0))
     ≡ true
@@ -107,10 +98,11 @@ next_none deck w e =
     → x.fixed ≡ w.fixed)
     (λ h. refl)
     (λ n b o at alive came h.
-    placed_fixed w e.system n o (fixes-none deck w.medium e.system n e.choice b o came
+    let none = fixes-none deck w.medium e.system n e.choice b o came
     (sym (ap (λ x. is_switch e.choice || has_moved x (slice_get (placed w e.system n o).nodes e.system.0)) at
-    ∙ ap (λ x. is_switch e.choice || has_moved (Some n) x) (placed_node w e.system n o at))
-    ∙ h)))
+    ∙ ap (λ x. is_switch e.choice || has_moved (Some n) x) (own-placed w e.system n o at))
+    ∙ h) in
+    fixed-placed w e.system n o ∙ (ap (λ fs. w.fixed ++ fixed_by e.system fs) none ∙ append-nil w.fixed))
 
 pub changes_none : (deck : Deck) (es : List Event) (next : Event) → ChangesFixNothing deck es next
 changes_none deck es next =

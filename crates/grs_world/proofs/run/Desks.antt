@@ -12,7 +12,8 @@ use Rattle.grs_world.specs.Agree.{DeskAgrees, HasCause, purges, is_desk_before, 
 use Rattle.grs_world.specs.Agree.{was_star}
 use Rattle.grs_node.specs.Node.{desk_of}
 use Rattle.std.proofs.Math.Bool.{or-true}
-use Rattle.grs_world.proofs.run.Runs.{AllBy, GoodTold, Tells, at_desk, by_node, to_tasks}
+use Rattle.grs_world.proofs.run.Runs.{AllBy, GoodTold, Tells, at_desk, to_tasks}
+use Rattle.grs_world.proofs.run.Placed.{by_node, of_world}
 use Rattle.grs_world.specs.Passed.{is_desk_line}
 use Rattle.grs_wire.specs.declared.deck.Desk.{Desk as DeskLine}
 use Rattle.grs_wire.specs.declared.told.Said.TheVariants as saids
@@ -222,8 +223,7 @@ module _ (deck : Deck) (w : World) (d : GoodDesks deck w) (c : SysId) (n : NodeS
       → list_all (is_desk_told c.0 (o.step.node.done + 1)) (told_by e c ls) ≡ true
       → ((k : ℕ) → 0 < k → k ≤ o.step.node.done → (k ≤ n.done) ⊎ (list_any (is_desk_line k) ls ≡ true))
       → GoodDesks deck (placed w c n o)
-  unfolding placed
-  desks-behind ls now mode old new reach = record {
+  desks-behind ls now mode old new reach = of_world w c n o (GoodDesks deck) (record {
     changes =
         ap (list_any (λ x. tells_star x.line)) told_is
         ∙ (list_any-append (λ x. tells_star x.line) w.told (told_by e c ls)
@@ -239,7 +239,7 @@ module _ (deck : Deck) (w : World) (d : GoodDesks deck w) (c : SysId) (n : NodeS
         (λ u m.
         (k : ℕ) → 0 < k → k ≤ m.done → list_any (is_told_at u k) (w.told ++ told_by e c (told_in n o.step)) ≡ true)
         (λ k low l. by_reach k low (reach k low l)) (λ u m ne there k low l. older u k (d.each u m there k low l));
-  }
+  })
     where
       told_is : w.told ++ told_by e c (told_in n o.step) ≡ w.told ++ told_by e c ls
       told_is =

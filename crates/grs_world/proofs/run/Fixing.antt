@@ -14,6 +14,7 @@ use Rattle.std.specs.Prelude.{◌+◌, ◌++◌, length}
 use Rattle.grs_wire.specs.declared.request.Fixed.TheVariants.{Asked}
 use Rattle.grs_node.proofs.ReplyFits.{by-reply}
 use Rattle.task_state.proofs.ViewLaws.{state_of-same}
+use Rattle.grs_world.proofs.run.Placed.{fixed-placed}
 use Rattle.grs_world.specs.Fixing.{EventFixes, acting, asks_for, at_once, fixed_alone, fixed_at_end, fixed_by_event}
 use Rattle.grs_world.specs.Fixing.{fixed_by_line, fixed_by_reply, fixed_by_task, fixed_in_phase, fixed_more}
 use Rattle.grs_world.specs.Fixing.{fixed_when_ready, held_first, one_request}
@@ -202,7 +203,7 @@ fixes-chosen deck m s n choice alive =
 -- ---- in the world
 fixes-next : (deck : Deck) (w : World) (e : Event)
     → (happens deck w e).fixed ≡ w.fixed ++ fixed_more deck w e (acting w e.system)
-unfolding happens happens_at placed
+unfolding happens happens_at
 fixes-next deck w e = by_node (slice_get w.nodes e.system.0)
   where
     gone : (b : Bool) → w.fixed ≡ w.fixed ++ fixed_more deck w e (cond b None None)
@@ -214,7 +215,8 @@ fixes-next deck w e = by_node (slice_get w.nodes e.system.0)
         ≡ w.fixed ++ fixed_more deck w e (cond b None (Some n))
     here n true out = sym (append-nil w.fixed)
     here n false alive =
-        ap (λ fs. w.fixed ++ fixed_by e.system fs) (fixes-chosen deck w.medium e.system n e.choice alive)
+        fixed-placed w e.system n (chosen deck w.medium e.system n e.choice)
+        ∙ ap (λ fs. w.fixed ++ fixed_by e.system fs) (fixes-chosen deck w.medium e.system n e.choice alive)
 
     by_node : (o : Option NodeState)
         → (happens_at deck w e o).fixed ≡ w.fixed ++ fixed_more deck w e (cond (has w.medium.removed e.system.0) None o)

@@ -1,13 +1,13 @@
 -- The message waits for no removed system.
-use Rattle.grs_world.proofs.Common.{[], ◌<◌, ◌∙◌, ◌∷◌, ◌≡◌, any_unseen, ap, arith, Bool, chosen, Deck, Event}
-use Rattle.grs_world.proofs.Common.{first_world, has, is_live, is_unseen, length, length-set, List, list_any, lives}
-use Rattle.grs_world.proofs.Common.{or_left, or_right, placed, RingEntry, run, slice_index_or, suc, sym, SysId, true}
-use Rattle.grs_world.proofs.Common.{zero, ℕ}
+use Rattle.grs_world.proofs.Common.{[], ◌<◌, ◌∙◌, ◌∷◌, ◌≡◌, any_unseen, ap, arith, Bool, Deck, Event, first_world, has}
+use Rattle.grs_world.proofs.Common.{is_live, is_unseen, length, List, list_any, lives, or_left, or_right, RingEntry}
+use Rattle.grs_world.proofs.Common.{run, slice_index_or, suc, sym, SysId, true, zero, ℕ}
 use Rattle.std.specs.Prelude.{Contains}
 use Rattle.grs_medium.specs.Apply.{is_live as medium_is_live}
+use Rattle.grs_world.proofs.run.First.{count_first}
 use Rattle.grs_world.specs.Removing.{MessageGoesOn}
 use Rattle.grs_world.proofs.run.Each.{each_event, each_run}
-use Rattle.grs_world.proofs.run.InRing.{count_first}
+use Rattle.grs_world.proofs.run.Placed.{count-placed}
 use Rattle.grs_world.proofs.run.Laps.{goes_on}
 use Rattle.grs_world.proofs.run.Waits.{run_waits}
 
@@ -26,13 +26,11 @@ has_unseen es x s c h = one-passes (is_unseen s) x h es c.0 c.1 c.2
 module _ (deck : Deck) where
   -- there are as many systems as at the start
   pub as_many : (es : List Event) → length (run deck es).nodes ≡ length deck.systems
-  unfolding placed first_world
-  as_many es = each_run deck (λ us w. length w.nodes ≡ length deck.systems) (count_first deck 0 deck.systems)
+  unfolding first_world
+  as_many = each_run deck (λ us w. length w.nodes ≡ length deck.systems) (count_first deck 0 deck.systems)
       (λ us e g.
       each_event deck (run deck us) e (λ w. length w.nodes ≡ length deck.systems) g
-      (λ n at.
-      length-set (run deck us).nodes e.system.0 (chosen deck (run deck us).medium e.system n e.choice).step.node ∙ g))
-      es
+      (λ n at. count-placed (run deck us) e.system n _ ∙ g))
 
   live_as : (es : List Event) (s : SysId) → medium_is_live (run deck es).medium s ≡ is_live (run deck es) s
   live_as es s =

@@ -3,14 +3,14 @@ use Rattle.grs_world.proofs.Common.{[], ◌++◌, ◌==◌, ◌∷◌, ◌≡◌
 use Rattle.grs_world.proofs.Common.{cond, Deck, departed, dropped, eqb-true, Event, false, filter, first_world}
 use Rattle.grs_world.proofs.Common.{FitsStar, happens, has, is_home_at, left_by, length, List, list_all, live, map}
 use Rattle.grs_world.proofs.Common.{may_be_star, Message, most_additions, never_opened, NodeState, opened, own_requests}
-use Rattle.grs_world.proofs.Common.{placed, refl, Remove, Req, Request, RingBody, RingEntry, run, slice_get, Some}
-use Rattle.grs_world.proofs.Common.{stamped, stands_at, subst, suc, sym, SysId, take, take-none, true, turned}
-use Rattle.grs_world.proofs.Common.{turned_closed, Turnout, World, zero, ℕ}
+use Rattle.grs_world.proofs.Common.{refl, Remove, Req, Request, RingBody, RingEntry, run, slice_get, Some, stamped}
+use Rattle.grs_world.proofs.Common.{stands_at, subst, suc, sym, SysId, take, take-none, true, turned, turned_closed}
+use Rattle.grs_world.proofs.Common.{Turnout, World, zero, ℕ}
 use Rattle.std.specs.Prelude.{not}
 use Rattle.grs_wire.specs.Masks.{only}
 use Rattle.grs_world.proofs.run.Each.{each_run}
-use Rattle.grs_world.proofs.run.InRing.{CameInRing, IsRing, begins_ring, changed, each_in_ring, each_in_star, informed}
-use Rattle.grs_world.proofs.run.InRing.{is_ring, live-there, no_such, nothing, removes_one, turn, went_on}
+use Rattle.grs_world.proofs.run.InRing.{CameInRing, IsRing, begins_ring, changed, each_in_star, informed, is_ring}
+use Rattle.grs_world.proofs.run.InRing.{live-there, no_such, nothing, removes_one, turn, went_on, medium_in_ring}
 use Rattle.grs_world.proofs.run.Laps.{goes_on, turned_shut}
 use Rattle.grs_world.proofs.move.Sound.{ring_good}
 use Rattle.grs_world.proofs.run.Runs.{GoodWorld}
@@ -59,9 +59,8 @@ module _ (deck : Deck) (fits : may_be_star deck ≡ true → FitsStar deck) wher
   module _ (es : List Event) (e : Event) (h : AllHome (run deck es).medium.message.entries) where
     in_ring_next : IsRing deck (run deck es) → GoodWorld deck es (run deck es)
         → AllHome (happens deck (run deck es) e).medium.message.entries
-    unfolding placed closed_by dropped
-    in_ring_next ring g =
-        each_in_ring deck (run deck es) e (λ (x : World). AllHome x.medium.message.entries) ring h by_case
+    unfolding closed_by dropped
+    in_ring_next ring g = medium_in_ring deck (run deck es) e (λ m. AllHome m.message.entries) ring h by_case
       where
         by_case : (n : NodeState) (o : Turnout) → slice_get (run deck es).nodes e.system.0 ≡ Some n
             → has (run deck es).medium.removed e.system.0 ≡ false → CameInRing deck (run deck es) e.system n o

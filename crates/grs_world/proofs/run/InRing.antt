@@ -1,19 +1,19 @@
 -- A run of a deck in ring mode, as long as nobody has changed the mode: no system has a part in star mode, and the
 -- message is open. Systems may be removed.
-use Rattle.grs_world.proofs.Common.{[], ◌+◌, ◌<◌, ◌∙◌, ◌∷◌, ◌≡◌, and_parts, ap, arith, awake, Bool, by_test, Choice}
+use Rattle.grs_world.proofs.Common.{[], ◌<◌, ◌∙◌, ◌∷◌, ◌≡◌, and_parts, ap, arith, awake, Bool, by_test, Choice}
 use Rattle.grs_world.proofs.Common.{closed_by, cond, counted, Deck, departed, desk_told, dropped, Event, false}
-use Rattle.grs_world.proofs.Common.{first_node, first_nodes, first_number, first_part, first_world, happens, has}
-use Rattle.grs_world.proofs.Common.{has-live, known_from, length, length-set, lines_of, List, live, lives, losing}
-use Rattle.grs_world.proofs.Common.{losing_in, lt-ltb, ltb-true, may_go, MediumState, members, Message, most_additions}
-use Rattle.grs_world.proofs.Common.{nat_lt, never_opened, next_order, no_truth, NodeState, None, only, opened}
-use Rattle.grs_world.proofs.Common.{own_words, placed, Purged, purged, put_in, read_entries, refl, replicate, Req, run}
-use Rattle.grs_world.proofs.Common.{same_Some, slice_get, slice_get_within, Some, stale, stands_at, stays-task}
-use Rattle.grs_world.proofs.Common.{stays-turned, Step, subst, suc, switched, sym, SysId, SystemDef, take, task_step}
-use Rattle.grs_world.proofs.Common.{TaskId, true, turned, turned_closed, turned_open, Turnout, unseen, with_also}
-use Rattle.grs_world.proofs.Common.{without_system, without_those, World, zero, ℕ}
+use Rattle.grs_world.proofs.Common.{first_node, first_number, first_part, first_world, happens, has, has-live}
+use Rattle.grs_world.proofs.Common.{known_from, length, length-set, lines_of, List, live, lives, losing, losing_in}
+use Rattle.grs_world.proofs.Common.{lt-ltb, ltb-true, may_go, MediumState, members, Message, most_additions, nat_lt}
+use Rattle.grs_world.proofs.Common.{never_opened, next_order, no_truth, NodeState, None, only, opened, own_words}
+use Rattle.grs_world.proofs.Common.{placed, Purged, purged, put_in, read_entries, refl, replicate, Req, run, slice_get}
+use Rattle.grs_world.proofs.Common.{slice_get_within, Some, stale, stands_at, stays-task, stays-turned, Step, subst}
+use Rattle.grs_world.proofs.Common.{switched, sym, SysId, take, task_step, TaskId, true, turned, turned_closed}
+use Rattle.grs_world.proofs.Common.{turned_open, Turnout, unseen, with_also, without_system, without_those, World, ℕ}
 use Rattle.std.proofs.Common.{◌^◌}
 use Rattle.grs_medium.specs.Apply.{is_live}
-use Rattle.grs_world.proofs.run.Runs.{by_node}
+use Rattle.grs_world.proofs.run.First.{count_first, first_is}
+use Rattle.grs_world.proofs.run.Placed.{by_node, of_medium, medium-placed, of_world}
 use Rattle.grs_world.proofs.run.Each.{each_run}
 use Rattle.grs_world.proofs.run.Came.{Came, acts-keep, no_part, Result}
 use Rattle.grs_world.proofs.run.Chosen.{each_came}
@@ -147,6 +147,15 @@ each_in_ring deck w e P ring idle comes =
     each_came deck w e P idle (λ n b o at alive c.
     comes n o at alive (in-ring deck w ring e.system n at e.choice b o c))
 
+-- What speaks of the medium alone.
+pub medium_in_ring : (deck : Deck) (w : World) (e : Event) (P : MediumState → Type 0) → IsRing deck w → P w.medium
+    → ((n : NodeState) (o : Turnout) → slice_get w.nodes e.system.0 ≡ Some n → has w.medium.removed e.system.0 ≡ false
+    → CameInRing deck w e.system n o → P o.medium)
+    → P (happens deck w e).medium
+medium_in_ring deck w e P ring idle comes =
+    each_in_ring deck w e (λ x. P x.medium) ring idle
+    (λ n o at alive came. of_medium w e.system n o P (comes n o at alive came))
+
 -- ---- one event more
 module _ (deck : Deck) (w : World) (g : IsRing deck w) where
   pub ring-counted : IsRing deck (counted w)
@@ -162,24 +171,25 @@ module _ (deck : Deck) (w : World) (g : IsRing deck w) where
 
   pub ring-placed : (c : SysId) (n : NodeState) → slice_get w.nodes c.0 ≡ Some n → (o : Turnout)
       → CameInRing deck w c n o
-      → o.medium.star ≡ false → IsRing deck (placed w c n o)
-  unfolding placed removed_by desk_told dropped
-  ring-placed c n at o h mode = go o h mode
+      → (placed w c n o).medium.star ≡ false → IsRing deck (placed w c n o)
+  unfolding removed_by desk_told dropped
+  ring-placed c n at o h mode = go o h (sym (ap (λ m. m.star) (medium-placed w c n o)) ∙ mode)
     where
       kept : (m : MediumState) (st : Step) → m.star ≡ false → m.message.closed ≡ false
           → m.message.systems ≡ length deck.systems → m.inboxes ≡ w.medium.inboxes → st.node.star ≡ n.star
           → m.removed < 2 ^ length deck.systems → IsRing deck (placed w c n (record { medium = m; step = st }))
-      kept m st star shut around boxes same within = record {
-        mode = star;
-        unclosed = shut;
-        systems = length-set w.nodes c.0 st.node ∙ g.systems;
-        around = around;
-        boxes = boxes ∙ g.boxes;
-        alone =
-            by_node w.nodes c.0 n st.node at (λ u k. k.star ≡ None) (same ∙ g.alone c.0 n at)
-            (λ u k apart there. g.alone u k there);
-        within = within;
-      }
+      kept m st star shut around boxes same within =
+          of_world w c n (record { medium = m; step = st }) (IsRing deck) (record {
+            mode = star;
+            unclosed = shut;
+            systems = length-set w.nodes c.0 st.node ∙ g.systems;
+            around = around;
+            boxes = boxes ∙ g.boxes;
+            alone =
+                by_node w.nodes c.0 n st.node at (λ u k. k.star ≡ None) (same ∙ g.alone c.0 n at)
+                (λ u k apart there. g.alone u k there);
+            within = within;
+          })
 
       with_target : (target : SysId) → is_live w.medium target ≡ true
           → with_also w.medium.removed target.0 < 2 ^ length deck.systems
@@ -210,10 +220,10 @@ pub each_in_star : (deck : Deck) (w : World) (e : Event) → w.medium.star ≡ t
     → ((out : List Req) → P (turned w.medium.message e.system out (live w.medium) w.medium.rest) w.medium.star)
     → ((target : SysId) → P (departed w.medium.message target) w.medium.star) →
     P (happens deck w e).medium.message (happens deck w e).medium.star
-unfolding placed turned
+unfolding turned
 each_in_star deck w e star P same turns departs =
     each_came deck w e (λ (x : World). P x.medium.message x.medium.star) same
-    (λ n b o at alive. by_case n e.choice b o)
+    (λ n b o at alive came. of_medium w e.system n o (λ z. P z.message z.star) (by_case n e.choice b o came))
   where
     m : MediumState
     m = w.medium
@@ -256,18 +266,9 @@ pub star-stays : (deck : Deck) (w : World) (e : Event) → w.medium.star ≡ tru
 star-stays deck w e star = each_in_star deck w e star (λ m b. b ≡ true) star (λ out. star) (λ target. star)
 
 -- ---- at the start
-first_node_at : (deck : Deck) → deck.star ≡ false → (k : ℕ) (ds : List SystemDef) (s : ℕ) (n : NodeState)
-    → slice_get (first_nodes deck k ds) s ≡ Some n → n.star ≡ None
+no_first_part : (deck : Deck) → deck.star ≡ false → (s : ℕ) → (first_node deck s).star ≡ None
 unfolding first_node
-first_node_at deck h k [] s n at = absurd (cc)
-first_node_at deck h k (d ∷ ds) zero n at =
-    subst (λ (m : NodeState). m.star ≡ None) (same_Some (first_node deck k) n at)
-    (ap (λ (b : Bool). cond b (Some (first_part (record { 0 = k }) deck.entries)) None) h)
-first_node_at deck h k (d ∷ ds) (suc s) n at = first_node_at deck h (k + 1) ds s n at
-
-pub count_first : (deck : Deck) (k : ℕ) (ds : List SystemDef) → length (first_nodes deck k ds) ≡ length ds
-count_first deck k [] = refl
-count_first deck k (d ∷ ds) = ap suc (count_first deck (k + 1) ds)
+no_first_part deck h s = ap (λ (b : Bool). cond b (Some (first_part (record { 0 = s }) deck.entries)) None) h
 
 pub first_ring : (deck : Deck) → deck.star ≡ false → IsRing deck (first_world deck)
 unfolding first_world
@@ -279,14 +280,15 @@ first_ring deck h = record {
       by_test (λ (m : Message). m.systems ≡ length deck.systems) deck.star (never_opened (length deck.systems))
       (opened (length deck.systems)) (λ e. refl) (λ e. refl);
   boxes = refl;
-  alone = λ s n at. first_node_at deck h 0 deck.systems s n at;
+  alone = λ s n at.
+      ap (λ (k : NodeState). k.star) (first_is deck s n at)
+      ∙ no_first_part deck h s;
   within = pow_pos (length deck.systems);
 }
 
 -- ---- every list of events behind which the medium is still in ring mode
 pub is_ring : (deck : Deck) → deck.star ≡ false → (es : List Event) → (run deck es).medium.star ≡ false
     → IsRing deck (run deck es)
-unfolding placed
 is_ring deck h = each_run deck (λ es w. w.medium.star ≡ false → IsRing deck w) (λ mode. first_ring deck h) step
   where
     step : (es : List Event) (e : Event) → ((run deck es).medium.star ≡ false → IsRing deck (run deck es))
@@ -301,13 +303,7 @@ is_ring deck h = each_run deck (λ es w. w.medium.star ≡ false → IsRing deck
         go false at =
             let k = more at in
             each_in_ring deck w e (λ x. x.medium.star ≡ false → IsRing deck x) k (λ z. ring-counted deck w k)
-            (λ n o here alive c z. placed_star k n o here c z) mode
-          where
-            placed_star : (k : IsRing deck (run deck es)) (n : NodeState) (o : Turnout)
-                → slice_get (run deck es).nodes e.system.0 ≡ Some n → CameInRing deck (run deck es) e.system n o
-                → (placed (run deck es) e.system n o).medium.star ≡ false
-                → IsRing deck (placed (run deck es) e.system n o)
-            placed_star k n o here c z = ring-placed deck w k e.system n here o c z
+            (λ n o here alive c. ring-placed deck w k e.system n here o c) mode
 
 -- A deck that begins in star mode stays in it, so a run that is in ring mode is one of these.
 pub begins_ring : (deck : Deck) (es : List Event) → (run deck es).medium.star ≡ false → deck.star ≡ false

@@ -12,8 +12,8 @@ use Rattle.grs_world.proofs.run.Came.{nothing, removes_one, removes_star, turn, 
 use Rattle.grs_world.proofs.run.Came.{parted, sent, settled, told, took}
 use Rattle.grs_world.proofs.run.Chosen.{each_came}
 use Rattle.grs_world.proofs.run.Each.{each_run}
-use Rattle.grs_world.proofs.run.Runs.{by_node}
-use Rattle.grs_world.proofs.run.Sound.{first_of}
+use Rattle.grs_world.proofs.run.Placed.{by_node, of_both}
+use Rattle.grs_world.proofs.run.First.{first_of}
 use Rattle.grs_wire.specs.declared.deck.Choice.TheVariants as choices
 use Rattle.grs_wire.specs.declared.told.Said.TheVariants as saids
 
@@ -134,10 +134,10 @@ knows-first deck m s u h = no_truth (has 0 u) h (has-zero u)
 
 known-placed : (w : World) (c : SysId) (n : NodeState) → slice_get w.nodes c.0 ≡ Some n → (o : Turnout)
     → Keeps w.medium o → KnownAreRemoved w → KnownAreRemoved (placed w c n o)
-unfolding placed
 known-placed w c n at o own h =
-    by_node w.nodes c.0 n o.step.node at (λ s k. KnowsRemoved o.medium k) own.knows
-    (λ s k ne found u knows. own.more u (h s k found u knows))
+    of_both w c n o (λ m ns. (s : ℕ) (k : NodeState) → slice_get ns s ≡ Some k → KnowsRemoved m k)
+    (by_node w.nodes c.0 n o.step.node at (λ s k. KnowsRemoved o.medium k) own.knows
+    (λ s k ne found u knows. own.more u (h s k found u knows)))
 
 pub known_run : (deck : Deck) (es : List Event) → KnownAreRemoved (run deck es)
 known_run deck =

@@ -6,11 +6,11 @@ use Rattle.grs_world.proofs.Common.{false, first_medium, first_number, first_wor
 use Rattle.grs_world.proofs.Common.{has-with_other, has-with_same, inbox, interest, leave_reply, leave_row, length}
 use Rattle.grs_world.proofs.Common.{List, live, ltb-true, Mail, mail_row, medium_at_end, MediumState, Message}
 use Rattle.grs_world.proofs.Common.{most_additions, nat_lt, never_opened, no_truth, NodeState, None, not, Nothing}
-use Rattle.grs_world.proofs.Common.{opened, Option, placed, prepare, Prepared, purge_row, Quiet, refl, Reply, Req}
-use Rattle.grs_world.proofs.Common.{Request, rest_row, RingEntry, route, row, run, slice_get, Some, stands_at}
-use Rattle.grs_world.proofs.Common.{submit_row, subst, switch_row, sym, SysId, take_row, true, turn_reply, turn_row}
-use Rattle.grs_world.proofs.Common.{turned, turned_closed, turned_open, Turnout, unseen, WaitsForLive, with_also}
-use Rattle.grs_world.proofs.Common.{without_system, without_target, World, ℕ}
+use Rattle.grs_world.proofs.Common.{opened, Option, prepare, Prepared, purge_row, Quiet, refl, Reply, Req, Request}
+use Rattle.grs_world.proofs.Common.{rest_row, RingEntry, route, row, run, slice_get, Some, stands_at, submit_row, subst}
+use Rattle.grs_world.proofs.Common.{switch_row, sym, SysId, take_row, true, turn_reply, turn_row, turned, turned_closed}
+use Rattle.grs_world.proofs.Common.{turned_open, Turnout, unseen, WaitsForLive, with_also, without_system}
+use Rattle.grs_world.proofs.Common.{without_target, World, ℕ}
 use Rattle.grs_medium.specs.Medium.{all_rest, word}
 use Rattle.grs_wire.specs.Masks.{others}
 use Rattle.grs_wire.specs.LockWords.{is_kept}
@@ -28,10 +28,11 @@ use Rattle.grs_world.proofs.message.LapsMessage.{closed_turn, departed_round, dr
 use Rattle.grs_medium.proofs.GoesOn.{masks_of}
 use Rattle.grs_world.proofs.run.Waits.{run_waits}
 use Rattle.lock_structure.specs.declared.word.Route.{Route}
-use Rattle.grs_world.proofs.run.InRing.{CameInRing, IsRing, changed, each_in_ring, informed, is_ring, live-there}
-use Rattle.grs_world.proofs.run.InRing.{no_such, nothing, removes_one, star-stays, turn, went_on}
+use Rattle.grs_world.proofs.run.InRing.{CameInRing, IsRing, changed, informed, is_ring, live-there, no_such, nothing}
+use Rattle.grs_world.proofs.run.InRing.{removes_one, star-stays, turn, went_on, medium_in_ring}
 use Rattle.grs_world.proofs.run.Came.{Came, Result, acts-keep}
 use Rattle.grs_world.proofs.run.Chosen.{each_came}
+use Rattle.grs_world.proofs.run.Placed.{of_medium}
 use Rattle.lock_structure.specs.declared.word.Route.TheVariants as routes
 use Rattle.grs_world.proofs.run.Came as any
 
@@ -98,11 +99,12 @@ module _ (m : MediumState) (target : SysId) where
 
 star_goes : (deck : Deck) (w : World) (e : Event) → w.medium.star ≡ true → Goes (length deck.systems) w.medium
     → Goes (length deck.systems) (happens deck w e).medium
-unfolding placed departed
+unfolding departed
 star_goes deck w e star g =
     each_came deck w e (λ (x : World). Goes (length deck.systems) x.medium)
     (record { round = g.round; closed = g.closed; around = g.around })
-    (λ n b o at alive came. by_case n e.choice b o came)
+    (λ n b o at alive came.
+    of_medium w e.system n o (Goes (length deck.systems)) (by_case n e.choice b o came))
   where
     m : MediumState
     m = w.medium
@@ -146,10 +148,9 @@ star_goes deck w e star g =
 
 ring_goes : (deck : Deck) (w : World) (e : Event) → IsRing deck w → WaitsForLive w.medium
     → Goes (length deck.systems) w.medium → Goes (length deck.systems) (happens deck w e).medium
-unfolding placed closed_by dropped
+unfolding closed_by dropped
 ring_goes deck w e ring waits g =
-    each_in_ring deck w e (λ (x : World). Goes (length deck.systems) x.medium) ring
-    (record { round = g.round; closed = g.closed; around = g.around })
+    medium_in_ring deck w e (Goes (length deck.systems)) ring g
     (λ n o at alive came. by_case n o (live-there deck w ring e.system.0 n at alive) came)
   where
     below : (u : ℕ) → has (live w.medium) u ≡ true → u < w.medium.message.systems

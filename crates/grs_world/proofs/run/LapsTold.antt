@@ -7,11 +7,11 @@ use Rattle.grs_world.proofs.Common.{filter-cons_kept, first_world, FitsStar, Fix
 use Rattle.grs_world.proofs.Common.{HistEntry, history, is_among, is_line_of, is_unseen, IsHistory, items, length, List}
 use Rattle.grs_world.proofs.Common.{list_all, list_any, live, LocalLook, lt-ltb, may_be_star, MediumState, Message}
 use Rattle.grs_world.proofs.Common.{most_additions, nat_lt, no_truth, NodeState, None, or_left, or_other, or_right}
-use Rattle.grs_world.proofs.Common.{own_asked, own_requests, placed, Purged, put_in, read_entries, refl, Req, Request}
-use Rattle.grs_world.proofs.Common.{RingBody, RingEntry, run, RunItem, Said, same_task, same_task-exact}
-use Rattle.grs_world.proofs.Common.{same_task-itself, slice_get, slice_get_within, Some, stands_at, StarPart, Step}
-use Rattle.grs_world.proofs.Common.{subst, sym, SysId, take, TaskId, Told, told, told_by, ToldBy, ToldLine, ToldNews}
-use Rattle.grs_world.proofs.Common.{true, Turnout, unseen, World, ℕ}
+use Rattle.grs_world.proofs.Common.{own_asked, own_requests, Purged, put_in, read_entries, refl, Req, Request, RingBody}
+use Rattle.grs_world.proofs.Common.{RingEntry, run, RunItem, Said, same_task, same_task-exact, same_task-itself}
+use Rattle.grs_world.proofs.Common.{slice_get, slice_get_within, Some, stands_at, StarPart, Step, subst, sym, SysId}
+use Rattle.grs_world.proofs.Common.{take, TaskId, Told, told, told_by, told_in, ToldBy, ToldLine, ToldNews, true}
+use Rattle.grs_world.proofs.Common.{Turnout, unseen, World, ℕ}
 use Rattle.grs_known.proofs.system.Askers.{askers-append}
 use Rattle.rsa_message.proofs.Stands.{body_of}
 use Rattle.grs_wire.specs.declared.request.Fixed.TheVariants.{Asked}
@@ -46,6 +46,7 @@ use Rattle.grs_world.proofs.at_rest.Homes.{homes_run}
 use Rattle.grs_world.proofs.run.Knowing.{known_run}
 use Rattle.grs_world.proofs.run.Removals.{taken_out}
 use Rattle.grs_world.proofs.run.Sound.{removed-told}
+use Rattle.grs_world.proofs.run.Placed.{of_told}
 use Rattle.grs_wire.specs.declared.told.ToldLine.TheVariants as lines
 use Rattle.rsa_message.proofs.Stands as stands
 use Rattle.grs_wire.specs.declared.told.Said.TheVariants as saids
@@ -148,10 +149,16 @@ module _ (deck : Deck) (begins : deck.star ≡ false) (fits : may_be_star deck �
 
   -- Whoever was told an answer behind the world's lines has no entry that another system has still to process, before
   -- the event and behind it.
+  abbrev RightIn : MediumState → List Told → Type 0
+  RightIn m told =
+      (t : TaskId) → list_any (λ x. answers t x.line) (drop (length w.told) told) ≡ true
+      → Last t × LeftHome t m.message.entries
+
   abbrev Right : World → Type 0
-  Right after =
-      (t : TaskId) → list_any (λ x. answers t x.line) (drop (length w.told) after.told) ≡ true
-      → Last t × LeftHome t after.medium.message.entries
+  Right after = RightIn after.medium after.told
+
+  abbrev RightBy : NodeState → Turnout → Type 0
+  RightBy n o = RightIn o.medium (w.told ++ told_by (w.events + 1) e.system (told_in n o.step))
 
   its_system : (t : TaskId) → t.system.0 ≡ s → t.system ≡ e.system
   its_system t home = ap (λ (x : ℕ). let y : SysId = record { 0 = x } in y) home
@@ -229,24 +236,21 @@ module _ (deck : Deck) (begins : deck.star ≡ false) (fits : may_be_star deck �
         ap (list_any (λ x. answers t x.line)) all ∙ answers_told t (w.events + 1) e.system ls
 
     -- a line of its desk, or nothing
-    by_nothing : (o : Turnout) → o.step.node.tasks.told ≡ n.tasks.told → Right (placed w e.system n o)
-    unfolding placed
+    by_nothing : (o : Turnout) → o.step.node.tasks.told ≡ n.tasks.told → RightBy n o
     by_nothing o told =
-        none_told o.medium (placed w e.system n o).told
+        none_told o.medium (w.told ++ told_by (w.events + 1) e.system (told_in n o.step))
         (λ t. told_now o.step.node [] (told ∙ sym (append-nil n.tasks.told)) t)
 
     by_desk : (o : Turnout) (k : ℕ) (said : Said) → o.step.node.tasks.told ≡ n.tasks.told ++ lines.Desk k said ∷ []
-        → Right (placed w e.system n o)
-    unfolding placed
+        → RightBy n o
     by_desk o k said told =
-        none_told o.medium (placed w e.system n o).told
+        none_told o.medium (w.told ++ told_by (w.events + 1) e.system (told_in n o.step))
         (λ t. told_now o.step.node (lines.Desk k said ∷ []) told t ∙ desk_answers t k said)
 
     -- a task went on
     by_step : {H : List HistEntry} (step : Step)
         → ToldBy deck e.system.0 (own_requests e.system.0 due ++ step.node.outbox) H n.tasks.told step.node.tasks.told
-        → Right (placed w e.system n (record { medium = w.medium; step = step }))
-    unfolding placed
+        → RightBy n (record { medium = w.medium; step = step })
     by_step step told t a =
         let m = answered-by (told-fewer (λ u. among-front u (own_requests s due) step.node.outbox) told) in
         let answered = sym (told_now step.node m.lines m.is t) ∙ a in
@@ -255,21 +259,19 @@ module _ (deck : Deck) (begins : deck.star ≡ false) (fits : may_be_star deck �
 
     by_quiet : (T before later : List RunItem) (step : Step)
         → QuietStep deck e.system.0 e.system T before later (own_requests e.system.0 due) n step
-        → Right (placed w e.system n (record { medium = w.medium; step = step }))
+        → RightBy n (record { medium = w.medium; step = step })
     by_quiet T before later step (keeps none seen told) = by_step step told
     by_quiet T before later step (fixes f one alone may seen told) = by_step step told
 
     -- lines of its tasks, where each of its tasks has none
     by_lines : {H : List HistEntry} (o : Turnout) → ToldNews deck e.system.0 H n.tasks.told o.step.node.tasks.told
-        → ((t : TaskId) → t.system.0 ≡ s → Last t × LeftHome t o.medium.message.entries) → Right (placed w e.system n o)
-    unfolding placed
+        → ((t : TaskId) → t.system.0 ≡ s → Last t × LeftHome t o.medium.message.entries) → RightBy n o
     by_lines o news each t a =
         each t (lines_home s t news.lines news.ours (sym (told_now o.step.node news.lines news.is t) ∙ a))
 
     -- lines of its desk, and lines that answer tasks of its own, where each of its tasks has none
     by_own : (o : Turnout) → TellsOwn e.system.0 n.tasks.told o.step.node.tasks
-        → ((t : TaskId) → t.system.0 ≡ s → Last t × LeftHome t o.medium.message.entries) → Right (placed w e.system n o)
-    unfolding placed
+        → ((t : TaskId) → t.system.0 ≡ s → Last t × LeftHome t o.medium.message.entries) → RightBy n o
     by_own o tells each t a =
         each t (own_home s t tells.lines tells.own (sym (told_now o.step.node tells.lines tells.is t) ∙ a))
 
@@ -282,8 +284,7 @@ module _ (deck : Deck) (begins : deck.star ≡ false) (fits : may_be_star deck �
     given : Bodies (fixeds (g.later e.system.0)) (unseen e.system w.medium.message.entries)
     given = given-later w.medium e.system g.before (g.later s) (items w.fixed) (g.whole s) alive_here g.message
 
-    right : (o : Turnout) → CameInRing deck w e.system n o → Right (placed w e.system n o)
-    unfolding placed
+    right : (o : Turnout) → CameInRing deck w e.system n o → RightBy n o
     right o (nothing flags) = by_nothing n alive_here (g.later s) given o refl
     right o (informed known) = by_nothing n alive_here (g.later s) given o refl
     right o (removes_one target next lives) =
@@ -315,7 +316,7 @@ module _ (deck : Deck) (begins : deck.star ≡ false) (fits : may_be_star deck �
         changes (history (items (w.fixed ++ fixed_by e.system []))) o moved.news
       where
         changes : (H : List HistEntry) (x : Turnout)
-            → EventTells deck e.system H x.step.fixed n x.step.node w.medium.star true → Right (placed w e.system n x)
+            → EventTells deck e.system H x.step.fixed n x.step.node w.medium.star true → RightBy n x
         changes H x (tells_tasks news done mode) = absurd (let z : true ≡ false = mode ∙ ring.mode in cc)
         changes H x (tells_done next told done star was now) =
             by_desk n alive_here (g.later s) given x (n.done + 1) saids.StarDone told
@@ -347,13 +348,13 @@ module _ (deck : Deck) (begins : deck.star ≡ false) (fits : may_be_star deck �
 
       -- It tells tasks of its own, none of which has a request that another system has still to process.
       tells : (o : Turnout) → TellsOwn e.system.0 n.tasks.told o.step.node.tasks
-          → ((t : TaskId) → Last t → LeftHome t o.medium.message.entries) → Right (placed w e.system n o)
+          → ((t : TaskId) → Last t → LeftHome t o.medium.message.entries) → RightBy n o
       tells o own still =
           by_own n alive_there [] none o own
           (λ t home. let last : Last t = nothing_left t home in (last, still t last))
 
       changed_right : (choice : Choice) (b : Result) (o : Turnout) → Came deck w.medium e.system n choice b o
-          → TellsOwn e.system.0 n.tasks.told o.step.node.tasks → Right (placed w e.system n o)
+          → TellsOwn e.system.0 n.tasks.told o.step.node.tasks → RightBy n o
       unfolding departed
       changed_right choice b o (any.nothing k r silent flags) own = tells o own (λ t last. last)
       changed_right choice b o (any.informed k) own = tells o own (λ t last. last)
@@ -376,7 +377,7 @@ module _ (deck : Deck) (begins : deck.star ≡ false) (fits : may_be_star deck �
         (seen : Seen deck e.system.0 T before due (own_requests e.system.0 due) n)
         (given : Bodies (fixeds due) (unseen e.system w.medium.message.entries)) where
       waiting_right : (choice : Choice) (b : Result) (o : Turnout) → Came deck w.medium e.system n choice b o
-          → TellsOwn e.system.0 n.tasks.told o.step.node.tasks → Right (placed w e.system n o)
+          → TellsOwn e.system.0 n.tasks.told o.step.node.tasks → RightBy n o
       unfolding removed_by
       waiting_right choice b o (any.nothing k r silent flags) own = by_nothing n alive_there due given o refl
       waiting_right choice b o (any.informed k) own =
@@ -403,12 +404,12 @@ module _ (deck : Deck) (begins : deck.star ≡ false) (fits : may_be_star deck �
       waiting_right choice b o (any.acted q has k r x acts) own = no_part n q has alone
 
     star_right : (b : Result) (o : Turnout) → Came deck w.medium e.system n e.choice b o
-        → Meets deck e.system w.medium.message.entries n → Right (placed w e.system n o)
+        → Meets deck e.system w.medium.message.entries n → RightBy n o
     star_right b o came how =
         by_change how (tells_own deck w.medium e.system n e.choice b o came (homes_run deck es s n at))
       where
         by_change : Meets deck e.system w.medium.message.entries n
-            → TellsOwn e.system.0 n.tasks.told o.step.node.tasks → Right (placed w e.system n o)
+            → TellsOwn e.system.0 n.tasks.told o.step.node.tasks → RightBy n o
         by_change (has_changed p is nil) own = changed_right p is nil e.choice b o came own
         by_change (by_itself alone T before due legal seen given) own =
             waiting_right alone T before due legal seen given e.choice b o came own
@@ -428,10 +429,12 @@ module _ (deck : Deck) (begins : deck.star ≡ false) (fits : may_be_star deck �
       by_mode false mode =
           let ring : IsRing deck w = is_ring deck begins es mode in
           let g : GoodWorld deck es w = ring_good deck fits es mode in
-          each_in_ring deck w e Right ring idle (λ n o at alive c. right ring g n at alive o c)
+          each_in_ring deck w e Right ring idle
+          (λ n o at alive c. of_told w e.system n o RightIn (right ring g n at alive o c))
       by_mode true mode =
           each_came deck w e Right idle (λ n b o at alive came.
-          star_right mode n at alive b o came (meets_run deck begins fits es s n at alive))
+          of_told w e.system n o RightIn
+          (star_right mode n at alive b o came (meets_run deck begins fits es s n at alive)))
 
 pub answered_last : (deck : Deck) → deck.star ≡ false → (may_be_star deck ≡ true → FitsStar deck)
     → (es : List Event) (e : Event) → AnsweredLast deck es e

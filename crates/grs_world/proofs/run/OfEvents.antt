@@ -1,12 +1,10 @@
 -- Each told line is of an event, and of that event's system.
-use Rattle.grs_world.proofs.Common.{[], ◌++◌, ◌+◌, ◌-◌, ◌∙◌, ◌∷◌, ◌≡◌, all-kept, and_from, and_parts, ap, arith, chosen}
-use Rattle.grs_world.proofs.Common.{counted, Deck, eq-eqb, Event, first_world, happens, length, length-append, List}
-use Rattle.grs_world.proofs.Common.{list_all, list_all-append, lt-ltb, nat_lt, NodeState, None, Option, placed, refl}
-use Rattle.grs_world.proofs.Common.{run, slice_get, Some, subst, sym, Told, told_by, told_in, ToldLine, true, Turnout}
-use Rattle.grs_world.proofs.Common.{World, ℕ}
-use Rattle.grs_known.proofs.lists.Facts.{slice_get-append, slice_get-end}
+use Rattle.grs_world.proofs.Common.{[], ◌++◌, ◌+◌, ◌-◌, ◌∙◌, ◌∷◌, ◌≡◌, and_from, and_parts, ap, arith, Deck, eq-eqb}
+use Rattle.grs_world.proofs.Common.{Event, length, List, list_all, lt-ltb, nat_lt, None, Option, refl, run, slice_get}
+use Rattle.grs_world.proofs.Common.{Some, subst, sym, Told, told_by, ToldLine, true, ℕ}
 use Rattle.grs_world.specs.Agree.{is_event_of, is_of_event}
-use Rattle.grs_world.proofs.run.Each.{each_event, each_run}
+use Rattle.grs_known.proofs.lists.Facts.{slice_get-append, slice_get-end}
+use Rattle.grs_world.proofs.run.Each.{all_told}
 
 -- A line of an event is one of it behind further events too.
 pub of-longer : (es : List Event) (e : Event) (x : Told) → is_of_event es x ≡ true → is_of_event (es ++ e ∷ []) x ≡ true
@@ -33,36 +31,5 @@ of-last es e k (l ∷ ls) count =
     (subst (λ o. is_event_of e.system o ≡ true) (sym at) (eq-eqb e.system.0 e.system.0 refl)))
     (of-last es e k ls count)
 
--- What holds of a run.
-record OfEvents (es : List Event) (w : World) : Type 0 where
-  count : w.events ≡ length es
-  told : list_all (is_of_event es) w.told ≡ true
-
-module _ (deck : Deck) where
-  next : (es : List Event) (e : Event) (w : World) → OfEvents es w → OfEvents (es ++ e ∷ []) (happens deck w e)
-  unfolding placed
-  next es e w g =
-      each_event deck w e (OfEvents (es ++ e ∷ [])) idle (λ n at. went_on n (chosen deck w.medium e.system n e.choice))
-    where
-      one_more : w.events + 1 ≡ length (es ++ e ∷ [])
-      one_more = ap (λ k. k + 1) g.count ∙ sym (length-append es (e ∷ []))
-
-      older : list_all (is_of_event (es ++ e ∷ [])) w.told ≡ true
-      older = all-kept (is_of_event es) (is_of_event (es ++ e ∷ [])) (of-longer es e) w.told g.told
-
-      idle : OfEvents (es ++ e ∷ []) (counted w)
-      idle = record { count = one_more; told = older }
-
-      went_on : (n : NodeState) (o : Turnout) → OfEvents (es ++ e ∷ []) (placed w e.system n o)
-      went_on n o = record {
-        count = one_more;
-        told = list_all-append (is_of_event (es ++ e ∷ [])) w.told (told_by (w.events + 1) e.system (told_in n o.step))
-            ∙ and_from _ _ older (of-last es e w.events (told_in n o.step) g.count);
-      }
-
-  begun : OfEvents [] (first_world deck)
-  unfolding first_world
-  begun = record { count = refl; told = refl }
-
-  pub told_of_events : (es : List Event) → list_all (is_of_event es) (run deck es).told ≡ true
-  told_of_events es = (each_run deck OfEvents begun (λ us e g. next us e (run deck us) g) es).told
+pub told_of_events : (deck : Deck) (es : List Event) → list_all (is_of_event es) (run deck es).told ≡ true
+told_of_events deck = all_told deck is_of_event of-longer (λ us e ls live. of-last us e (length us) ls refl)

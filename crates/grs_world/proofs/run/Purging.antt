@@ -21,7 +21,8 @@ use Rattle.grs_world.proofs.run.Growing.{fixeds, own_requests-append}
 use Rattle.grs_world.proofs.run.InRing.{removed_by, IsRing, live-there}
 use Rattle.grs_world.proofs.run.Messages.{message-removed}
 use Rattle.grs_world.proofs.run.Removals.{removed_in_history}
-use Rattle.grs_world.proofs.run.Runs.{GoodMessage, GoodTold, GoodWorld, by_node, message_log, seen_at}
+use Rattle.grs_world.proofs.run.Runs.{GoodMessage, GoodTold, GoodWorld, message_log, seen_at}
+use Rattle.grs_world.proofs.run.Placed.{by_node}
 use Rattle.grs_world.proofs.system.AtNode.{Seen, seen-known, seen-removal}
 use Rattle.grs_world.proofs.system.Desks.{desk-seen}
 use Rattle.grs_wire.specs.declared.deck.Order.TheVariants as orders

@@ -3,12 +3,13 @@ use Rattle.grs_world.proofs.Common.{[], ◌&&◌, ◌++◌, ◌+◌, ◌-◌, �
 use Rattle.grs_world.proofs.Common.{and_parts, ap, append-nil, append_assoc, arith, Bool, by_test, chosen, Deck}
 use Rattle.grs_world.proofs.Common.{desk_told, drop, drop-append_seam, eq-eqb, eqb-false, eqb-true, Event, false}
 use Rattle.grs_world.proofs.Common.{false_by, first_world, Fixed, fixed_by, fixed_entries, happens, has, has-with_other}
-use Rattle.grs_world.proofs.Common.{has-with_same, has-zero, history, items, items_are_history, length, length-append}
-use Rattle.grs_world.proofs.Common.{List, list_any, list_any-append, LocalLook, lt-ltb, MediumState, nat_lt, next_order}
-use Rattle.grs_world.proofs.Common.{no_truth, NodeState, None, not, Option, or-false, or_left, or_right, placed, Purged}
-use Rattle.grs_world.proofs.Common.{purged, refl, removes, run, run_from, same_Some, slice_get, Some, State, subst, suc}
-use Rattle.grs_world.proofs.Common.{sym, SysId, take, take-append-drop, Told, told_by, told_in, ToldLine, true, Turnout}
+use Rattle.grs_world.proofs.Common.{has-with_same, has-zero, history, items, items_are_history, length, List, list_any}
+use Rattle.grs_world.proofs.Common.{list_any-append, LocalLook, lt-ltb, MediumState, nat_lt, next_order, no_truth}
+use Rattle.grs_world.proofs.Common.{NodeState, None, not, Option, or-false, or_left, or_right, placed, Purged, purged}
+use Rattle.grs_world.proofs.Common.{refl, removes, run, run_from, same_Some, slice_get, Some, State, subst, suc, sym}
+use Rattle.grs_world.proofs.Common.{SysId, take, take-append-drop, Told, told_by, told_in, ToldLine, true, Turnout}
 use Rattle.grs_world.proofs.Common.{with_also, without_in_star, without_system, without_target, World, zero, ℕ}
+use Rattle.std.proofs.Common.{subst₂}
 use Rattle.grs_wire.specs.History.{answered_from, answered}
 use Rattle.grs_wire.specs.declared.request.Fixed.TheVariants.{Asked}
 use Rattle.grs_medium.specs.Apply.{is_live}
@@ -16,9 +17,10 @@ use Rattle.grs_known.proofs.known.Histories.{ask-keeps}
 use Rattle.grs_world.specs.Agree.{is_purge, purges, is_removal, is_vary, order_of, fixed_in, RemovalsTold}
 use Rattle.grs_world.specs.Removing.{RemovedAreInHistory}
 use Rattle.grs_world.proofs.run.Desks.{order-is}
-use Rattle.grs_world.proofs.run.Each.{each_event, each_live, each_run, run-push}
+use Rattle.grs_world.proofs.run.Each.{each_event, each_live, each_run, run-push, counted_events}
 use Rattle.grs_world.proofs.run.Laps.{goes_on}
 use Rattle.grs_world.proofs.run.Lost.{told-lost}
+use Rattle.grs_world.proofs.run.Placed.{fixed-placed, of_medium, told-placed}
 use Rattle.grs_world.proofs.run.Purges.{Removes, RemovesNone, nobody, one, what_removes}
 use Rattle.grs_world.proofs.system.Desks.{desk-told}
 use Rattle.grs_wire.specs.declared.deck.Choice.TheVariants as choices
@@ -53,14 +55,20 @@ by-system s c [] = refl
 by-system s c (f ∷ fs) = ap (λ b. is_purge s f || b) (by-system s c fs)
 
 -- ---- who is removed
+abbrev AreOut : ℕ → List (SysId × Fixed) → Type 0
+AreOut removed fixed = (s : SysId) → has removed s.0 ≡ takes_out s fixed
+
 abbrev pub AreTakenOut : World → Type 0
-AreTakenOut w = (s : SysId) → has w.medium.removed s.0 ≡ takes_out s w.fixed
+AreTakenOut w = AreOut w.medium.removed w.fixed
 
 module _ (deck : Deck) where
   taken_next : (w : World) (e : Event) → AreTakenOut w → AreTakenOut (happens deck w e)
-  unfolding placed purged
-  taken_next w e g =
-      each_live deck w e AreTakenOut g (λ n at alive. by_event n (what_removes deck w.medium e.system n alive e.choice))
+  unfolding purged
+  taken_next w e g = each_live deck w e AreTakenOut g (λ n at alive.
+      let o = chosen deck w.medium e.system n e.choice in
+      subst (λ fs. AreOut (placed w e.system n o).medium.removed fs) (sym (fixed-placed w e.system n o))
+      (of_medium w e.system n o (λ m. AreOut m.removed (w.fixed ++ fixed_by e.system o.step.fixed))
+      (by_event n o (what_removes deck w.medium e.system n alive e.choice))))
     where
       grown : (o : Turnout) (s : SysId)
           → takes_out s (w.fixed ++ fixed_by e.system o.step.fixed)
@@ -69,9 +77,9 @@ module _ (deck : Deck) where
           list_any-append (λ (x : SysId × Fixed). is_purge s x.1) w.fixed (fixed_by e.system o.step.fixed)
           ∙ ap (λ b. takes_out s w.fixed || b) (by-system s e.system o.step.fixed)
 
-      same : (o : Turnout) → o.medium.removed ≡ w.medium.removed → RemovesNone o.step.fixed → (n : NodeState)
-          → AreTakenOut (placed w e.system n o)
-      same o kept none n s =
+      same : (o : Turnout) → o.medium.removed ≡ w.medium.removed → RemovesNone o.step.fixed
+          → AreOut o.medium.removed (w.fixed ++ fixed_by e.system o.step.fixed)
+      same o kept none s =
           ap (λ i. has i s.0) kept
           ∙ (g s ∙ sym (grown o s ∙ (ap (λ b. takes_out s w.fixed || b) (none s) ∙ or-false (takes_out s w.fixed))))
 
@@ -91,23 +99,19 @@ module _ (deck : Deck) where
           by_test (λ (k : MediumState). k.removed ≡ with_also w.medium.removed target.0) w.medium.star
           (without_in_star w.medium target) (without_system w.medium e.system target) (λ star. refl) (λ ring. refl)
 
-      removal : (n : NodeState) (target : SysId)
-          → AreTakenOut (placed w e.system n
-          (record { medium = without_target w.medium e.system target; step = purged deck n (choices.Purge target) }))
-      removal n target s =
+      by_event : (n : NodeState) (o : Turnout) → Removes deck w.medium e.system n e.choice o
+          → AreOut o.medium.removed (w.fixed ++ fixed_by e.system o.step.fixed)
+      by_event n o (nobody kept none) = same o kept none
+      by_event n o (one target choice next lives is) =
+          subst (λ (x : Turnout). AreOut x.medium.removed (w.fixed ++ fixed_by e.system x.step.fixed)) (sym is)
+          (λ s.
           ap (λ i. has i s.0) (without-removed target)
           ∙ (with_one target s (s.0 == target.0) refl
           ∙ sym (grown (record {
             medium = without_target w.medium e.system target;
             step = purged deck n (choices.Purge target);
           })
-          s))
-
-      by_event : (n : NodeState) → Removes deck w.medium e.system n e.choice (chosen deck w.medium e.system n e.choice)
-          → AreTakenOut (placed w e.system n (chosen deck w.medium e.system n e.choice))
-      by_event n (nobody kept none) = same (chosen deck w.medium e.system n e.choice) kept none n
-      by_event n (one target choice next lives is) =
-          subst (λ (o : Turnout). AreTakenOut (placed w e.system n o)) (sym is) (removal n target)
+          s)))
 
   taken_first : AreTakenOut (first_world deck)
   unfolding first_world
@@ -159,15 +163,6 @@ take-no_more (x ∷ es) zero at = absurd (cc)
 take-no_more (x ∷ es) (suc k) at = ap (λ ys. x ∷ ys) (take-no_more es k at)
 
 module _ (deck : Deck) where
-  counted_events : (es : List Event) → (run deck es).events ≡ length es
-  unfolding placed first_world
-  counted_events es = each_run deck (λ us w. w.events ≡ length us) refl
-      (λ us e g.
-      each_event deck (run deck us) e (λ w. w.events ≡ length (us ++ e ∷ []))
-      (ap (λ k. k + 1) g ∙ sym (length-append us (e ∷ [])))
-      (λ n at. ap (λ k. k + 1) g ∙ sym (length-append us (e ∷ []))))
-      es
-
   -- what was told stays, whatever events come
   run-behind : (w : World) (xs ys : List Event) → run_from deck w (xs ++ ys) ≡ run_from deck (run_from deck w xs) ys
   run-behind w [] ys = refl
@@ -175,10 +170,10 @@ module _ (deck : Deck) where
 
   told-stays : (p : Told → Bool) (w : World) (es : List Event) → list_any p w.told ≡ true
       → list_any p (run_from deck w es).told ≡ true
-  unfolding placed
   told-stays p w [] h = h
   told-stays p w (e ∷ es) h = told-stays p (happens deck w e) es (each_event deck w e (λ x. list_any p x.told ≡ true) h
-      (λ n at. list_any-append p w.told _ ∙ or_left (list_any p w.told) _ h))
+      (λ n at.
+      ap (list_any p) (told-placed w e.system n _) ∙ (list_any-append p w.told _ ∙ or_left (list_any p w.told) _ h)))
 
   purges-none : (s target c : SysId) (fs : List Fixed) → RemovesNone fs → purges s target (fixed_by c fs) ≡ false
   purges-none s target c fs none =
@@ -206,17 +201,24 @@ module _ (deck : Deck) where
     abbrev w : World
     w = run deck vs
 
-    abbrev Told_in : World → Type 0
-    Told_in x =
-        purges s target (drop (length (run deck vs).fixed) x.fixed) ≡ true
-        → list_any (is_removal deck (length vs + 1) s target) x.told ≡ true
+    abbrev ToldIn : List (SysId × Fixed) → List Told → Type 0
+    ToldIn fixed told =
+        purges s target (drop (length (run deck vs).fixed) fixed) ≡ true
+        → list_any (is_removal deck (length vs + 1) s target) told ≡ true
+
+    abbrev ToldBy : NodeState → Turnout → Type 0
+    ToldBy n o =
+        ToldIn (w.fixed ++ fixed_by e.system o.step.fixed)
+        (w.told ++ told_by (w.events + 1) e.system (told_in n o.step))
 
     -- the event removed a system
     removal_told : (n : NodeState) (named : SysId) → slice_get w.nodes e.system.0 ≡ Some n
         → has w.medium.removed e.system.0 ≡ false → next_order deck n ≡ Some (orders.Vary named) →
-        Told_in (placed w e.system n
-        (record { medium = without_target w.medium e.system named; step = purged deck n (choices.Purge named) }))
-    unfolding placed purged
+        ToldBy n (record {
+          medium = without_target w.medium e.system named;
+          step = purged deck n (choices.Purge named);
+        })
+    unfolding purged
     removal_told n named at alive next h =
         let c : SysId = e.system in
         let parts =
@@ -227,7 +229,7 @@ module _ (deck : Deck) where
         ap (λ (z : SysId). order_of deck z (n.done + 1)) (sym same)
         ∙ order-is deck c n (orders.Vary named) (home c.0 n at alive) next in
         let number : (w.events + 1 == length vs + 1) ≡ true =
-        eq-eqb (w.events + 1) (length vs + 1) (ap (λ k. k + 1) (counted_events vs)) in
+        eq-eqb (w.events + 1) (length vs + 1) (ap (λ k. k + 1) (counted_events deck vs)) in
         let line : Told = record { event = w.events + 1; system = c; line = lines.Desk (n.done + 1) saids.VaryDone } in
         let first : ToldLine = lines.Desk (n.done + 1) saids.VaryDone in
         let left : NodeState = record (desk_told n saids.VaryDone) { known = with_also n.known named.0 } in
@@ -246,22 +248,22 @@ module _ (deck : Deck) where
         ∙ or_left _ _ here)
 
     by_event : (n : NodeState) → slice_get w.nodes e.system.0 ≡ Some n → has w.medium.removed e.system.0 ≡ false
-        → (o : Turnout) → Removes deck w.medium e.system n e.choice o → Told_in (placed w e.system n o)
-    unfolding placed
+        → (o : Turnout) → Removes deck w.medium e.system n e.choice o → ToldBy n o
     by_event n at alive o (nobody kept none) h =
         no_truth (purges s target (fixed_by e.system o.step.fixed))
         (ap (purges s target) (sym (drop-append_seam w.fixed (fixed_by e.system o.step.fixed))) ∙ h)
         (purges-none s target e.system o.step.fixed none)
     by_event n at alive o (one named choice next lives is) h =
-        subst (λ (x : Turnout). Told_in (placed w e.system n x)) (sym is) (removal_told n named at alive next) h
+        subst (ToldBy n) (sym is) (removal_told n named at alive next) h
 
-    told_by_event : Told_in (run deck (vs ++ e ∷ []))
-    told_by_event = subst Told_in (sym (run-push deck vs (first_world deck) e))
-        (each_live deck w e Told_in
+    told_by_event : ToldIn (run deck (vs ++ e ∷ [])).fixed (run deck (vs ++ e ∷ [])).told
+    told_by_event = subst (λ (x : World). ToldIn x.fixed x.told) (sym (run-push deck vs (first_world deck) e))
+        (each_live deck w e (λ (x : World). ToldIn x.fixed x.told)
         (λ h. absurd (let none : false ≡ true = ap (purges s target) (sym (dropped-all w.fixed)) ∙ h in cc))
         (λ n at alive.
-        by_event n at alive (chosen deck w.medium e.system n e.choice)
-        (what_removes deck w.medium e.system n alive e.choice)))
+        let o = chosen deck w.medium e.system n e.choice in
+        subst₂ ToldIn (sym (fixed-placed w e.system n o)) (sym (told-placed w e.system n o))
+        (by_event n at alive o (what_removes deck w.medium e.system n alive e.choice))))
 
   pub removals_told : (es : List Event) → ((k : ℕ) → AreHome (take k es)) → (e : ℕ)
       → RemovalsTold deck e (fixed_in deck es e) (run deck es).told

@@ -1,14 +1,13 @@
 -- What holds of the world at every moment of a run, part by part, and how an event of a system keeps it.
-use Rattle.grs_world.proofs.Common.{[], ◌++◌, ◌+◌, ◌-◌, ◌==◌, ◌∙◌, ◌∷◌, ◌≡◌, ◌≢◌, ◌≤◌, and_parts, ap, append-nil}
-use Rattle.grs_world.proofs.Common.{append_assoc, arith, Bool, counted, Deck, drop, drop-append_seam, eqb-false}
-use Rattle.grs_world.proofs.Common.{eqb-true, Event, false, false_by, filter, filter-append, first_world, Fixed}
-use Rattle.grs_world.proofs.Common.{fixed_by, happens, has, hist, HistEntry, history, is_line_of, IsHistory, items}
+use Rattle.grs_world.proofs.Common.{[], ◌++◌, ◌+◌, ◌-◌, ◌==◌, ◌∙◌, ◌∷◌, ◌≡◌, ◌≢◌, ◌≤◌, and_parts, answered, ap}
+use Rattle.grs_world.proofs.Common.{append-nil, append_assoc, arith, counted, Deck, drop, drop-append_seam, eqb-true}
+use Rattle.grs_world.proofs.Common.{Event, false, false_by, filter, filter-append, first_world, Fixed, fixed_by}
+use Rattle.grs_world.proofs.Common.{happens, has, hist, HistEntry, history, is_line_of, IsHistory, items}
 use Rattle.grs_world.proofs.Common.{items_are_history, length, length-append, lines_of_told, List, list_all, live}
 use Rattle.grs_world.proofs.Common.{map-append, MediumState, Moment, NodeState, OrdersFit, own_requests, placed, put_at}
 use Rattle.grs_world.proofs.Common.{refl, rounds, run, RunItem, Said, same_Some, set, slice_get, slice_get-set}
 use Rattle.grs_world.proofs.Common.{slice_get-set_other, Some, Step, subst, suc, sym, SysId, take, TaskId, Told}
 use Rattle.grs_world.proofs.Common.{told_by, ToldLine, ToldNews, true, Turnout, World, ℕ}
-use Rattle.std.proofs.Common.{eqb}
 use Rattle.std.proofs.Math.Seq.{take-append_seam, take-length}
 use Rattle.grs_known.proofs.system.Says.{AgreesBehind}
 use Rattle.grs_world.specs.Agree.{Agrees, AgreesBy, AllAgree, moment, DeskAgrees}
@@ -17,6 +16,7 @@ use Rattle.grs_known.proofs.told.News.{LinesAgree}
 use Rattle.grs_wire.specs.History.{answered}
 use Rattle.grs_known.proofs.lists.Placed.{put_each}
 use Rattle.rsa_message.proofs.Stands.{Stands, waits_for}
+use Rattle.grs_world.proofs.run.Placed.{by_node}
 use Rattle.grs_world.proofs.run.Growing.{fixeds, grows-items, grows-history, grows-rounds, grows-seen, grows-requests}
 use Rattle.grs_world.proofs.run.Growing.{own_requests-append}
 use Rattle.grs_world.proofs.run.Outcomes.{Outcome}
@@ -117,20 +117,6 @@ line-apart s u (lines.Desk k said) ne h = refl
 lines-apart : (s u : ℕ) (ls : List ToldLine) → u ≢ s → list_all (is_line_of s) ls ≡ true → filter (is_line_of u) ls ≡ []
 lines-apart s u [] ne h = refl
 lines-apart s u (l ∷ ls) ne h = rw (line-apart s u l ne (and_parts _ _ h).0) (lines-apart s u ls ne (and_parts _ _ h).1)
-
--- what holds of a node holds of each, where it holds of the one that changed and of the others
-pub by_node : (ns : List NodeState) (s : ℕ) (n m : NodeState) → slice_get ns s ≡ Some n → (P : ℕ → NodeState → Type 0)
-    → P s m → ((u : ℕ) (k : NodeState) → u ≢ s → slice_get ns u ≡ Some k → P u k) → (u : ℕ) (k : NodeState)
-    → slice_get (set ns s m) u ≡ Some k → P u k
-by_node ns s n m at P here there u k e = go (eqb u s) refl
-  where
-    go : (b : Bool) → eqb u s ≡ b → P u k
-    go true f =
-        subst (λ i. P i k) (sym (eqb-true u s f)) (subst (P s)
-        (same_Some m k
-        (sym (slice_get-set ns s n m at) ∙ subst (λ i. slice_get (set ns s m) i ≡ Some k) (eqb-true u s f) e))
-        here)
-    go false f = let ne : u ≢ s = eqb-false u s f in there u k ne (sym (slice_get-set_other ns s u m ne) ∙ e)
 
 -- ---- the parts
 -- What was told: it is counted by events, each line agrees with its event, where the desks' commands are of other

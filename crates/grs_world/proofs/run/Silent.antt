@@ -1,11 +1,10 @@
 -- A removed system tells nothing more.
 use Rattle.grs_world.proofs.Common.{[], ◌&&◌, ◌++◌, ◌+◌, ◌-◌, ◌<◌, ◌∙◌, ◌∷◌, ◌≡◌, all-kept, and_from, and_parts, ap}
-use Rattle.grs_world.proofs.Common.{arith, Bool, chosen, counted, Deck, Event, false, first_world, happens, has, hist}
-use Rattle.grs_world.proofs.Common.{length, length-append, List, list_all, list_all-append, list_any, nat_lt, NodeState}
-use Rattle.grs_world.proofs.Common.{None, not, Option, placed, refl, removes, run, slice_get, slice_get_within, Some}
-use Rattle.grs_world.proofs.Common.{sym, Told, told_by, told_in, ToldLine, true, Turnout, World, ℕ}
+use Rattle.grs_world.proofs.Common.{arith, Bool, Deck, Event, false, hist, length, List, list_all, list_any, nat_lt}
+use Rattle.grs_world.proofs.Common.{None, not, Option, refl, removes, run, slice_get, slice_get_within, Some, sym, Told}
+use Rattle.grs_world.proofs.Common.{told_by, ToldLine, true, ℕ}
 use Rattle.std.proofs.lemmas.List.{take-append-le, take_at}
-use Rattle.grs_world.proofs.run.Each.{each_live, each_run}
+use Rattle.grs_world.proofs.run.Each.{all_told}
 use Rattle.grs_world.proofs.run.OfEvents.{of-last, of-longer}
 use Rattle.grs_world.proofs.run.Removals.{removed_in_history}
 use Rattle.grs_world.specs.Agree.{RemovedTellNothing, is_by_live, is_event_of, is_of_event}
@@ -54,52 +53,13 @@ all-both p q (x ∷ xs) a b =
     let g = and_parts (q x) (list_all q xs) b in
     and_from (p x && q x) (list_all (λ y. p y && q y) xs) (and_from (p x) (q x) f.0 g.0) (all-both p q xs f.1 g.1)
 
--- What holds of a run.
-record LiveTell (deck : Deck) (es : List Event) (w : World) : Type 0 where
-  count : w.events ≡ length es
-  told : list_all (is_live_line deck es) w.told ≡ true
-
-module _ (deck : Deck) where
-  next : (es : List Event) (e : Event) → LiveTell deck es (run deck es)
-      → LiveTell deck (es ++ e ∷ []) (happens deck (run deck es) e)
-  unfolding placed
-  next es e g =
-      each_live deck (run deck es) e (LiveTell deck (es ++ e ∷ [])) idle
-      (λ n at live. went_on n live (chosen deck (run deck es).medium e.system n e.choice))
-    where
-      w : World
-      w = run deck es
-
-      one_more : (run deck es).events + 1 ≡ length (es ++ e ∷ [])
-      one_more = ap (λ k. k + 1) g.count ∙ sym (length-append es (e ∷ []))
-
-      older : list_all (is_live_line deck (es ++ e ∷ [])) (run deck es).told ≡ true
-      older =
-          all-kept (is_live_line deck es) (is_live_line deck (es ++ e ∷ [])) (live-longer deck es e) w.told g.told
-
-      idle : LiveTell deck (es ++ e ∷ []) (counted (run deck es))
-      idle = record { count = one_more; told = older }
-
-      went_on : (n : NodeState) → has (run deck es).medium.removed e.system.0 ≡ false → (o : Turnout)
-          → LiveTell deck (es ++ e ∷ []) (placed (run deck es) e.system n o)
-      went_on n live o = record {
-        count = one_more;
-        told =
-            list_all-append (is_live_line deck (es ++ e ∷ [])) w.told
-            (told_by (w.events + 1) e.system (told_in n o.step))
-            ∙ and_from _ _ older
-            (all-both (is_of_event (es ++ e ∷ [])) (is_by_live deck (es ++ e ∷ []))
-            (told_by (w.events + 1) e.system (told_in n o.step)) (of-last es e w.events (told_in n o.step) g.count)
-            (live-last deck es e w.events (told_in n o.step) g.count
-            (sym (removed_in_history deck es e.system) ∙ live)));
-      }
-
-  begun : LiveTell deck [] (first_world deck)
-  unfolding first_world
-  begun = record { count = refl; told = refl }
-
-  pub removed-silent : (es : List Event) → RemovedTellNothing deck es
-  removed-silent es =
-      all-kept (is_live_line deck es) (is_by_live deck es)
-      (λ x h. (and_parts (is_of_event es x) (is_by_live deck es x) h).1) (run deck es).told
-      (each_run deck (LiveTell deck) begun next es).told
+pub removed-silent : (deck : Deck) (es : List Event) → RemovedTellNothing deck es
+removed-silent deck es =
+    all-kept (is_live_line deck es) (is_by_live deck es)
+    (λ x h. (and_parts (is_of_event es x) (is_by_live deck es x) h).1) (run deck es).told
+    (all_told deck (is_live_line deck) (live-longer deck)
+    (λ us e ls live.
+    all-both (is_of_event (us ++ e ∷ [])) (is_by_live deck (us ++ e ∷ []))
+    (told_by (length us + 1) e.system ls) (of-last us e (length us) ls refl)
+    (live-last deck us e (length us) ls refl (sym (removed_in_history deck us e.system) ∙ live)))
+    es)

@@ -1,17 +1,17 @@
 -- One event of a run in ring mode, and when a run is sound.
-use Rattle.grs_world.proofs.Common.{[], ◌++◌, ◌+◌, ◌-◌, ◌<◌, ◌∙◌, ◌∷◌, ◌≡◌, ap, append-nil, arith, Bodies, Bool}
-use Rattle.grs_world.proofs.Common.{counted, Deck, desk_told, Event, false, filter, first_medium, first_node}
-use Rattle.grs_world.proofs.Common.{first_nodes, first_world, Fixed, fixed_by, happens, has, history, is_line_of}
-use Rattle.grs_world.proofs.Common.{IsHistory, items, items_are_history, length, lines_of, List, list_any, live, map}
-use Rattle.grs_world.proofs.Common.{may_go, MediumState, most_additions, NodeState, only, OrdersFit, own_requests}
-use Rattle.grs_world.proofs.Common.{placed, Purged, put_at, put_in, read_entries, refl, removes, Req, rounds, run}
-use Rattle.grs_world.proofs.Common.{RunItem, Said, same_Some, slice_get, Some, stays-task, stays-turned, Step, subst}
-use Rattle.grs_world.proofs.Common.{suc, sym, SysId, SystemDef, take, task_step, TaskId, ToldNews, true, turned_open}
-use Rattle.grs_world.proofs.Common.{Turnout, unseen, World, zero, ℕ}
+use Rattle.grs_world.proofs.Common.{[], ◌++◌, ◌+◌, ◌-◌, ◌∙◌, ◌∷◌, ◌≡◌, ap, append-nil, Bodies, Bool, counted, Deck}
+use Rattle.grs_world.proofs.Common.{desk_told, Event, false, filter, first_medium, first_world, Fixed, fixed_by}
+use Rattle.grs_world.proofs.Common.{happens, has, history, is_line_of, IsHistory, items, items_are_history, length}
+use Rattle.grs_world.proofs.Common.{lines_of, List, list_any, live, map, may_go, MediumState, most_additions, NodeState}
+use Rattle.grs_world.proofs.Common.{only, OrdersFit, own_requests, placed, Purged, put_at, put_in, read_entries, refl}
+use Rattle.grs_world.proofs.Common.{removes, Req, rounds, run, RunItem, Said, slice_get, Some, stays-task, stays-turned}
+use Rattle.grs_world.proofs.Common.{Step, subst, sym, SysId, take, task_step, TaskId, ToldNews, true, turned_open}
+use Rattle.grs_world.proofs.Common.{Turnout, unseen, World, ℕ}
 use Rattle.rsa_message.proofs.Stands.{none}
 use Rattle.grs_wire.specs.declared.request.Fixed.TheVariants.{Asked}
 use Rattle.grs_legal.specs.Legal.{Legal}
 use Rattle.grs_known.proofs.lists.Facts.{take-taken}
+use Rattle.grs_world.proofs.run.First.{first_is}
 use Rattle.grs_world.specs.Agree.{Sound}
 use Rattle.grs_world.proofs.run.Messages.{message-same, message-turned, given-later}
 use Rattle.grs_world.proofs.run.OfEvents.{told_of_events}
@@ -213,33 +213,6 @@ module _ (deck : Deck) (es : List Event) (e : Event) (ring : IsRing deck (run de
         ∙ gone_are_removed deck es target (target-fits deck n target fit next).0 gone)
 
 -- ---- the first world
-first_at : (deck : Deck) (k : ℕ) (ds : List SystemDef) (i : ℕ) (n : NodeState)
-    → slice_get (first_nodes deck k ds) i ≡ Some n → (n ≡ first_node deck (k + i)) × (i < length ds)
-first_at deck k [] i n h = absurd (cc)
-first_at deck k (d ∷ ds) zero n
-    h = (sym (same_Some (first_node deck k) n h) ∙ ap (first_node deck) (plus_zero k), omega arith)
-  where
-    plus_zero : (a : ℕ) → a ≡ a + 0
-    plus_zero a = omega arith
-first_at deck k (d ∷ ds) (suc i) n h =
-    let m = first_at deck (k + 1) ds i n h in
-    (m.0 ∙ ap (first_node deck) (next k i), omega (arith, m.1))
-  where
-    next : (a b : ℕ) → a + 1 + b ≡ a + suc b
-    next a b = omega arith
-
-pub first_is : (deck : Deck) (s : ℕ) (n : NodeState) → slice_get (first_nodes deck 0 deck.systems) s ≡ Some n
-    → n ≡ first_node deck s
-first_is deck s n h = (first_at deck 0 deck.systems s n h).0 ∙ ap (first_node deck) (zero_plus s)
-  where
-    zero_plus : (a : ℕ) → 0 + a ≡ a
-    zero_plus a = omega arith
-
-pub first_of : (deck : Deck) (s : ℕ) (n : NodeState) → slice_get (first_world deck).nodes s ≡ Some n
-    → n ≡ first_node deck s
-unfolding first_world
-first_of deck s n at = first_is deck s n at
-
 pub first_message : (deck : Deck)
     → GoodMessage (first_medium (length deck.systems) deck.entries deck.star) [] (seen_at (λ u. []))
 first_message deck = go deck.star

@@ -1,20 +1,20 @@
 -- What is still to be heard by live systems in star mode: of each request that was sent, where it or its answer is; and
 -- of each owner, that its system knows that it owns, or that this comes to it, or that its manager has still to tell
 -- it. So nothing is lost.
-use Rattle.grs_world.proofs.Common.{Answer, Answered, askers, Deck, Deq, Enq, entry_wanted, filter, Fixed, fixed_by}
-use Rattle.grs_world.proofs.Common.{Granted, has_res, has_task, inbox, is_among, is_granted, is_home_at, is_marked}
-use Rattle.grs_world.proofs.Common.{is_sent, is_systems, items, items_of, last_number, list_any, list_of, Look, Mail}
-use Rattle.grs_world.proofs.Common.{Managed, managed_at, managed_of, nat_le, NodeState, Notice, owns, Part, placed}
-use Rattle.grs_world.proofs.Common.{put_at, Release, Res, Rows, RunItem, same_res, same_task, StarPart, state_of, SysId}
-use Rattle.grs_world.proofs.Common.{TaskId, Turnout, Want, World}
+use Rattle.grs_world.proofs.Common.{◌⊎◌, Answer, Answered, askers, Deck, Deq, Enq, entry_wanted, filter, Fixed}
+use Rattle.grs_world.proofs.Common.{fixed_by, Granted, has_res, has_task, inbox, is_among, is_granted, is_home_at}
+use Rattle.grs_world.proofs.Common.{is_marked, is_sent, is_systems, items, items_of, last_number, list_any, list_of}
+use Rattle.grs_world.proofs.Common.{Look, Mail, Managed, managed_at, managed_of, MediumState, nat_le, NodeState, Notice}
+use Rattle.grs_world.proofs.Common.{owns, Part, placed, put_at, Release, Res, Rows, RunItem, same_res, same_task}
+use Rattle.grs_world.proofs.Common.{StarPart, state_of, SysId, TaskId, Turnout, Want, World}
 use Rattle.grs_wire.specs.declared.medium.Mail.TheVariants.{Request}
 use Rattle.contention_mgr.specs.Manager.{is_of}
-use Rattle.std.specs.Prelude.{◌≡◌, ◌≢◌, ◌<◌, ◌≤◌, ◌⊎◌, ℕ, suc, Bool, true, false, cond, not, ◌&&◌, ◌||◌, List, [], ◌∷◌}
-use Rattle.std.specs.Prelude.{◌++◌, length, Some}
+use Rattle.std.specs.Prelude.{◌≡◌, ◌≢◌, ◌<◌, ◌≤◌, ℕ, suc, Bool, true, false, cond, not, ◌&&◌, ◌||◌, List, [], ◌∷◌, ◌++◌}
+use Rattle.std.specs.Prelude.{length, Some, ◌⊎◌}
 use Rattle.grs_wire.specs.declared.request.Answer.TheVariants.{Coded}
 use Rattle.grs_world.proofs.star.Members.{all_lists}
 use Rattle.grs_world.proofs.star.Worlds.{in_hands}
-use Rattle.grs_world.proofs.run.Site.{Site}
+use Rattle.grs_world.proofs.run.Site.{Site, IsThere}
 use Rattle.grs_wire.specs.declared.request.Fixed.TheVariants as fixing
 
 -- ---- how a system stands by itself
@@ -64,20 +64,20 @@ AreAddressed deck (m ∷ ms) = IsAddressed deck m × AreAddressed deck ms
 
 -- ---- where it is
 -- A task's request is in the hands of some live system, or on its way there.
-pub record IsInHands (w : World) (t : TaskId) : Type 0 where
+pub record IsInHands (m : MediumState) (nodes : List NodeState) (t : TaskId) : Type 0 where
   pub system : ℕ
   pub node : NodeState
   pub part : StarPart
-  pub site : Site w system node
+  pub site : IsThere nodes m.removed system node
   pub star : node.star ≡ Some part
-  pub among : is_among t (askers (in_hands part (inbox w.medium system))) ≡ true
+  pub among : is_among t (askers (in_hands part (inbox m system))) ≡ true
 
 -- A manager, a live system and another than s, has still to tell a task that it owns.
-pub record IsUntold (w : World) (s : ℕ) (t : TaskId) (r : Res) : Type 0 where
+pub record IsUntold (m : MediumState) (nodes : List NodeState) (s : ℕ) (t : TaskId) (r : Res) : Type 0 where
   pub system : ℕ
   pub node : NodeState
   pub part : StarPart
-  pub site : Site w system node
+  pub site : IsThere nodes m.removed system node
   pub star : node.star ≡ Some part
   pub apart : system ≢ s
   pub untold : list_any (λ y. is_of r t y && y.untold) (items_of (managed_of part.manager r)) ≡ true
@@ -102,13 +102,14 @@ enq_count T = length (filter (λ x. is_enq x.fixed) T)
 pub record IsHeard (deck : Deck) (w : World) (sent : ℕ → TaskId → Bool) (had : ℕ → TaskId → Res → Bool) : Type 0 where
   -- a request that was sent is in somebody's hands, or its answer comes
   pub requests : (s : ℕ) (n : NodeState) (t : TaskId) → Site w s n → is_home_at deck s t ≡ true → sent s t ≡ true →
-      IsInHands w t ⊎ (list_any (is_timely t) (inbox w.medium s) ≡ true)
+      IsInHands w.medium w.nodes t ⊎ (list_any (is_timely t) (inbox w.medium s) ≡ true)
   -- an owner was told so, or hears it, or is still to be told
   pub owners : (s : ℕ) (n : NodeState) (t : TaskId) (r : Res) → Site w s n → is_home_at deck s t ≡ true
       → is_systems r ≡ true
       → owns (list_of (all_lists w) r) t ≡ true →
       (had s t r ≡ true)
-      ⊎ ((hears t r (has_res r (state_of n.tasks t).records) (inbox w.medium s) ≡ true) ⊎ IsUntold w s t r)
+      ⊎ ((hears t r (has_res r (state_of n.tasks t).records) (inbox w.medium s) ≡ true)
+      ⊎ IsUntold w.medium w.nodes s t r)
   -- an element is on record, or the answer comes that makes its record
   pub recorded : (s : ℕ) (n : NodeState) (t : TaskId) (r : Res) → Site w s n → is_home_at deck s t ≡ true
       → is_systems r ≡ true

@@ -4,14 +4,15 @@ use Rattle.grs_world.proofs.Common.{[], ◌++◌, ◌<◌, ◌∙◌, ◌∷◌,
 use Rattle.grs_world.proofs.Common.{eqb-true, false, false_by, Fixed, fixed_by, has, has_interest, is_interested}
 use Rattle.grs_world.proofs.Common.{is_manager, IsManaged, items, items-append, items_from, items_of, length}
 use Rattle.grs_world.proofs.Common.{length-set, List, lists, lives, lt-ltb, managed_at, manager_at, manages, nat_lt}
-use Rattle.grs_world.proofs.Common.{no_truth, NodeState, None, Option, placed, plain, refl, same_Some, set, Some}
-use Rattle.grs_world.proofs.Common.{StarPart, State, subst, sym, SysId, true, Turnout, World, ℕ}
+use Rattle.grs_world.proofs.Common.{no_truth, NodeState, None, Option, plain, refl, same_Some, set, Some, StarPart}
+use Rattle.grs_world.proofs.Common.{State, subst, sym, SysId, true, Turnout, World, ℕ}
 use Rattle.grs_known.specs.Items.{lists_from}
 use Rattle.contention_mgr.specs.Laws.{AreWellKept}
 use Rattle.grs_known.proofs.known.ItemLaws.{lists_from-append}
 use Rattle.grs_world.proofs.star.Calm.{IsCalm}
 use Rattle.grs_world.proofs.star.Under.{under}
 use Rattle.grs_world.proofs.run.Site.{Site, site-below, each_site}
+use Rattle.grs_world.proofs.run.Placed.{world_then}
 
 -- whether a system manages an entry, by the words
 abbrev pub has_manager : List ℕ → ℕ → ℕ → Bool
@@ -146,8 +147,7 @@ member-other deck c words words' L L' u n ne m k = record {
 -- the world after the event
 module _ (deck : Deck) (w : World) (c : SysId) (n : NodeState) (at : Site w c.0 n) (g : IsStar deck w) (o : Turnout)
     (h : IsStep deck w c n o) where
-  grown : all_lists (placed w c n o) ≡ lists_after (all_lists w) o.step.fixed
-  unfolding placed
+  grown : all_lists (world_then w c n o) ≡ lists_after (all_lists w) o.step.fixed
   grown = lists-grown w.fixed c o.step.fixed
 
   count : length (set w.nodes c.0 o.step.node) ≡ length w.nodes
@@ -170,8 +170,7 @@ module _ (deck : Deck) (w : World) (c : SysId) (n : NodeState) (at : Site w c.0 
         was,
       )
 
-  pub framed : IsStar deck (placed w c n o)
-  unfolding placed
+  pub framed : IsStar deck (world_then w c n o)
   framed = record {
     mode = h.mode;
     words = h.moves.count ∙ g.words;

@@ -13,10 +13,9 @@ use Rattle.grs_base.specs.declared.resource.Res.TheVariants.{Step, Systems}
 use Rattle.contention_mgr.proofs.ManagerLaws.{well_kept_begins}
 use Rattle.lock_structure.proofs.LawProofs.{words_begin}
 use Rattle.grs_world.proofs.star.Calm.{calm-first, not-gathered}
-use Rattle.grs_world.proofs.run.Sound.{first_is}
+use Rattle.grs_world.proofs.run.First.{first_is, count_first}
 use Rattle.grs_world.proofs.star.Members.{IsPart, IsMember, IsStar, has_manager, manager-here, all_lists}
 use Rattle.grs_world.proofs.star.Under.{in_entry, under, entry-same, list-under}
-use Rattle.grs_world.proofs.run.InRing.{count_first}
 use Rattle.grs_world.proofs.run.Site.{Site, at_site}
 
 -- ---- one event

@@ -3,7 +3,8 @@ use Rattle.grs_world.proofs.Common.{[], ◌++◌, ◌<◌, ◌∙◌, ◌≡◌,
 use Rattle.grs_world.proofs.Common.{first_nodes, first_part, first_world, inbox, length, List, Mail, most_systems}
 use Rattle.grs_world.proofs.Common.{NodeState, None, refl, replicate, same_Some, slice_index_or, Some, StarPart, subst}
 use Rattle.grs_world.proofs.Common.{suc, sym, SysId, true, Turnout, World, zero, ℕ}
-use Rattle.grs_world.proofs.run.Sound.{first_history, first_is}
+use Rattle.grs_world.proofs.run.Sound.{first_history}
+use Rattle.grs_world.proofs.run.First.{first_is}
 use Rattle.grs_world.proofs.system.Begun.{first_seen}
 use Rattle.grs_world.proofs.star.Ghosts.{without-box}
 use Rattle.grs_world.proofs.star.Systems.{IsSystem}

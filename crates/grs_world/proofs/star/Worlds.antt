@@ -20,6 +20,7 @@ use Rattle.grs_world.proofs.star.Runs.{kept_lists, counted-star}
 use Rattle.grs_world.proofs.star.Systems.{IsSystem, none-noticed, requests_in, system-other}
 use Rattle.grs_world.proofs.star.Under.{under, under-other}
 use Rattle.grs_world.proofs.run.Site.{Site, site-below, each_site}
+use Rattle.grs_world.proofs.run.Placed.{of_world, world_then}
 use Rattle.grs_wire.specs.declared.request.Fixed.TheVariants as fixing
 
 -- a request is one of these
@@ -138,8 +139,7 @@ module _ (deck : Deck) (w : World) (g : IsWhole deck w) (c : SysId) (n : NodeSta
       → k.star ≡ Some p → Hands deck o.medium.words (are_live w) later out m (in_hands p (inbox o.medium m)))
       →
       StaysWhole deck w g c (placed w c n o)
-  unfolding placed
-  whole-placed right near own others hands_own hands_others = record {
+  whole-placed right near own others hands_own hands_others = of_world w c n o (StaysWhole deck w g c) (record {
     whole = record {
       roles = framed deck w c n at g.roles o step;
       right = subst (IsHistory deck) (sym grown) right;
@@ -160,12 +160,12 @@ module _ (deck : Deck) (w : World) (g : IsWhole deck w) (c : SysId) (n : NodeSta
     };
     sent = sent;
     fixes = subst (Fixes deck c.0 g.out (items w.fixed)) (sym grown) fixes;
-  }
+  })
     where
       was_live : (s : ℕ) → has o.medium.removed s ≡ false → has w.medium.removed s ≡ false
       was_live s live = sym (ap (λ i. has i s) step.removed) ∙ live
 
-      same_live : are_live (placed w c n o) ≡ are_live w
+      same_live : are_live (world_then w c n o) ≡ are_live w
       same_live =
           ap (λ (i : ℕ). λ (s : ℕ). lives i o.medium.removed s) (length-set w.nodes c.0 o.step.node)
           ∙ ap (λ (i : ℕ). λ (s : ℕ). lives (length w.nodes) i s) step.removed

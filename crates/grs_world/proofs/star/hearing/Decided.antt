@@ -15,7 +15,7 @@ use Rattle.grs_world.proofs.star.Members.{IsPart, has_manager}
 use Rattle.grs_world.proofs.star.Systems.{ours}
 use Rattle.grs_world.proofs.star.Under.{res-entry}
 use Rattle.grs_world.proofs.star.Worlds.{IsWhole, in_hands, items-one}
-use Rattle.grs_world.proofs.star.hearing.Elements.{idle-element, idle-silent, recorded-here, records-distinct}
+use Rattle.grs_world.proofs.star.hearing.Elements.{idle-element, idle-silent, records-distinct}
 use Rattle.grs_world.proofs.star.hearing.Gains.{gained-among, gained-res, has-gain, own-gain, untold_of, gain-asks}
 use Rattle.grs_world.proofs.star.hearing.Gentle.{Answered, Gentle, GentleTo, answered, gentle-new, new-marked}
 use Rattle.grs_world.proofs.star.hearing.Mails.{answers, hears-recorded}
@@ -23,7 +23,9 @@ use Rattle.grs_world.proofs.star.hearing.Managing.{gained-then, next-then, untol
 use Rattle.grs_world.proofs.star.hearing.Own.{hands-kept, own-addressed, own-owner, owner-by, request-kept}
 use Rattle.grs_world.proofs.star.hearing.Passing.{Grown, Hearable, Requested, enq_count-grown, heard-placed}
 use Rattle.grs_world.proofs.star.hearing.Passing.{is_untold_by, own-recorded-ready, untold-here, untold-own}
-use Rattle.grs_world.proofs.run.Site.{Site, own-site}
+use Rattle.grs_world.proofs.star.hearing.Passing.{recorded-now}
+use Rattle.grs_world.proofs.run.Site.{Site}
+use Rattle.grs_world.proofs.run.Placed.{nodes_then}
 use Rattle.grs_wire.specs.declared.request.Fixed.TheVariants as fixing
 
 -- two tasks of a system are one, or stand at two places
@@ -145,16 +147,13 @@ module _ (deck : Deck) (w : World) (g : IsWhole deck w) (c : SysId) (n : NodeSta
   owner-marked : IsWhole deck (placed w c n o) → (u : TaskId) (v : Res) → is_home_at deck c.0 u ≡ true → u.task ≢ t.task
       → is_systems v ≡ true → owns (list_of (lists T) v) u ≡ false
       → owns (list_of (after_want (lists T) t want) v) u ≡ true → had_by n' u v ≡ true
-  unfolding placed
   owner-marked g' u v own ne wide before after =
       let apart : same_task t u ≡ false =
       false_by (same_task t u) (λ e. absurd (ne (ap (λ (z : TaskId). z.task) (sym (same_task-exact t u e))))) in
       let asks = gain-asks (lists T) t want v u before after in
       let new = gained-among (lists T) t want asks.0 v u asks.1 apart before after in
-      let sys' = g'.system c.0 n' (own-site w c n at o at.live) in
       let has =
-      recorded-here deck words (items (w.fixed ++ fixed_by c (fixing.Asked (request_of t a) ∷ []))) g'.right c.0 n'
-      (inbox w.medium c.0) (g'.later c.0) (g'.out c.0) sys' u own v
+      recorded-now deck w g c n at o refl g' u own v
       (owns-has (list_of (lists (items (w.fixed ++ fixed_by c (fixing.Asked (request_of t a) ∷ [])))) v) u
       (ap (λ es. owns es u) (lists-are v) ∙ after))
       entry (ap (entry_of_res deck.entries) new.0 ∙ res-entry deck.entries want asks.0 entry asks.1 of_entry)
@@ -181,9 +180,8 @@ module _ (deck : Deck) (w : World) (g : IsWhole deck w) (c : SysId) (n : NodeSta
     asker-marks h = (gentle.each t).marked v wide (ap (λ (y : TaskState). is_marked v y.records) k.did.state ∙ h)
 
     -- it owned before
-    asker-stays : (had_by n t v ≡ true) ⊎ Hearable w c.0 n t v
-        → (had_by n' t v ≡ true) ⊎ Hearable (placed w c n o) c.0 n' t v
-    unfolding placed
+    asker-stays : (had_by n t v ≡ true) ⊎ Hearable w.medium w.nodes c.0 n t v
+        → (had_by n' t v ≡ true) ⊎ Hearable o.medium (nodes_then w c o) c.0 n' t v
     asker-stays (inl e) =
         inl (asker-marks (k.replied.kept (records-distinct deck w.medium.words T g.right c.0 n (inbox w.medium c.0)
         (g.later c.0) (g.out c.0) (g.system c.0 n at) t home)
@@ -207,7 +205,6 @@ module _ (deck : Deck) (w : World) (g : IsWhole deck w) (c : SysId) (n : NodeSta
         asker-marks (k.replied.made v (asks.1 ∙ ap Some (sym res)) gain.0 none asker-has)
 
   pub heard-decided : IsWhole deck (placed w c n o) → StaysHeard deck w c n o
-  unfolding placed
   heard-decided g' sent had few h = heard-placed deck w g c n at o refl sent had h g' (record {
     boxes = grown;
     own_box = own-addressed deck w g c n at o refl sent had h grown refl;
@@ -250,20 +247,20 @@ module _ (deck : Deck) (w : World) (g : IsWhole deck w) (c : SysId) (n : NodeSta
           ∙ eqb-true t.system.0 c.0 (and_parts (t.system.0 == c.0) _ home).0)
 
       request : (u : TaskId) → is_home_at deck c.0 u ≡ true → sent_by n' u ≡ true → (u ≡ t) ⊎ (u.task ≢ t.task)
-          → Requested (placed w c n o) c.0 u
+          → Requested o.medium (nodes_then w c o) c.0 u
       request u own is (inl same) = no_truth (sent_by n' t) (ap (sent_by n') (sym same) ∙ is) unsent
       request u own is (inr ne) =
           request-kept deck w g c n at o refl sent had h grown refl u own ((gentle-other u ne).sent is)
 
       owner : (u : TaskId) (v : Res) → is_home_at deck c.0 u ≡ true → is_systems v ≡ true
           → owns (list_of (after_want (lists T) t want) v) u ≡ true → (u ≡ t) ⊎ (u.task ≢ t.task) → (b : Bool)
-          → owns (list_of (lists T) v) u ≡ b → (had_by n' u v ≡ true) ⊎ Hearable (placed w c n o) c.0 n' u v
+          → owns (list_of (lists T) v) u ≡ b → (had_by n' u v ≡ true) ⊎ Hearable o.medium (nodes_then w c o) c.0 n' u v
       owner u v own wide after (inr ne) true e =
           owner-by deck w g c n at o refl sent had h grown refl u v own wide e ((gentle-other u ne).marked v wide)
           ((gentle-other u ne).has v wide)
       owner u v own wide after (inr ne) false e = inl (owner-marked g' u v own ne wide e after)
       owner u v own wide after (inl same) true e =
-          subst (λ z. (had_by n' z v ≡ true) ⊎ Hearable (placed w c n o) c.0 n' z v) (sym same)
+          subst (λ z. (had_by n' z v ≡ true) ⊎ Hearable o.medium (nodes_then w c o) c.0 n' z v) (sym same)
           (asker-stays g' v wide (ap (λ z. owns (list_of (after_want (lists T) t want) v) z) (sym same) ∙ after)
           (own-owner deck w g c n at o refl sent had h t v home wide
           (ap (λ z. owns (list_of (lists T) v) z) (sym same) ∙ e)))

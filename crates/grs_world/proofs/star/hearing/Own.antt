@@ -15,18 +15,19 @@ use Rattle.grs_world.proofs.star.hearing.Gentle.{Gentle, GentleTo}
 use Rattle.grs_world.proofs.star.hearing.Passing.{Grown, Hearable, Requested, handed-here, handed-own, heard-placed}
 use Rattle.grs_world.proofs.star.hearing.Passing.{is_untold_by, lists_then, untold-here, untold-own}
 use Rattle.grs_world.proofs.run.Site.{Site}
+use Rattle.grs_world.proofs.run.Placed.{nodes_then}
 
 module _ (deck : Deck) (w : World) (g : IsWhole deck w) (c : SysId) (n : NodeState) (at : Site w c.0 n) (o : Turnout)
     (same_removed : o.medium.removed ≡ w.medium.removed) (sent : ℕ → TaskId → Bool) (had : ℕ → TaskId → Res → Bool)
     (h : IsHeard deck w (sent_with sent c n) (had_with had c n)) where
   -- what holds of the system's own tasks before
-  pub own-request : (t : TaskId) → is_home_at deck c.0 t ≡ true → sent_by n t ≡ true → Requested w c.0 t
+  pub own-request : (t : TaskId) → is_home_at deck c.0 t ≡ true → sent_by n t ≡ true → Requested w.medium w.nodes c.0 t
   own-request t home is = h.requests c.0 n t at home (ap (λ f. f t) (put_here sent c.0 (sent_by n)) ∙ is)
 
   pub own-owner : (t : TaskId) (r : Res) → is_home_at deck c.0 t ≡ true → is_systems r ≡ true
-      → owns (list_of (all_lists w) r) t ≡ true → (had_by n t r ≡ true) ⊎ Hearable w c.0 n t r
+      → owns (list_of (all_lists w) r) t ≡ true → (had_by n t r ≡ true) ⊎ Hearable w.medium w.nodes c.0 n t r
   own-owner t r home wide owned =
-      subst (λ b. (b ≡ true) ⊎ Hearable w c.0 n t r) (ap (λ f. f t r) (put_here had c.0 (had_by n)))
+      subst (λ b. (b ≡ true) ⊎ Hearable w.medium w.nodes c.0 n t r) (ap (λ f. f t r) (put_here had c.0 (had_by n)))
       (h.owners c.0 n t r at home wide owned)
 
   -- ---- the inbox of the system stays
@@ -36,11 +37,10 @@ module _ (deck : Deck) (w : World) (g : IsWhole deck w) (c : SysId) (n : NodeSta
     own-addressed = subst (AreAddressed deck) (sym same) (h.mails c.0)
 
     pub request-kept : (t : TaskId) → is_home_at deck c.0 t ≡ true → sent_by n t ≡ true
-        → Requested (placed w c n o) c.0 t
-    unfolding placed
+        → Requested o.medium (nodes_then w c o) c.0 t
     request-kept t home is = go (own-request t home is)
       where
-        go : Requested w c.0 t → Requested (placed w c n o) c.0 t
+        go : Requested w.medium w.nodes c.0 t → Requested o.medium (nodes_then w c o) c.0 t
         go (inl i) = inl (handed-own deck w g c n at o same_removed boxes t home i)
         go (inr e) = inr (ap (list_any (is_timely t)) same ∙ e)
 
@@ -48,12 +48,11 @@ module _ (deck : Deck) (w : World) (g : IsWhole deck w) (c : SysId) (n : NodeSta
     pub owner-by : (t : TaskId) (r : Res) → is_home_at deck c.0 t ≡ true → is_systems r ≡ true
         → owns (list_of (all_lists w) r) t ≡ true → (had_by n t r ≡ true → had_by o.step.node t r ≡ true)
         → has_res r (state_of o.step.node.tasks t).records ≡ has_res r (state_of n.tasks t).records →
-        (had_by o.step.node t r ≡ true) ⊎ Hearable (placed w c n o) c.0 o.step.node t r
-    unfolding placed
+        (had_by o.step.node t r ≡ true) ⊎ Hearable o.medium (nodes_then w c o) c.0 o.step.node t r
     owner-by t r home wide owned marked has = go (own-owner t r home wide owned)
       where
-        go : (had_by n t r ≡ true) ⊎ Hearable w c.0 n t r
-            → (had_by o.step.node t r ≡ true) ⊎ Hearable (placed w c n o) c.0 o.step.node t r
+        go : (had_by n t r ≡ true) ⊎ Hearable w.medium w.nodes c.0 n t r
+            → (had_by o.step.node t r ≡ true) ⊎ Hearable o.medium (nodes_then w c o) c.0 o.step.node t r
         go (inl e) = inl (marked e)
         go (inr (inl e)) =
             inr (inl (ap (hears t r (has_res r (state_of o.step.node.tasks t).records)) same
@@ -62,12 +61,12 @@ module _ (deck : Deck) (w : World) (g : IsWhole deck w) (c : SysId) (n : NodeSta
 
     pub owner-kept : (t : TaskId) (r : Res) → is_home_at deck c.0 t ≡ true → is_systems r ≡ true
         → owns (list_of (all_lists w) r) t ≡ true → GentleTo (state_of n.tasks t) (state_of o.step.node.tasks t) →
-        (had_by o.step.node t r ≡ true) ⊎ Hearable (placed w c n o) c.0 o.step.node t r
+        (had_by o.step.node t r ≡ true) ⊎ Hearable o.medium (nodes_then w c o) c.0 o.step.node t r
     owner-kept t r home wide owned k = owner-by t r home wide owned (k.marked r wide) (k.has r wide)
 
     -- what the system holds is in its hands
     pub hands-kept : (s : ℕ) (t : TaskId) (p p' : StarPart) → o.step.node.star ≡ Some p' → p'.held ≡ p.held
-        → is_among t (askers (in_hands p (inbox w.medium c.0))) ≡ true → Requested (placed w c n o) s t
+        → is_among t (askers (in_hands p (inbox w.medium c.0))) ≡ true → Requested o.medium (nodes_then w c o) s t
     hands-kept s t p p' star held among =
         inl (handed-here deck w g c n at o same_removed t p' star
         (ap (λ qs. is_among t (askers (qs ++ requests_in (inbox o.medium c.0)))) held

@@ -1,23 +1,24 @@
 -- What an event of one system has to show for what is still to be heard, beside what is the same for all events: that
 -- of its own tasks, and of what was in its hands; and that nothing is lost then.
-use Rattle.grs_world.proofs.Common.{[], ◌&&◌, ◌++◌, ◌<◌, ◌==◌, ◌||◌, ◌∙◌, ◌∷◌, ◌≡◌, ◌≢◌, ◌≤◌, and_parts, ap, append-nil}
-use Rattle.grs_world.proofs.Common.{arith, askers, Bool, cond, Deck, eqb-false, eqb-true, false, filter, fixed_by, has}
-use Rattle.grs_world.proofs.Common.{has_res, has_task, inbox, inbox_of, inl, inr, is_among, is_home_at, is_systems}
-use Rattle.grs_world.proofs.Common.{items, items-append, items_from, items_of, length, List, list_any, list_of, lists}
-use Rattle.grs_world.proofs.Common.{Mail, Managed, managed_at, managed_of, mine, NodeState, owns, placed, put_here}
-use Rattle.grs_world.proofs.Common.{put_other, refl, Req, Res, RunItem, same_Some, same_task, same_task-exact}
-use Rattle.grs_world.proofs.Common.{slice_get, Some, StarPart, State, state_of, subst, suc, sym, SysId, TaskId, true}
-use Rattle.grs_world.proofs.Common.{Turnout, with_mail, World, ℕ}
+use Rattle.grs_world.proofs.Common.{[], ◌&&◌, ◌++◌, ◌<◌, ◌==◌, ◌||◌, ◌∙◌, ◌∷◌, ◌≡◌, ◌≢◌, ◌≤◌, ◌⊎◌, and_parts, ap}
+use Rattle.grs_world.proofs.Common.{append-nil, arith, askers, Bool, cond, Deck, entry_of_res, eqb-false, eqb-true}
+use Rattle.grs_world.proofs.Common.{false, filter, fixed_by, has, has_res, has_task, inbox, inbox_of, inl, inr}
+use Rattle.grs_world.proofs.Common.{is_among, is_home_at, is_systems, items, items-append, items_from, items_of, length}
+use Rattle.grs_world.proofs.Common.{List, list_any, list_of, lists, Mail, Managed, managed_at, managed_of, MediumState}
+use Rattle.grs_world.proofs.Common.{mine, NodeState, owns, placed, put_here, put_other, refl, Req, Res, RunItem}
+use Rattle.grs_world.proofs.Common.{same_Some, same_task, same_task-exact, slice_get, Some, StarPart, State, state_of}
+use Rattle.grs_world.proofs.Common.{subst, suc, sym, SysId, TaskId, true, Turnout, with_mail, World, ℕ}
 use Rattle.std.specs.Prelude.{◌⊎◌}
 use Rattle.contention_mgr.specs.Manager.{is_of}
 use Rattle.grs_world.proofs.star.Heard.{AreAddressed, IsHeard, IsInHands, IsUntold, enq_count, had_by, had_with, hears}
 use Rattle.grs_world.proofs.star.Heard.{is_enq, is_timely, sent_by, sent_with, IsAddressed}
-use Rattle.grs_world.proofs.star.Members.{all_lists}
+use Rattle.grs_world.proofs.star.Members.{all_lists, has_manager}
 use Rattle.grs_world.proofs.star.Worlds.{AllHands, IsHand, IsWhole, in_hands, are_live}
-use Rattle.grs_world.proofs.star.hearing.Elements.{IsDueOn, due-sent, recorded-or-due}
+use Rattle.grs_world.proofs.star.hearing.Elements.{IsDueOn, due-sent, recorded-or-due, recorded-here}
 use Rattle.grs_world.proofs.star.hearing.Mails.{addressed-grown, among-grown, any-grown, hears-grown}
-use Rattle.grs_world.proofs.run.Site.{Site, own-site, other-site, each_site}
+use Rattle.grs_world.proofs.run.Site.{Site, own-site, other-site, each_site, IsThere}
 use Rattle.grs_world.proofs.star.Boxes.{by_box}
+use Rattle.grs_world.proofs.run.Placed.{nodes_then}
 
 -- more mails came to an inbox, each under its entry
 abbrev pub Grown : Deck → List Mail → List Mail → Type 0
@@ -31,12 +32,13 @@ box-grown deck boxes s mail there addressed u =
     (λ ne. ([], sym (append-nil (inbox_of boxes u)), tt))
 
 -- where the request of a task of system s is
-abbrev pub Requested : World → ℕ → TaskId → Type 0
-Requested w s t = IsInHands w t ⊎ (list_any (is_timely t) (inbox w.medium s) ≡ true)
+abbrev pub Requested : MediumState → List NodeState → ℕ → TaskId → Type 0
+Requested m nodes s t = IsInHands m nodes t ⊎ (list_any (is_timely t) (inbox m s) ≡ true)
 
 -- an owner hears that it owns, or is still to be told
-abbrev pub Hearable : World → ℕ → NodeState → TaskId → Res → Type 0
-Hearable w s k t r = (hears t r (has_res r (state_of k.tasks t).records) (inbox w.medium s) ≡ true) ⊎ IsUntold w s t r
+abbrev pub Hearable : MediumState → List NodeState → ℕ → NodeState → TaskId → Res → Type 0
+Hearable m nodes s k t r =
+    (hears t r (has_res r (state_of k.tasks t).records) (inbox m s) ≡ true) ⊎ IsUntold m nodes s t r
 
 -- whether a manager has still to tell a task that it owns
 abbrev pub is_untold_by : StarPart → TaskId → Res → Bool
@@ -52,21 +54,21 @@ pub record Passes (deck : Deck) (w : World) (c : SysId) (n : NodeState) (o : Tur
   pub own_box : AreAddressed deck (inbox o.medium c.0)
   -- its own requests, and those of others that it had in its hands
   pub requests : (t : TaskId) → is_home_at deck c.0 t ≡ true → sent_by o.step.node t ≡ true
-      → Requested (placed w c n o) c.0 t
+      → Requested o.medium (nodes_then w c o) c.0 t
   pub passed : (s : ℕ) (t : TaskId) (p : StarPart) → s ≢ c.0 → is_home_at deck s t ≡ true → n.star ≡ Some p
-      → is_among t (askers (in_hands p (inbox w.medium c.0))) ≡ true → Requested (placed w c n o) s t
+      → is_among t (askers (in_hands p (inbox w.medium c.0))) ≡ true → Requested o.medium (nodes_then w c o) s t
   -- its own owners, and those of others that it had to tell or that it makes
   pub owners : (t : TaskId) (r : Res) → is_home_at deck c.0 t ≡ true → is_systems r ≡ true
       → owns (list_of (lists_then w c o) r) t ≡ true
-      → (had_by o.step.node t r ≡ true) ⊎ Hearable (placed w c n o) c.0 o.step.node t r
+      → (had_by o.step.node t r ≡ true) ⊎ Hearable o.medium (nodes_then w c o) c.0 o.step.node t r
   pub told : (s : ℕ) (k : NodeState) (t : TaskId) (r : Res) (p : StarPart) → s ≢ c.0 → Site w s k
       → is_home_at deck s t ≡ true → is_systems r ≡ true
       → owns (list_of (lists_then w c o) r) t ≡ true → n.star ≡ Some p → is_untold_by p t r ≡ true →
-      Hearable (placed w c n o) s k t r
+      Hearable o.medium (nodes_then w c o) s k t r
   pub gained : (s : ℕ) (k : NodeState) (t : TaskId) (r : Res) → s ≢ c.0 → Site w s k → is_home_at deck s t ≡ true
       → is_systems r ≡ true
       → owns (list_of (all_lists w) r) t ≡ false → owns (list_of (lists_then w c o) r) t ≡ true →
-      Hearable (placed w c n o) s k t r
+      Hearable o.medium (nodes_then w c o) s k t r
   -- a new element's answer comes
   pub queued : (s : ℕ) (k : NodeState) (t : TaskId) (r : Res) → s ≢ c.0 → Site w s k → is_home_at deck s t ≡ true
       → is_systems r ≡ true
@@ -93,7 +95,7 @@ hand-found deck words live later out m t (q ∷ qs) h e =
 
 -- whose item is still to come has no request in anybody's hands
 pub not-handed : (deck : Deck) (w : World) (g : IsWhole deck w) (s : ℕ) (t : TaskId) (y : RunItem)
-    → is_home_at deck s t ≡ true → mine t (g.later s) ≡ y ∷ [] → IsInHands w t → ⊥
+    → is_home_at deck s t ≡ true → mine t (g.later s) ≡ y ∷ [] → IsInHands w.medium w.nodes t → ⊥
 not-handed deck w g s t y home due h =
     let z =
     hand-found deck w.medium.words (are_live w) g.later g.out h.system t (in_hands h.part (inbox w.medium h.system))
@@ -106,7 +108,7 @@ not-handed deck w g s t y home due h =
 
 -- the requests of a system's own tasks are in the hands of others
 pub handed-elsewhere : (deck : Deck) (w : World) (g : IsWhole deck w) (s : ℕ) (t : TaskId) → is_home_at deck s t ≡ true
-    → (h : IsInHands w t) → h.system ≢ s
+    → (h : IsInHands w.medium w.nodes t) → h.system ≢ s
 handed-elsewhere deck w g s t home h same =
     let z =
     hand-found deck w.medium.words (are_live w) g.later g.out h.system t (in_hands h.part (inbox w.medium h.system))
@@ -131,13 +133,13 @@ module _ (deck : Deck) (w : World) (g : IsWhole deck w) (c : SysId) (n : NodeSta
   still-live : (s : ℕ) → has w.medium.removed s ≡ false → has o.medium.removed s ≡ false
   still-live s live = ap (λ i. has i s) same_removed ∙ live
 
-  now : Site (placed w c n o) c.0 o.step.node
+  now : IsThere (nodes_then w c o) o.medium.removed c.0 o.step.node
   now = own-site w c n at o (still-live c.0 at.live)
 
   -- what is in the hands of others stays there, and so does what they have to tell
   module _ (boxes : (u : ℕ) → u ≢ c.0 → Grown deck (inbox w.medium u) (inbox o.medium u)) where
-    handed-on : (t : TaskId) (h : IsInHands w t) → h.system ≢ c.0 → IsInHands (placed w c n o) t
-    unfolding placed
+    handed-on : (t : TaskId) (h : IsInHands w.medium w.nodes t) → h.system ≢ c.0
+        → IsInHands o.medium (nodes_then w c o) t
     handed-on t h ne =
         let b = boxes h.system ne in
         record {
@@ -152,13 +154,14 @@ module _ (deck : Deck) (w : World) (g : IsWhole deck w) (c : SysId) (n : NodeSta
         }
 
     -- those of the system's own tasks
-    pub handed-own : (t : TaskId) → is_home_at deck c.0 t ≡ true → IsInHands w t → IsInHands (placed w c n o) t
+    pub handed-own : (t : TaskId) → is_home_at deck c.0 t ≡ true → IsInHands w.medium w.nodes t
+        → IsInHands o.medium (nodes_then w c o) t
     handed-own t home h = handed-on t h (handed-elsewhere deck w g c.0 t home h)
 
     -- by whose hands they are
-    by-hands : (t : TaskId) (X : Type 0) → IsInHands w t
+    by-hands : (t : TaskId) (X : Type 0) → IsInHands w.medium w.nodes t
         → ((p : StarPart) → n.star ≡ Some p → is_among t (askers (in_hands p (inbox w.medium c.0))) ≡ true → X)
-        → (IsInHands (placed w c n o) t → X) → X
+        → (IsInHands o.medium (nodes_then w c o) t → X) → X
     by-hands t X h own others = go (h.system == c.0) refl
       where
         go : (b : Bool) → (h.system == c.0) ≡ b → X
@@ -169,8 +172,8 @@ module _ (deck : Deck) (w : World) (g : IsWhole deck w) (c : SysId) (n : NodeSta
             (ap (λ u. is_among t (askers (in_hands h.part (inbox w.medium u)))) (sym same) ∙ h.among)
         go false e = others (handed-on t h (eqb-false h.system c.0 e))
 
-  untold-on : (s : ℕ) (t : TaskId) (r : Res) (h : IsUntold w s t r) → h.system ≢ c.0 → IsUntold (placed w c n o) s t r
-  unfolding placed
+  untold-on : (s : ℕ) (t : TaskId) (r : Res) (h : IsUntold w.medium w.nodes s t r) → h.system ≢ c.0
+      → IsUntold o.medium (nodes_then w c o) s t r
   untold-on s t r h ne = record {
     system = h.system;
     node = h.node;
@@ -181,11 +184,13 @@ module _ (deck : Deck) (w : World) (g : IsWhole deck w) (c : SysId) (n : NodeSta
     untold = h.untold;
   }
 
-  pub untold-own : (t : TaskId) (r : Res) → IsUntold w c.0 t r → IsUntold (placed w c n o) c.0 t r
+  pub untold-own : (t : TaskId) (r : Res) → IsUntold w.medium w.nodes c.0 t r
+      → IsUntold o.medium (nodes_then w c o) c.0 t r
   untold-own t r h = untold-on c.0 t r h h.apart
 
-  by-untold : (s : ℕ) (t : TaskId) (r : Res) (X : Type 0) → IsUntold w s t r
-      → ((p : StarPart) → n.star ≡ Some p → is_untold_by p t r ≡ true → X) → (IsUntold (placed w c n o) s t r → X) → X
+  by-untold : (s : ℕ) (t : TaskId) (r : Res) (X : Type 0) → IsUntold w.medium w.nodes s t r
+      → ((p : StarPart) → n.star ≡ Some p → is_untold_by p t r ≡ true → X)
+      → (IsUntold o.medium (nodes_then w c o) s t r → X) → X
   by-untold s t r X h own others = go (h.system == c.0) refl
     where
       go : (b : Bool) → (h.system == c.0) ≡ b → X
@@ -197,8 +202,7 @@ module _ (deck : Deck) (w : World) (g : IsWhole deck w) (c : SysId) (n : NodeSta
 
   -- the system has these to tell now
   pub untold-here : (s : ℕ) (t : TaskId) (r : Res) (p : StarPart) → s ≢ c.0 → o.step.node.star ≡ Some p
-      → is_untold_by p t r ≡ true → IsUntold (placed w c n o) s t r
-  unfolding placed
+      → is_untold_by p t r ≡ true → IsUntold o.medium (nodes_then w c o) s t r
   untold-here s t r p ne star untold = record {
     system = c.0;
     node = o.step.node;
@@ -211,8 +215,7 @@ module _ (deck : Deck) (w : World) (g : IsWhole deck w) (c : SysId) (n : NodeSta
 
   -- and has these requests in its hands
   pub handed-here : (t : TaskId) (p : StarPart) → o.step.node.star ≡ Some p
-      → is_among t (askers (in_hands p (inbox o.medium c.0))) ≡ true → IsInHands (placed w c n o) t
-  unfolding placed
+      → is_among t (askers (in_hands p (inbox o.medium c.0))) ≡ true → IsInHands o.medium (nodes_then w c o) t
   handed-here t p star among = record {
     system = c.0;
     node = o.step.node;
@@ -248,7 +251,16 @@ module _ (deck : Deck) (w : World) (g : IsWhole deck w) (c : SysId) (n : NodeSta
                 d.item d.due).1,
           )
 
-  -- so where it has sent none
+  -- so where it manages the entry
+  pub recorded-now : IsWhole deck (placed w c n o) → (t : TaskId) → is_home_at deck c.0 t ≡ true → (r : Res)
+      → has_task (list_of (lists_then w c o) r) t ≡ true → (e : ℕ) → entry_of_res deck.entries r ≡ Some e
+      → has_manager o.medium.words e c.0 ≡ true → has_res r (state_of o.step.node.tasks t).records ≡ true
+  unfolding placed
+  recorded-now g' t home r has e of_entry mine =
+      recorded-here deck o.medium.words (items (w.fixed ++ fixed_by c o.step.fixed)) g'.right c.0 o.step.node
+      (inbox o.medium c.0) (g'.later c.0) (g'.out c.0) (g'.system c.0 o.step.node now) t home r has e of_entry mine
+
+  -- and where it has sent none
   pub own-recorded-ready : IsWhole deck (placed w c n o) → (t : TaskId) → is_home_at deck c.0 t ≡ true → (r : Res)
       → has_task (list_of (lists_then w c o) r) t ≡ true → sent_by o.step.node t ≡ false
       → has_res r (state_of o.step.node.tasks t).records ≡ true
@@ -274,26 +286,26 @@ module _ (deck : Deck) (w : World) (g : IsWhole deck w) (c : SysId) (n : NodeSta
     timely-on s ne t e =
         let b = z.boxes s ne in ap (list_any (is_timely t)) b.1 ∙ any-grown (is_timely t) (inbox w.medium s) b.0 e
 
-    requests-others : (s : ℕ) → s ≢ c.0 → (t : TaskId) → is_home_at deck s t ≡ true → Requested w s t
-        → Requested (placed w c n o) s t
-    unfolding placed
+    requests-others : (s : ℕ) → s ≢ c.0 → (t : TaskId) → is_home_at deck s t ≡ true → Requested w.medium w.nodes s t
+        → Requested o.medium (nodes_then w c o) s t
     requests-others s ne t home (inl i) =
-        by-hands z.boxes t (Requested (placed w c n o) s t) i (λ p star among. z.passed s t p ne home star among)
+        by-hands z.boxes t (Requested o.medium (nodes_then w c o) s t) i
+        (λ p star among. z.passed s t p ne home star among)
         (λ j. inl j)
     requests-others s ne t home (inr e) = inr (timely-on s ne t e)
 
     owners-others : (s : ℕ) (k : NodeState) → s ≢ c.0 → Site w s k
         → (t : TaskId) (r : Res) → is_home_at deck s t ≡ true → is_systems r ≡ true
         → owns (list_of (lists_then w c o) r) t ≡ true →
-        (had s t r ≡ true) ⊎ Hearable w s k t r → (had s t r ≡ true) ⊎ Hearable (placed w c n o) s k t r
-    unfolding placed
+        (had s t r ≡ true) ⊎ Hearable w.medium w.nodes s k t r
+        → (had s t r ≡ true) ⊎ Hearable o.medium (nodes_then w c o) s k t r
     owners-others s k ne found t r home wide owned (inl e) = inl e
     owners-others s k ne found t r home wide owned (inr (inl e)) =
         let b = z.boxes s ne in
         inr (inl (ap (hears t r (has_res r (state_of k.tasks t).records)) b.1
         ∙ hears-grown t r (has_res r (state_of k.tasks t).records) (inbox w.medium s) b.0 e))
     owners-others s k ne found t r home wide owned (inr (inr u)) =
-        by-untold s t r ((had s t r ≡ true) ⊎ Hearable (placed w c n o) s k t r) u
+        by-untold s t r ((had s t r ≡ true) ⊎ Hearable o.medium (nodes_then w c o) s k t r) u
         (λ p star untold. inr (z.told s k t r p ne found home wide owned star untold)) (λ v. inr (inr v))
 
     recorded-own : (t : TaskId) (r : Res) → is_home_at deck c.0 t ≡ true
@@ -310,7 +322,7 @@ module _ (deck : Deck) (w : World) (g : IsWhole deck w) (c : SysId) (n : NodeSta
         go (inl e) = inl e
         go (inr y) = by-request (z.requests t home y.2)
           where
-            by-request : Requested (placed w c n o) c.0 t
+            by-request : Requested o.medium (nodes_then w c o) c.0 t
                 → (has_res r (state_of o.step.node.tasks t).records ≡ true)
                 ⊎ (list_any (is_timely t) (inbox o.medium c.0) ≡ true)
             by-request (inl i) = absurd (not-handed deck (placed w c n o) g' c.0 t y.0 home y.1 i)
@@ -346,7 +358,8 @@ module _ (deck : Deck) (w : World) (g : IsWhole deck w) (c : SysId) (n : NodeSta
     heard-placed = record {
       requests = λ s k t found home is.
           each_site w c n at o was-live (λ u y.
-          is_home_at deck u t ≡ true → sent_with sent c o.step.node u t ≡ true → Requested (placed w c n o) u t)
+          is_home_at deck u t ≡ true → sent_with sent c o.step.node u t ≡ true
+          → Requested o.medium (nodes_then w c o) u t)
           (λ own is_sent. z.requests t own (sym (ap (λ f. f t) (put_here sent c.0 (sent_by o.step.node))) ∙ is_sent))
           (λ u y ne there own is_sent.
           requests-others u ne t own (h.requests u y t there own
@@ -356,12 +369,12 @@ module _ (deck : Deck) (w : World) (g : IsWhole deck w) (c : SysId) (n : NodeSta
       owners = λ s k t r found home wide owned.
           each_site w c n at o was-live (λ u y.
           is_home_at deck u t ≡ true
-          → (had_with had c o.step.node u t r ≡ true) ⊎ Hearable (placed w c n o) u y t r)
+          → (had_with had c o.step.node u t r ≡ true) ⊎ Hearable o.medium (nodes_then w c o) u y t r)
           (λ own.
-          subst (λ b. (b ≡ true) ⊎ Hearable (placed w c n o) c.0 o.step.node t r)
+          subst (λ b. (b ≡ true) ⊎ Hearable o.medium (nodes_then w c o) c.0 o.step.node t r)
           (sym (ap (λ f. f t r) (put_here had c.0 (had_by o.step.node)))) (z.owners t r own wide owned))
           (λ u y ne there own.
-          subst (λ b. (b ≡ true) ⊎ Hearable (placed w c n o) u y t r)
+          subst (λ b. (b ≡ true) ⊎ Hearable o.medium (nodes_then w c o) u y t r)
           (sym (ap (λ f. f t r) (put_other had c.0 (had_by o.step.node) u ne)))
           (by-owner u y ne there t r own wide owned))
           s k found home;
@@ -386,13 +399,15 @@ module _ (deck : Deck) (w : World) (g : IsWhole deck w) (c : SysId) (n : NodeSta
 
         by-owner : (u : ℕ) (y : NodeState) → u ≢ c.0 → Site w u y
             → (t : TaskId) (r : Res) → is_home_at deck u t ≡ true → is_systems r ≡ true
-            → owns (list_of (lists_then w c o) r) t ≡ true → (had u t r ≡ true) ⊎ Hearable (placed w c n o) u y t r
+            → owns (list_of (lists_then w c o) r) t ≡ true
+            → (had u t r ≡ true) ⊎ Hearable o.medium (nodes_then w c o) u y t r
         by-owner u y ne found t r there wide owned = go (owns (list_of (all_lists w) r) t) refl
           where
             go : (b : Bool) → owns (list_of (all_lists w) r) t ≡ b
-                → (had u t r ≡ true) ⊎ Hearable (placed w c n o) u y t r
+                → (had u t r ≡ true) ⊎ Hearable o.medium (nodes_then w c o) u y t r
             go true e =
                 owners-others u y ne found t r there wide owned
-                (subst (λ b. (b ≡ true) ⊎ Hearable w u y t r) (ap (λ f. f t r) (put_other had c.0 (had_by n) u ne))
+                (subst (λ b. (b ≡ true) ⊎ Hearable w.medium w.nodes u y t r)
+                (ap (λ f. f t r) (put_other had c.0 (had_by n) u ne))
                 (h.owners u y t r found there wide e))
             go false e = inr (z.gained u y t r ne found there wide e owned)

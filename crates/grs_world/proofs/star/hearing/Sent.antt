@@ -17,6 +17,7 @@ use Rattle.grs_world.proofs.star.hearing.Own.{hands-kept, own-addressed, owner-b
 use Rattle.grs_world.proofs.star.hearing.Passing.{Grown, Requested, heard-placed, is_untold_by, untold-here, box-grown}
 use Rattle.grs_world.proofs.run.Site.{Site, site-below, other-site}
 use Rattle.grs_world.proofs.star.Boxes.{its-box, other-box}
+use Rattle.grs_world.proofs.run.Placed.{nodes_then}
 use Rattle.task_state.specs.declared.state.Phase.TheVariants as phases
 
 module _ (deck : Deck) (w : World) (g : IsWhole deck w) (c : SysId) (n : NodeState) (at : Site w c.0 n) (words : List ℕ)
@@ -62,8 +63,7 @@ module _ (deck : Deck) (w : World) (g : IsWhole deck w) (c : SysId) (n : NodeSta
   same_items = items-none w.fixed c
 
   -- it is in the hands of its manager
-  in-manager : IsInHands (placed w c n o) t
-  unfolding placed
+  in-manager : IsInHands o.medium (nodes_then w c o) t
   in-manager =
       let k : NodeState = get_or w.nodes s.0 n in
       let found : Site w s.0 k = live-site w s.0 n lives in
@@ -121,7 +121,7 @@ module _ (deck : Deck) (w : World) (g : IsWhole deck w) (c : SysId) (n : NodeSta
 
       sends : (u : TaskId) → is_home_at deck c.0 u ≡ true
           → is_sent (state_of (with_phase n.tasks t phases.Sent) u).phase ≡ true → (b : Bool) → (u.task == t.task) ≡ b
-          → Requested (placed w c n o) c.0 u
+          → Requested o.medium (nodes_then w c o) c.0 u
       sends u own is false e =
           request-kept deck w g c n at o refl sent had h grown same_box u own
           (sym (ap (λ (y : TaskState). is_sent y.phase)
@@ -133,4 +133,4 @@ module _ (deck : Deck) (w : World) (g : IsWhole deck w) (c : SysId) (n : NodeSta
           let y = ours deck c.0 (items w.fixed) (g.later c.0) (g.out c.0) n k t home in
           let same : u ≡ t =
           same_task-exact u t (same_place deck c.0 n.tasks u t x.0 y.0 x.1 y.1 (eqb-true u.task t.task e)) in
-          inl (subst (IsInHands (placed w c n o)) (sym same) in-manager)
+          inl (subst (IsInHands o.medium (nodes_then w c o)) (sym same) in-manager)

@@ -17,16 +17,17 @@ use Rattle.grs_world.proofs.star.Members.{IsPart}
 use Rattle.grs_world.proofs.star.Systems.{requests_in}
 use Rattle.grs_world.proofs.star.Under.{res-entry}
 use Rattle.grs_world.proofs.star.Worlds.{IsHand, IsWhole, in_hands, items-one, are_live, live-below}
-use Rattle.grs_world.proofs.star.hearing.Elements.{idle-element, idle-silent, recorded-here}
+use Rattle.grs_world.proofs.star.hearing.Elements.{idle-element, idle-silent}
 use Rattle.grs_world.proofs.star.hearing.Gains.{gained-among, gained-res, has-gain, own-gain, rank-timely, gain-asks}
 use Rattle.grs_world.proofs.star.hearing.Gentle.{Gentle, gentle-new, new-marked}
 use Rattle.grs_world.proofs.star.hearing.Mails.{hears-answer}
 use Rattle.grs_world.proofs.star.hearing.Managing.{gained-then, next-then, untold-then}
 use Rattle.grs_world.proofs.star.hearing.Own.{own-addressed, owner-kept, request-kept}
 use Rattle.grs_world.proofs.star.hearing.Passing.{Grown, Hearable, Requested, enq_count-grown, handed-here}
-use Rattle.grs_world.proofs.star.hearing.Passing.{heard-placed, is_untold_by, untold-here, box-grown}
-use Rattle.grs_world.proofs.run.Site.{Site, own-site}
+use Rattle.grs_world.proofs.star.hearing.Passing.{heard-placed, is_untold_by, untold-here, box-grown, recorded-now}
+use Rattle.grs_world.proofs.run.Site.{Site}
 use Rattle.grs_world.proofs.star.Boxes.{its-box, other-box}
+use Rattle.grs_world.proofs.run.Placed.{nodes_then}
 use Rattle.grs_wire.specs.declared.request.Fixed.TheVariants as fixing
 
 module _ (deck : Deck) (w : World) (g : IsWhole deck w) (c : SysId) (n : NodeState) (at : Site w c.0 n) (p : StarPart)
@@ -187,14 +188,11 @@ module _ (deck : Deck) (w : World) (g : IsWhole deck w) (c : SysId) (n : NodeSta
   owner-marked : IsWhole deck (placed w c n o) → (u : TaskId) (v : Res) → is_home_at deck c.0 u ≡ true
       → is_systems v ≡ true → owns (list_of (lists T) v) u ≡ false
       → owns (list_of (after_want (lists T) q.task q.want) v) u ≡ true → had_by n' u v ≡ true
-  unfolding placed
   owner-marked g' u v home wide before after =
       let asks = gain-asks (lists T) q.task q.want v u before after in
       let new = gained-among (lists T) q.task q.want asks.0 v u asks.1 (not-asker u home) before after in
-      let sys' = g'.system c.0 n' (own-site w c n at o at.live) in
       let has =
-      recorded-here deck w.medium.words (items (w.fixed ++ fixed_by c (fixing.Asked q ∷ []))) g'.right c.0 n'
-      (inbox sent_on c.0) (g'.later c.0) (g'.out c.0) sys' u home v
+      recorded-now deck w g c n at o refl g' u home v
       (owns-has (list_of (lists (items (w.fixed ++ fixed_by c (fixing.Asked q ∷ [])))) v) u
       (ap (λ es. owns es u) (lists-are v) ∙ after))
       hand.entry
@@ -205,7 +203,6 @@ module _ (deck : Deck) (w : World) (g : IsWhole deck w) (c : SysId) (n : NodeSta
       (sym ((gentle.each u).has v wide) ∙ has)
 
   pub heard-settled : IsWhole deck (placed w c n o) → StaysHeard deck w c n o
-  unfolding placed
   heard-settled g' sent had few h = heard-placed deck w g c n at o refl sent had h g' (record {
     boxes = grown;
     own_box = own-addressed deck w g c n at o refl sent had h grown same_box;
@@ -242,7 +239,7 @@ module _ (deck : Deck) (w : World) (g : IsWhole deck w) (c : SysId) (n : NodeSta
 
       passes : (s : ℕ) (u : TaskId) → is_home_at deck s u ≡ true → (b : Bool) → same_task u q.task ≡ b
           → (same_task u q.task || is_among u (askers (qs ++ requests_in (inbox w.medium c.0)))) ≡ true
-          → Requested (placed w c n o) s u
+          → Requested o.medium (nodes_then w c o) s u
       passes s u home true e among = inr (timely-last few ranks s u home e)
       passes s u home false e among =
           inl (handed-here deck w g c n at o refl u p'
@@ -252,7 +249,7 @@ module _ (deck : Deck) (w : World) (g : IsWhole deck w) (c : SysId) (n : NodeSta
 
       owner : (u : TaskId) (v : Res) → is_home_at deck c.0 u ≡ true → is_systems v ≡ true
           → owns (list_of (after_want (lists T) q.task q.want) v) u ≡ true → (b : Bool)
-          → owns (list_of (lists T) v) u ≡ b → (had_by n' u v ≡ true) ⊎ Hearable (placed w c n o) c.0 n' u v
+          → owns (list_of (lists T) v) u ≡ b → (had_by n' u v ≡ true) ⊎ Hearable o.medium (nodes_then w c o) c.0 n' u v
       owner u v home wide after true e =
           owner-kept deck w g c n at o refl sent had h grown same_box u v home wide e (gentle.each u)
       owner u v home wide after false e = inl (owner-marked g' u v home wide e after)
@@ -260,7 +257,7 @@ module _ (deck : Deck) (w : World) (g : IsWhole deck w) (c : SysId) (n : NodeSta
       gains-control : (s : ℕ) (y : NodeState) (u : TaskId) (v : Res) → s ≢ c.0 → Site w s y → is_home_at deck s u ≡ true
           → owns (list_of (lists T) v) u ≡ false
           → owns (list_of (after_want (lists T) q.task q.want) v) u ≡ true →
-          (b : Bool) → same_task u q.task ≡ b → Hearable (placed w c n o) s y u v
+          (b : Bool) → same_task u q.task ≡ b → Hearable o.medium (nodes_then w c o) s y u v
       gains-control s y u v ne found home before after true e =
           inl (asker-hears few ranks s y u v found home e before after)
       gains-control s y u v ne found home before after false e =

@@ -38,6 +38,7 @@ use Rattle.grs_world.proofs.star.hearing.Passing.{is_untold_by, own-recorded-rea
 use Rattle.grs_world.proofs.star.Shown.{AreApart, can-show}
 use Rattle.grs_world.proofs.run.Site.{Site, site-below}
 use Rattle.grs_world.proofs.star.Boxes.{taken-box, untaken-box}
+use Rattle.grs_world.proofs.run.Placed.{nodes_then}
 
 -- ---- what a task can be answered
 same-code : (c : Code) → same_code c c ≡ true
@@ -178,7 +179,6 @@ module _ (deck : Deck) (w : World) (g : IsWhole deck w) (c : SysId) (n : NodeSta
 
   heard-by : (v : TasksView) (q : StarPart) → (IsWhole deck (placed w c n (to v q)) → Takes v q)
       → IsWhole deck (placed w c n (to v q)) → StaysHeard deck w c n (to v q)
-  unfolding placed
   heard-by v q takes g' sent had few h = heard-placed deck w g c n at (to v q) refl sent had h g' (record {
     boxes = grown;
     own_box = subst (AreAddressed deck) (sym own_box) addressed.1;
@@ -227,15 +227,15 @@ module _ (deck : Deck) (w : World) (g : IsWhole deck w) (c : SysId) (n : NodeSta
       request : (u : TaskId) → is_home_at deck c.0 u ≡ true
           → (is_sent (state_of n.tasks u).phase ≡ true)
           × (list_any (is_timely u) (mail ∷ rest) ≡ true → list_any (is_timely u) rest ≡ true)
-          → Requested w c.0 u → Requested (placed w c n (to v q)) c.0 u
+          → Requested w.medium w.nodes c.0 u → Requested (to v q).medium (nodes_then w c (to v q)) c.0 u
       request u home z (inl i) = inl (handed-own deck w g c n at (to v q) refl grown u home i)
       request u home z (inr e) =
           inr (ap (list_any (is_timely u)) own_box ∙ z.1 (sym (ap (list_any (is_timely u)) is) ∙ e))
 
       owner : (u : TaskId) (r : Res) → is_home_at deck c.0 u ≡ true → is_systems r ≡ true
-          → owns (list_of (all_lists w) r) u ≡ true → (had_by n u r ≡ true) ⊎ Hearable w c.0 n u r
+          → owns (list_of (all_lists w) r) u ≡ true → (had_by n u r ≡ true) ⊎ Hearable w.medium w.nodes c.0 n u r
           → (had_by (record n { tasks = v; star = Some q }) u r ≡ true)
-          ⊎ Hearable (placed w c n (to v q)) c.0 (record n { tasks = v; star = Some q }) u r
+          ⊎ Hearable (to v q).medium (nodes_then w c (to v q)) c.0 (record n { tasks = v; star = Some q }) u r
       owner u r home wide owned (inl e) = inl (k.marked u r home wide owned e)
       owner u r home wide owned (inr (inr z)) = inr (inr (untold-own deck w g c n at (to v q) refl u r z))
       owner u r home wide owned (inr (inl e)) =
@@ -244,7 +244,7 @@ module _ (deck : Deck) (w : World) (g : IsWhole deck w) (c : SysId) (n : NodeSta
           by-heard : (is_marked r (state_of v u).records ≡ true)
               ⊎ (hears u r (has_res r (state_of v u).records) rest ≡ true)
               → (had_by (record n { tasks = v; star = Some q }) u r ≡ true)
-              ⊎ Hearable (placed w c n (to v q)) c.0 (record n { tasks = v; star = Some q }) u r
+              ⊎ Hearable (to v q).medium (nodes_then w c (to v q)) c.0 (record n { tasks = v; star = Some q }) u r
           by-heard (inl f) = inl f
           by-heard (inr f) = inr (inl (ap (hears u r (has_res r (state_of v u).records)) own_box ∙ f))
 

@@ -15,6 +15,7 @@ use Rattle.grs_world.proofs.star.hearing.Own.{hands-kept, own-addressed, owner-k
 use Rattle.grs_world.proofs.star.hearing.Passing.{Grown, Hearable, heard-placed, is_untold_by, untold-here, box-grown}
 use Rattle.grs_world.proofs.run.Site.{Site}
 use Rattle.grs_world.proofs.star.Boxes.{its-box, other-box}
+use Rattle.grs_world.proofs.run.Placed.{nodes_then}
 
 module _ (deck : Deck) (w : World) (g : IsWhole deck w) (c : SysId) (n : NodeState) (at : Site w c.0 n) (p : StarPart)
     (star : n.star ≡ Some p) (t : TaskId) (r : Res) (apart : t.system.0 ≢ c.0) (inside : t.system.0 < length w.nodes)
@@ -50,7 +51,6 @@ module _ (deck : Deck) (w : World) (g : IsWhole deck w) (c : SysId) (n : NodeSta
   same_items = items-none w.fixed c
 
   pub heard-told : IsWhole deck (placed w c n o) → StaysHeard deck w c n o
-  unfolding placed
   heard-told g' sent had few h = heard-placed deck w g c n at o refl sent had h g' (record {
     boxes = grown;
     own_box = own-addressed deck w g c n at o refl sent had h grown same_box;
@@ -84,7 +84,7 @@ module _ (deck : Deck) (w : World) (g : IsWhole deck w) (c : SysId) (n : NodeSta
       tells : (s : ℕ) (y : NodeState) (u : TaskId) (q : Res) → s ≢ c.0 → Site w s y → is_home_at deck s u ≡ true
           → is_systems q ≡ true
           → owns (list_of (all_lists w) q) u ≡ true → is_untold_by p u q ≡ true →
-          (b : Bool) → (same_res r q && same_task t u) ≡ b → Hearable (placed w c n o) s y u q
+          (b : Bool) → (same_res r q && same_task t u) ≡ b → Hearable o.medium (nodes_then w c o) s y u q
       tells s y u q ne found home wide owned untold false e =
           inr (untold-here deck w g c n at o refl s u q p' ne refl (telling-untold p.manager t r q u e untold))
       tells s y u q ne found home wide owned untold true e =
