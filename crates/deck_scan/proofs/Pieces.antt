@@ -10,7 +10,7 @@ use Rattle.std.proofs.lemmas.List.{take_all}
 use Rattle.std.proofs.lemmas.List.Folds.{list_all-append}
 use Rattle.grs_base.specs.Printed.{is_printable, quotes_doubled}
 use Rattle.deck_scan.specs.declared.token.Token.TheVariants.{Word, Name, Open, Close, Comma, Equals, Stray}
-use Rattle.deck_scan.specs.declared.row.Row.{Row}
+use Rattle.deck_scan.specs.declared.row.ScannedLine.{ScannedLine}
 use Rattle.deck_scan.specs.Bytes.{begins, is_word}
 use Rattle.deck_scan.specs.Pieces.{Piece, Plain, Quoted, Hexed, Sign, Blank, Comment, LoneSlash, StrayByte, OpenQuote}
 use Rattle.deck_scan.specs.Pieces.{OpenHexed, spelling, has_no_end, is_in_comment, is_between_quotes, is_mark}
@@ -176,7 +176,8 @@ any_follows : (p : Piece) → ((b : ℕ) → may_follow p b ≡ true) → (rest 
 any_follows p h [] = refl
 any_follows p h (b ∷ bs) = h b
 
-pub takes_open_quote : (text : List ℕ) (old : Row) (name back : List ℕ) (new : Row) → Unquotes text name back
+pub takes_open_quote : (text : List ℕ) (old : ScannedLine) (name back : List ℕ) (new : ScannedLine)
+    → Unquotes text name back
     → length back ≡ 0 → new ≡ row_with Stray old → Takes (39 ∷ text) old back new
 takes_open_quote text old name back new u none is = record {
   piece = OpenQuote name;
@@ -185,10 +186,11 @@ takes_open_quote text old name back new u none is = record {
   follows = rw (nil_of back none) refl;
   ends = refl;
   says = λ line. ap (place line) is;
-  begun = ap (λ (r : Row). r.begun) is;
+  begun = ap (λ (r : ScannedLine). r.begun) is;
 }
 
-pub takes_quoted : (text : List ℕ) (old : Row) (name back behind : List ℕ) (b : ℕ) (new : Row) → Unquotes text name back
+pub takes_quoted : (text : List ℕ) (old : ScannedLine) (name back behind : List ℕ) (b : ℕ) (new : ScannedLine)
+    → Unquotes text name back
     → back ≡ b ∷ behind → new ≡ row_with (Name name) old → Takes (39 ∷ text) old behind new
 takes_quoted text old name back behind b new u front is =
     let closes : (eqb b 39 && not (begins 39 behind)) ≡ true =
@@ -204,7 +206,7 @@ takes_quoted text old name back behind b new u front is =
       follows = follows behind (not_true (begins 39 behind) k.1);
       ends = refl;
       says = λ line. ap (place line) is;
-      begun = ap (λ (r : Row). r.begun) is;
+      begun = ap (λ (r : ScannedLine). r.begun) is;
     }
   where
     follows : (t : List ℕ) → begins 39 t ≡ false → followed_by (Quoted name) t ≡ true
@@ -222,7 +224,8 @@ between_all (b ∷ bs) h k =
     and_from (is_between_quotes b) (list_all is_between_quotes bs) (and_from (is_printable b) (is_no_quote b) a.0 c.0)
     (between_all bs a.1 c.1)
 
-pub takes_open_hexed : (text : List ℕ) (old : Row) (ds back : List ℕ) (new : Row) → IsSplit is_no_quote text ds back
+pub takes_open_hexed : (text : List ℕ) (old : ScannedLine) (ds back : List ℕ) (new : ScannedLine)
+    → IsSplit is_no_quote text ds back
     → list_all is_printable text ≡ true → length back ≡ 0 → new ≡ row_with Stray old
     → Takes (88 ∷ 39 ∷ text) old back new
 takes_open_hexed text old ds back new s ok none is = record {
@@ -232,10 +235,10 @@ takes_open_hexed text old ds back new s ok none is = record {
   follows = rw (nil_of back none) refl;
   ends = refl;
   says = λ line. ap (place line) is;
-  begun = ap (λ (r : Row). r.begun) is;
+  begun = ap (λ (r : ScannedLine). r.begun) is;
 }
 
-pub takes_hexed : (text : List ℕ) (old : Row) (ds back behind : List ℕ) (b : ℕ) (new : Row)
+pub takes_hexed : (text : List ℕ) (old : ScannedLine) (ds back behind : List ℕ) (b : ℕ) (new : ScannedLine)
     → IsSplit is_no_quote text ds back → list_all is_printable text ≡ true → back ≡ b ∷ behind
     → new ≡ row_with (hex_token ds) old → Takes (88 ∷ 39 ∷ text) old behind new
 takes_hexed text old ds back behind b new s ok front is =
@@ -250,12 +253,12 @@ takes_hexed text old ds back behind b new s ok front is =
       follows = any_follows (Hexed ds) (λ c. refl) behind;
       ends = refl;
       says = λ line. ap (place line) is;
-      begun = ap (λ (r : Row). r.begun) is;
+      begun = ap (λ (r : ScannedLine). r.begun) is;
     }
 
 -- ---- words
 
-pub takes_stray : (text : List ℕ) (old : Row) (b : ℕ) (tail word rest : List ℕ) (new : Row)
+pub takes_stray : (text : List ℕ) (old : ScannedLine) (b : ℕ) (tail word rest : List ℕ) (new : ScannedLine)
     → IsSplit is_word text word rest → length word ≡ 0 → text ≡ b ∷ tail → list_all is_printable text ≡ true
     → is_mark b ≡ false
     → new ≡ row_with Stray old → Takes text old tail new
@@ -272,10 +275,11 @@ takes_stray text old b tail word rest new s none front ok mark is =
       follows = any_follows (StrayByte b) (λ c. refl) tail;
       ends = refl;
       says = λ line. ap (place line) is;
-      begun = ap (λ (r : Row). r.begun) is;
+      begun = ap (λ (r : ScannedLine). r.begun) is;
     }
 
-pub takes_word : (text : List ℕ) (old : Row) (word rest : List ℕ) (new : Row) → IsSplit is_word text word rest
+pub takes_word : (text : List ℕ) (old : ScannedLine) (word rest : List ℕ) (new : ScannedLine)
+    → IsSplit is_word text word rest
     → (length word ≡ 0 → ⊥) → (bytes_eq word (88 ∷ []) && begins 39 rest) ≡ false
     → new ≡ record (row_with (Word word) old) { near = length old.tokens == 0 } → Takes text old rest new
 takes_word text old word rest new s some x is = record {
@@ -285,7 +289,7 @@ takes_word text old word rest new s some x is = record {
   follows = follows rest s.ends x;
   ends = rw lf_is_no_word refl;
   says = λ line. ap (place line) is;
-  begun = ap (λ (r : Row). r.begun) is;
+  begun = ap (λ (r : ScannedLine). r.begun) is;
 }
   where
     nonempty : (w : List ℕ) → (length w ≡ 0 → ⊥) → is_nonempty w ≡ true
@@ -313,7 +317,7 @@ hexed_front text word (b ∷ bs) s x q =
 -- ---- blanks, signs and slashes
 
 -- a piece of one byte
-single : (piece : Piece) (n b : ℕ) (text tail : List ℕ) (old new after : Row) → eqb b n ≡ true → text ≡ b ∷ tail
+single : (piece : Piece) (n b : ℕ) (text tail : List ℕ) (old new after : ScannedLine) → eqb b n ≡ true → text ≡ b ∷ tail
     → is_piece piece ≡ true → spelling piece ≡ n ∷ []
     → followed_by piece tail ≡ true → may_follow piece 10 ≡ true
     → ((line : ℕ) → place line after ≡ past piece (place line old)) → after.begun ≡ old.begun → new ≡ after
@@ -325,10 +329,11 @@ single piece n b text tail old new after e front is spells follows ends says beg
   follows = follows;
   ends = ends;
   says = λ line. ap (place line) made ∙ says line;
-  begun = ap (λ (r : Row). r.begun) made ∙ begun;
+  begun = ap (λ (r : ScannedLine). r.begun) made ∙ begun;
 }
 
-pub takes_mark : (text : List ℕ) (old : Row) (b : ℕ) (tail : List ℕ) (new : Row) → text ≡ b ∷ tail → is_single b ≡ true
+pub takes_mark : (text : List ℕ) (old : ScannedLine) (b : ℕ) (tail : List ℕ) (new : ScannedLine) → text ≡ b ∷ tail
+    → is_single b ≡ true
     → (b == 47 && begins 42 tail) ≡ false → new ≡ after_mark b old → Takes text old tail new
 unfolding after_mark
 takes_mark text old b tail new front is no_comment made =
@@ -399,7 +404,7 @@ printable_inside (b ∷ bs) h =
     and_from (is_in_comment b) (list_all is_in_comment bs) (rw k.0 refl) (printable_inside bs k.1)
 
 -- a comment that is closed on its line
-pub takes_comment : (text : List ℕ) (old : Row) (behind : List ℕ) (new : Row) (c : List ℕ)
+pub takes_comment : (text : List ℕ) (old : ScannedLine) (behind : List ℕ) (new : ScannedLine) (c : List ℕ)
     → list_all is_printable c ≡ true → text ≡ 47 ∷ 42 ∷ c → ClosesComment c behind → new ≡ record old { near = false }
     → Takes text old behind new
 takes_comment text old behind new c ok front k is =
@@ -411,7 +416,7 @@ takes_comment text old behind new c ok front k is =
       follows = any_follows (Comment k.inside) (λ b. refl) behind;
       ends = refl;
       says = λ line. ap (place line) is ∙ sym (over-printable k.inside (apart (place line old)) inner);
-      begun = ap (λ (r : Row). r.begun) is;
+      begun = ap (λ (r : ScannedLine). r.begun) is;
     }
 
 -- ---- slices and bytes

@@ -8,7 +8,7 @@ use Rattle.std.proofs.lemmas.List.Folds.{list_all-append}
 use Rattle.grs_base.specs.Printed.{is_printable}
 use Rattle.deck_scan.specs.declared.token.Token.{Token}
 use Rattle.deck_scan.specs.declared.token.Token.TheVariants.{Word}
-use Rattle.deck_scan.specs.declared.row.Row.{Row}
+use Rattle.deck_scan.specs.declared.row.ScannedLine.{ScannedLine}
 use Rattle.deck_scan.specs.declared.cursor.Cursor.{Cursor}
 use Rattle.deck_scan.specs.Bytes.{is_word, begins}
 use Rattle.deck_scan.specs.Pieces.{is_nonempty, lines_with}
@@ -23,7 +23,7 @@ nonempty [] h = absurd (h refl)
 nonempty (b ∷ bs) h = refl
 
 -- a word at the front
-word_taken : (text word behind : List ℕ) (old : Row) → IsFront text word behind → starts is_word behind ≡ false
+word_taken : (text word behind : List ℕ) (old : ScannedLine) → IsFront text word behind → starts is_word behind ≡ false
     → begins 39 behind ≡ false
     → Takes text old behind (record (row_with (Word word) old) { near = length old.tokens == 0 })
 word_taken text word behind old f ends quote =
@@ -42,7 +42,7 @@ blank_is_no_word : is_word 32 ≡ false
 unfolding is_word
 blank_is_no_word = refl
 
-blank_taken : (tail : List ℕ) (old : Row) → Takes (32 ∷ tail) old tail (record old { near = false })
+blank_taken : (tail : List ℕ) (old : ScannedLine) → Takes (32 ∷ tail) old tail (record old { near = false })
 unfolding after_mark
 blank_taken tail old = takes_mark (32 ∷ tail) old 32 tail _ refl refl refl refl
 
@@ -51,7 +51,7 @@ unfolding is_word
 words_printable w h = all_kept is_word is_printable plain_printable w h
 
 -- what is read of a line that begins with these words
-abbrev two_words : List ℕ → List ℕ → List Token → Row
+abbrev two_words : List ℕ → List ℕ → List Token → ScannedLine
 two_words first second more =
     record { tokens = Word first ∷ Word second ∷ more; near = false; joined = false; begun = None }
 
@@ -114,7 +114,7 @@ apart : (begun : Option ℕ) → is_some begun ≡ false → begun ≡ None
 apart None h = refl
 apart (Some line) h = absurd cc
 
-ended : (from : Cursor) (text behind : List ℕ) (rest : Bor (List ℕ)) (row : Row) → is_some from.begun ≡ false
+ended : (from : Cursor) (text behind : List ℕ) (rest : Bor (List ℕ)) (row : ScannedLine) → is_some from.begun ≡ false
     → from.rest.now ≡ text ++ behind → list_all is_printable text ≡ true → EndsLine behind rest.now
     → IsRow from.line None text row
     → coming from ≡ lines_with from.line row.tokens row.joined [] ++ to_come (from.line + 1) row.begun rest.now

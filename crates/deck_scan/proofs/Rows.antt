@@ -8,7 +8,7 @@ use Rattle.std.proofs.lemmas.List.Folds.{list_all-append}
 use Rattle.grs_base.specs.Printed.{is_printable}
 use Rattle.deck_scan.specs.declared.token.Token.TheVariants.{Unclosed}
 use Rattle.deck_scan.specs.declared.token.TokenLine.{TokenLine}
-use Rattle.deck_scan.specs.declared.row.Row.{Row}
+use Rattle.deck_scan.specs.declared.row.ScannedLine.{ScannedLine}
 use Rattle.deck_scan.specs.declared.cursor.Cursor.{Cursor}
 use Rattle.deck_scan.specs.Bytes.{begins, is_allowed}
 use Rattle.deck_scan.specs.AnyBytes.{wrong_byte, readable}
@@ -58,7 +58,7 @@ readable_ok text = allowed_holds (readable text) 1 (readable_allowed text 1)
 -- ---- along the pieces of a line
 
 -- A part of a line was read, and this rest of it and more are still to be read: the last piece may stand open.
-pub record Along (line : ℕ) (text : List ℕ) (row : Row) (rest more : List ℕ) : Type 0 where
+pub record Along (line : ℕ) (text : List ℕ) (row : ScannedLine) (rest more : List ℕ) : Type 0 where
   pub piece : Piece
   pub before : Scan
   pub same : scan_from (at_row line None) (text ++ more) ≡ scan_from (sits piece before) (rest ++ more)
@@ -66,7 +66,7 @@ pub record Along (line : ℕ) (text : List ℕ) (row : Row) (rest more : List �
   pub ends : may_follow piece 10 ≡ true
   pub stands : place_of (settle piece before) ≡ place line row
 
-pub along_none : (line : ℕ) (text : List ℕ) (row : Row) (more : List ℕ) → row ≡ no_row None
+pub along_none : (line : ℕ) (text : List ℕ) (row : ScannedLine) (more : List ℕ) → row ≡ no_row None
     → Along line text row text more
 along_none line text row more is = record {
   piece = Blank;
@@ -74,7 +74,7 @@ along_none line text row more is = record {
   same = refl;
   follows = blank_first text;
   ends = refl;
-  stands = ap (λ (r : Row). place line r) (sym is);
+  stands = ap (λ (r : ScannedLine). place line r) (sym is);
 }
 
 spelled_some : (q : Piece) → is_piece q ≡ true → is_nonempty (spelling q) ≡ true
@@ -97,7 +97,8 @@ follows_more : (p : Piece) (xs ys more : List ℕ) → is_nonempty xs ≡ true �
 follows_more p [] ys more some h = absurd cc
 follows_more p (x ∷ xs) ys more some h = h
 
-pub along_piece : (line : ℕ) (text : List ℕ) (row : Row) (rest : List ℕ) (tail : List ℕ) (new : Row) (more : List ℕ)
+pub along_piece :
+    (line : ℕ) (text : List ℕ) (row : ScannedLine) (rest : List ℕ) (tail : List ℕ) (new : ScannedLine) (more : List ℕ)
     → Takes rest row tail new → Along line text row rest more → Along line text new tail more
 along_piece line text row rest tail new more t h =
     let front : followed_by h.piece (spelling t.piece ++ tail) ≡ true =
@@ -118,7 +119,7 @@ along_piece line text row rest tail new more t h =
       stands = run.place ∙ ap (past t.piece) h.stands ∙ sym (t.says line);
     }
 
-pub takes_less : (text : List ℕ) (row : Row) (rest : List ℕ) (new : Row) → Takes text row rest new
+pub takes_less : (text : List ℕ) (row : ScannedLine) (rest : List ℕ) (new : ScannedLine) → Takes text row rest new
     → length rest < length text
 takes_less text row rest new t = go (spelling t.piece) (spelled_some t.piece t.is) t.parts
   where
@@ -126,7 +127,7 @@ takes_less text row rest new t = go (spelling t.piece) (spelled_some t.piece t.i
     go [] some is = absurd cc
     go (x ∷ xs) some is = let e = ap length is in omega (arith, e, length-append xs rest)
 
-pub printable_rest : (text : List ℕ) (row : Row) (rest : List ℕ) (new : Row) → Takes text row rest new
+pub printable_rest : (text : List ℕ) (row : ScannedLine) (rest : List ℕ) (new : ScannedLine) → Takes text row rest new
     → list_all is_printable text ≡ true → list_all is_printable rest ≡ true
 printable_rest text row rest new t ok = (all_parts is_printable text (spelling t.piece) rest t.parts ok).1
 
@@ -148,7 +149,7 @@ fresh_end : (r : Scan)
 unfolding end_line
 fresh_end r = refl
 
-apart_goes : (line : ℕ) (text : List ℕ) (row : Row) (more : List ℕ) → list_all is_printable text ≡ true
+apart_goes : (line : ℕ) (text : List ℕ) (row : ScannedLine) (more : List ℕ) → list_all is_printable text ≡ true
     → Along line text row [] (10 ∷ readable more)
     → to_come line None (text ++ 10 ∷ more) ≡ lines_with line row.tokens row.joined [] ++ to_come (line + 1) None more
 unfolding to_come scan_from
@@ -165,7 +166,8 @@ apart_goes line text row more ok h =
     lines_with p.line p.tokens p.joined p.lines ++ at_end (scan_from (at_row (p.line + 1) None) (readable more)))
     h.stands
 
-apart_ends : (line : ℕ) (text : List ℕ) (row : Row) → list_all is_printable text ≡ true → Along line text row [] []
+apart_ends : (line : ℕ) (text : List ℕ) (row : ScannedLine) → list_all is_printable text ≡ true
+    → Along line text row [] []
     → to_come line None text ≡ lines_with line row.tokens row.joined [] ++ to_come line None []
 unfolding to_come scan_from readable finish_in end_line
 apart_ends line text row ok h =
@@ -177,7 +179,7 @@ apart_ends line text row ok h =
     ∙ sym (append-nil (lines_with line row.tokens row.joined []))
 
 -- A line was read to its end, and nothing stands open.
-pub row_apart : (line : ℕ) (text : List ℕ) (row : Row) → list_all is_printable text ≡ true → row.begun ≡ None
+pub row_apart : (line : ℕ) (text : List ℕ) (row : ScannedLine) → list_all is_printable text ≡ true → row.begun ≡ None
     → ((more : List ℕ) → Along line text row [] more) → IsRow line None text row
 row_apart line text row ok none h = record {
   goes = λ more.
@@ -188,7 +190,7 @@ row_apart line text row ok none h = record {
       ∙ ap (λ (o : Option ℕ). lines_with line row.tokens row.joined [] ++ to_come line o []) (sym none);
 }
 
-pub row_done : (line : ℕ) (text : List ℕ) (row : Row) (rest : List ℕ) → length rest ≡ 0
+pub row_done : (line : ℕ) (text : List ℕ) (row : ScannedLine) (rest : List ℕ) → length rest ≡ 0
     → list_all is_printable text ≡ true → row.begun ≡ None → ((more : List ℕ) → Along line text row rest more)
     → IsRow line None text row
 row_done line text row [] none ok apart h = row_apart line text row ok apart h
@@ -235,7 +237,7 @@ open_ends c r line ok no_end =
     ∙ ap (over_from (place_of r)) run.begun)
 
 -- A line was read up to a comment that isn't closed on it.
-pub row_open : (line : ℕ) (text : List ℕ) (row new : Row) (c : List ℕ) → list_all is_printable text ≡ true
+pub row_open : (line : ℕ) (text : List ℕ) (row new : ScannedLine) (c : List ℕ) → list_all is_printable text ≡ true
     → list_all is_printable c ≡ true → has_no_end c ≡ true
     → new ≡ record row { near = false; begun = Some line } → ((more : List ℕ) → Along line text row (47 ∷ 42 ∷ c) more)
     → IsRow line None text new
@@ -270,7 +272,7 @@ row_open line text row new c ok ok_c no_end is h = rw is (record { goes = goes; 
         ∙ open_ends c (commented (settle k.piece k.before)) line ok_c no_end
         ∙ ap (λ (p : Place). lines_with p.line p.tokens p.joined p.lines ++ to_come line (Some p.line) []) k.stands
 
-module _ (row : Row) (rest : List ℕ) (printable : list_all is_printable rest ≡ true) (long : 2 ≤ length rest)
+module _ (row : ScannedLine) (rest : List ℕ) (printable : list_all is_printable rest ≡ true) (long : 2 ≤ length rest)
     (slash : get_or rest 0 0 ≡ 47) (star : get_or rest 1 0 ≡ 42) where
   front : rest ≡ 47 ∷ 42 ∷ drop 2 rest
   front = two_front 47 42 rest long slash star
@@ -331,7 +333,7 @@ comment_done line begun c rest ok no_end =
     ∙ by_place run.after (at_row line None) (readable rest) (readable_ok rest)
     (run.place ∙ over-printable c (place_of (at_row line (Some begun))) ok)
 
-pub row_behind : (line begun : ℕ) (text rest : List ℕ) (row : Row) → list_all is_printable text ≡ true
+pub row_behind : (line begun : ℕ) (text rest : List ℕ) (row : ScannedLine) → list_all is_printable text ≡ true
     → ClosesComment text rest → IsRow line None rest row → IsRow line (Some begun) text row
 row_behind line begun text rest row ok k h = record {
   goes = λ more.
@@ -351,14 +353,14 @@ row_behind line begun text rest row ok k h = record {
         (sym (list_all-append is_printable k.inside (42 ∷ 47 ∷ rest))
         ∙ subst (λ (t : List ℕ). list_all is_printable t ≡ true) k.parts ok)).0
 
-pub row_goes_behind : {E : Type 0} (line : ℕ) (begun : Option ℕ) (text rest : List ℕ) (r : Result Row E)
+pub row_goes_behind : {E : Type 0} (line : ℕ) (begun : Option ℕ) (text rest : List ℕ) (r : Result ScannedLine E)
     → is_some begun ≡ true → list_all is_printable text ≡ true → ClosesComment text rest
     → IfOk r (λ row. IsRow line None rest row) → IfOk r (λ row. IsRow line begun text row)
 row_goes_behind line None text rest r some ok k h = absurd cc
 row_goes_behind line (Some b) text rest (Ok row) some ok k h = row_behind line b text rest row ok k h
 row_goes_behind line (Some b) text rest (Err e) some ok k h = tt
 
-pub row_stays_inside : (line : ℕ) (begun : Option ℕ) (text : List ℕ) (row : Row) → is_some begun ≡ true
+pub row_stays_inside : (line : ℕ) (begun : Option ℕ) (text : List ℕ) (row : ScannedLine) → is_some begun ≡ true
     → list_all is_printable text ≡ true → has_no_end text ≡ true → row ≡ no_row begun → IsRow line begun text row
 row_stays_inside line None text row some ok no_end is = absurd cc
 row_stays_inside line (Some b) text row some ok no_end is = rw is (row_inside line b text ok no_end)
@@ -377,7 +379,7 @@ cr_end line begun text more ok =
     ∙ ap (λ (t : List ℕ). at_end (scan_from (at_row line begun) t))
     (sym (readable_row text (10 ∷ more) ok ∙ ap (λ (t : List ℕ). text ++ t) (readable_lf more)))
 
-pub row_ended : (line : ℕ) (begun : Option ℕ) (text behind rest : List ℕ) (row : Row)
+pub row_ended : (line : ℕ) (begun : Option ℕ) (text behind rest : List ℕ) (row : ScannedLine)
     → list_all is_printable text ≡ true → EndsLine behind rest → IsRow line begun text row
     → to_come line begun (text ++ behind)
     ≡ lines_with line row.tokens row.joined [] ++ to_come (line + 1) row.begun rest
@@ -395,7 +397,8 @@ wrong_readable : readable wrong_byte ≡ wrong_byte
 unfolding readable is_allowed
 wrong_readable = refl
 
-pub last_wrong : (line : ℕ) (begun : Option ℕ) (text behind : List ℕ) (row : Row) → list_all is_printable text ≡ true
+pub last_wrong : (line : ℕ) (begun : Option ℕ) (text behind : List ℕ) (row : ScannedLine)
+    → list_all is_printable text ≡ true
     → eqb (length behind) 0 ≡ false → starts is_printable behind ≡ false → begins_end behind ≡ false
     → IsRow line begun (text ++ wrong_byte) row → IsLast line begun (text ++ behind) row
 unfolding to_come
@@ -420,7 +423,7 @@ pub one_comes : (line begun : ℕ)
 unfolding to_come readable scan_from finish_in end_line put
 one_comes line begun = refl
 
-pub last_wrong_ok : {E : Type 0} (line : ℕ) (begun : Option ℕ) (text behind : List ℕ) (r : Result Row E)
+pub last_wrong_ok : {E : Type 0} (line : ℕ) (begun : Option ℕ) (text behind : List ℕ) (r : Result ScannedLine E)
     → list_all is_printable text ≡ true → eqb (length behind) 0 ≡ false → starts is_printable behind ≡ false
     → begins_end behind ≡ false
     → IfOk r (λ row. IsRow line begun (text ++ wrong_byte) row) → IfOk r (λ row. IsLast line begun (text ++ behind) row)
@@ -431,7 +434,7 @@ end_less : (behind rest : List ℕ) → EndsLine behind rest → length rest < l
 end_less behind rest (inl e) = let k = ap length e in omega (arith, k)
 end_less behind rest (inr e) = let k = ap length e in omega (arith, k)
 
-pub passes_end : (from : Cursor) (text behind : List ℕ) (rest : Bor (List ℕ)) (row : Row)
+pub passes_end : (from : Cursor) (text behind : List ℕ) (rest : Bor (List ℕ)) (row : ScannedLine)
     → IsSplit is_printable from.rest.now text behind → EndsLine behind rest.now → IsRow from.line from.begun text row
     → Passes from row (record { rest = rest; line = from.line + 1; begun = row.begun })
 passes_end from text behind rest row s ends h = record {

@@ -6,7 +6,7 @@ use Rattle.grs_base.specs.Printed.{is_printable, quotes_doubled}
 use Rattle.deck_scan.specs.declared.token.Token.{Token}
 use Rattle.deck_scan.specs.declared.token.Token.TheVariants.{Word, Open, Close, Comma, Equals, Stray}
 use Rattle.deck_scan.specs.declared.token.TokenLine.{TokenLine}
-use Rattle.deck_scan.specs.declared.row.Row.{Row}
+use Rattle.deck_scan.specs.declared.row.ScannedLine.{ScannedLine}
 use Rattle.deck_scan.specs.declared.cursor.Cursor.{Cursor}
 use Rattle.deck_scan.specs.Bytes.{begins, is_allowed}
 use Rattle.deck_scan.specs.AnyBytes.{readable}
@@ -75,15 +75,15 @@ first_word (l ∷ ls) = front_word l.tokens
 -- ---- what is read of one line
 
 -- Where a text stands behind what was read of a line, without the lines before it.
-abbrev pub place : ℕ → Row → Place
+abbrev pub place : ℕ → ScannedLine → Place
 place line r = record { line = line; tokens = r.tokens; near = r.near; joined = r.joined; lines = [] }
 
 -- A line with one token more.
-abbrev pub row_with : Token → Row → Row
+abbrev pub row_with : Token → ScannedLine → ScannedLine
 row_with t r = record r { tokens = r.tokens ++ t ∷ []; joined = r.joined || r.near; near = false }
 
 -- A line behind a blank, a sign or a slash.
-unfoldable pub after_mark : ℕ → Row → Row
+unfoldable pub after_mark : ℕ → ScannedLine → ScannedLine
 after_mark b r =
     if b == 32 then record r { near = false }
     else if b == 40 then record (row_with Open r) { joined = r.joined }
@@ -92,11 +92,11 @@ after_mark b r =
     else if b == 61 then row_with Equals r
     else row_with Stray r
 
-abbrev pub no_row : Option ℕ → Row
+abbrev pub no_row : Option ℕ → ScannedLine
 no_row begun = record { tokens = []; near = false; joined = false; begun = begun }
 
 -- One piece was taken from the front of a text: behind it this rest stands. It may end with its line.
-pub record Takes (text : List ℕ) (old : Row) (rest : List ℕ) (new : Row) : Type 0 where
+pub record Takes (text : List ℕ) (old : ScannedLine) (rest : List ℕ) (new : ScannedLine) : Type 0 where
   pub piece : Piece
   pub is : is_piece piece ≡ true
   pub parts : text ≡ spelling piece ++ rest
@@ -107,19 +107,19 @@ pub record Takes (text : List ℕ) (old : Row) (rest : List ℕ) (new : Row) : T
 
 -- This was read of a line, where a comment stands open that began on this line, or none: whatever stands on
 -- further lines, the line's own tokens come first, and then what comes behind it.
-pub record IsRow (line : ℕ) (begun : Option ℕ) (row : List ℕ) (read : Row) : Type 0 where
+pub record IsRow (line : ℕ) (begun : Option ℕ) (row : List ℕ) (read : ScannedLine) : Type 0 where
   pub goes : (more : List ℕ)
       → to_come line begun (row ++ 10 ∷ more)
       ≡ lines_with line read.tokens read.joined [] ++ to_come (line + 1) read.begun more
   pub ends : to_come line begun row ≡ lines_with line read.tokens read.joined [] ++ to_come line read.begun []
 
 -- This was read of the last line of a text: its tokens come first, and then what comes behind it.
-abbrev pub IsLast : ℕ → Option ℕ → List ℕ → Row → Type 0
+abbrev pub IsLast : ℕ → Option ℕ → List ℕ → ScannedLine → Type 0
 IsLast line begun text read =
     to_come line begun text ≡ lines_with line read.tokens read.joined [] ++ to_come line read.begun []
 
 -- A line was taken from the front of the text: its tokens come first, and then what comes behind it.
-pub record Passes (from : Cursor) (read : Row) (to : Cursor) : Type 0 where
+pub record Passes (from : Cursor) (read : ScannedLine) (to : Cursor) : Type 0 where
   pub comes : coming from ≡ lines_with from.line read.tokens read.joined [] ++ coming to
   pub shorter : length to.rest.now < length from.rest.now
 

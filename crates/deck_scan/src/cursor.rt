@@ -15,7 +15,7 @@ use crate::bytes::{bad_line, split_printable};
 use crate::gaps::{next_token, word_at_front};
 use crate::miss::refused;
 use crate::plain::{PlainLine, take_plain};
-use crate::row::{Row, read_row};
+use crate::row::{ScannedLine, read_row};
 use crate::token::{Part, Token, TokenLine};
 use grs_base::{Kind, List, NoMemory, ReadError};
 use std::alloc::Global;
@@ -83,14 +83,14 @@ fn read_wrong<'t>(
     at: u32,
     begun: Option<u32>,
     text: &[u8],
-) -> Result<Row<'t>, NoMemory>
+) -> Result<ScannedLine<'t>, NoMemory>
     requires { list_all is_printable text.now ≡ true }
     ensures { IfOk result (λ row. IsRow at begun (text.now ++ wrong_byte) row) }
 {
     let mut bytes = List::from_bytes(alloc, text)?;
     bytes.append(b"!*/!")?;
     let row = read_row(alloc, at, begun, bytes.as_slice())?;
-    Ok(Row {
+    Ok(ScannedLine {
         tokens: owned_tokens(alloc, row.tokens.as_slice())?,
         near: row.near,
         joined: row.joined,
@@ -105,7 +105,7 @@ fn read_last<'t>(
     begun: Option<u32>,
     text: &'t [u8],
     behind: &[u8],
-) -> Result<Row<'t>, NoMemory>
+) -> Result<ScannedLine<'t>, NoMemory>
     requires printable { list_all is_printable text.now ≡ true }
     requires stops { starts is_printable behind.now ≡ false }
     requires last { begins_end behind.now ≡ false }
@@ -119,7 +119,7 @@ fn read_last<'t>(
 }
 
 /// Reads the line that begins here, and goes behind it.
-fn take_row<'t>(alloc: Global, from: Cursor<'t>) -> Result<(Row<'t>, Cursor<'t>), NoMemory>
+fn take_row<'t>(alloc: Global, from: Cursor<'t>) -> Result<(ScannedLine<'t>, Cursor<'t>), NoMemory>
     requires some { 0 < length from.rest.now }
     requires number { from.line + 1 < 2 ^ 32 }
     ensures { IfOk result (λ x. Passes from.entry x.0 x.1) }

@@ -19,7 +19,7 @@ const USUAL_TOKENS: usize = 20;
 
 /// What has been read of a line.
 #[derive(Drop)]
-pub struct Row<'t> {
+pub struct ScannedLine<'t> {
     /// Its tokens so far.
     pub tokens: List<Token<'t>>,
     /// Whether it has one token, a word, and nothing stood behind that yet.
@@ -111,12 +111,12 @@ fn behind_comment<'t>(text: &'t [u8]) -> Option<&'t [u8]>
     }
 }
 
-impl<'t> Row<'t> {
+impl<'t> ScannedLine<'t> {
     /// A line of which nothing is read.
     fn new(alloc: Global, begun: Option<u32>) -> Self
         ensures { result ≡ no_row begun }
     {
-        Row {
+        ScannedLine {
             tokens: List::new(alloc),
             near: false,
             joined: false,
@@ -128,7 +128,7 @@ impl<'t> Row<'t> {
     fn with_room(alloc: Global) -> Result<Self, NoMemory>
         ensures { IfOk result (λ row. row ≡ no_row None) }
     {
-        Ok(Row {
+        Ok(ScannedLine {
             tokens: List::with_room(alloc, USUAL_TOKENS)?,
             near: false,
             joined: false,
@@ -261,11 +261,11 @@ impl<'t> Row<'t> {
 }
 
 /// Reads a line on which no comment stands open.
-fn read_apart<'t>(alloc: Global, at: u32, text: &'t [u8]) -> Result<Row<'t>, NoMemory>
+fn read_apart<'t>(alloc: Global, at: u32, text: &'t [u8]) -> Result<ScannedLine<'t>, NoMemory>
     requires { list_all is_printable text.now ≡ true }
     ensures { IfOk result (λ row. IsRow at None text.now row) }
 {
-    let mut row = Row::with_room(alloc)?;
+    let mut row = ScannedLine::with_room(alloc)?;
     let mut rest = text;
     while let Some((b, tail)) = rest.split_first() {
         if let [b'/', b'*', inside @ ..] = rest {
@@ -290,7 +290,7 @@ pub(crate) fn read_row<'t>(
     at: u32,
     begun: Option<u32>,
     text: &'t [u8],
-) -> Result<Row<'t>, NoMemory>
+) -> Result<ScannedLine<'t>, NoMemory>
     requires { list_all is_printable text.now ≡ true }
     ensures { IfOk result (λ row. IsRow at begun text.now row) }
 {
@@ -299,6 +299,6 @@ pub(crate) fn read_row<'t>(
     }
     match behind_comment(text) {
         Some(behind) => read_apart(alloc, at, behind),
-        None => Ok(Row::new(alloc, begun)),
+        None => Ok(ScannedLine::new(alloc, begun)),
     }
 }

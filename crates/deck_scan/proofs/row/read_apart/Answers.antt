@@ -1,5 +1,5 @@
 use Rattle.std.proofs.Common.{ap, ◌∙◌, rules, arith}
-use Rattle.deck_scan.specs.declared.row.Row.{Row}
+use Rattle.deck_scan.specs.declared.row.ScannedLine.{ScannedLine}
 use Rattle.deck_scan.proofs.Rows.{along_none, along_piece, takes_less, printable_rest, row_done, open_here}
 use Rattle.deck_scan.proofs.Rows.{comment_here}
 use Rattle.deck_scan.proofs.row.read_apart.Goals as goal
@@ -8,7 +8,7 @@ pub loop-b-init : goal.loop-b-init
 loop-b-init c = record {
   along = λ more. along_none c.args.at c.args.text.now c.in_ok-row.row more c.in_ok-row.ensures;
   printable = c.requires;
-  apart = ap (λ (r : Row). r.begun) c.in_ok-row.ensures;
+  apart = ap (λ (r : ScannedLine). r.begun) c.in_ok-row.ensures;
 }
 
 pub returns-in-None : goal.returns-in-None

@@ -1,6 +1,6 @@
 use Rattle.std.proofs.Common.{rules}
 use Rattle.deck_scan.proofs.Pieces.{takes_open_quote, takes_quoted}
-use Rattle.deck_scan.proofs.row.Row.take_quoted.Goals as goal
+use Rattle.deck_scan.proofs.row.ScannedLine.take_quoted.Goals as goal
 
 pub returns-in_default : goal.returns-in_default
 returns-in_default c =

@@ -2,7 +2,7 @@ use Rattle.std.proofs.Common.{ap, ◌∙◌, rules}
 use Rattle.deck_scan.specs.declared.token.Token.{Token}
 use Rattle.deck_scan.specs.Rows.{row_with}
 use Rattle.deck_scan.proofs.Pieces.{takes_open_hexed, takes_hexed}
-use Rattle.deck_scan.proofs.row.Row.take_hexed.Goals as goal
+use Rattle.deck_scan.proofs.row.ScannedLine.take_hexed.Goals as goal
 
 pub returns-in_default : goal.returns-in_default
 returns-in_default c =

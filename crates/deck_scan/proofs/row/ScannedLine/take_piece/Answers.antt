@@ -1,6 +1,6 @@
 use Rattle.std.proofs.Common.{sym, ◌∙◌}
 use Rattle.deck_scan.proofs.Pieces.{takes_mark}
-use Rattle.deck_scan.proofs.row.Row.take_piece.Goals as goal
+use Rattle.deck_scan.proofs.row.ScannedLine.take_piece.Goals as goal
 
 pub returns-then-is_single : goal.returns-then-is_single
 returns-then-is_single c =

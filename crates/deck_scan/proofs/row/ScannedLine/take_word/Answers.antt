@@ -4,7 +4,7 @@ use Rattle.std.proofs.lemmas.Bool.{and_parts}
 use Rattle.deck_scan.specs.Bytes.{begins}
 use Rattle.deck_scan.proofs.Taking.{same_bytes}
 use Rattle.deck_scan.proofs.Pieces.{takes_stray, takes_word, hexed_front, rest_is}
-use Rattle.deck_scan.proofs.row.Row.take_word.Goals as goal
+use Rattle.deck_scan.proofs.row.ScannedLine.take_word.Goals as goal
 
 pub returns-then-is_empty : goal.returns-then-is_empty
 returns-then-is_empty c =
