@@ -6,7 +6,7 @@ ghost use Rattle.grs_base.specs.Names.{trim_blanks};
 ghost use Rattle.rnl_match.specs.Index.{most_compared, is_under, is_pattern};
 
 use grs_base::{
-    RnlType, Lists, NameFault, NoMemory, Qname, Res, Rname, RnlEntry, RnlList, Scope, Steps, SysId,
+    Lists, NameFault, NoMemory, Qname, Res, Rname, RnlEntry, RnlList, RnlType, Scope, Steps, SysId,
     Which,
 };
 use grs_deck::read_deck;

@@ -106,7 +106,6 @@ first-of : (p : TaskId → Bool) (home : ℕ) (xs : List Ranked) (x : Ranked) �
 first-of p home xs x h is =
     subst (λ (o : Option Ranked). option_map_or (λ z. p z.elem.task) o true ≡ true) is (any-first p home xs h)
 
-
 -- ---- the first request that passes a test, and the others
 pub found : (good test : Req → Bool) (qs : List Req) → list_all good qs ≡ true
     → option_map_or good (find test qs) true ≡ true
@@ -133,7 +132,6 @@ left-others good test (q ∷ qs) h = go (test q) (left-others good test qs (and_
         → list_all good (cond b qs (q ∷ besides_first test qs)) ≡ true
     go true rest = parts.1
     go false rest = joined (good q) (list_all good (besides_first test qs)) parts.0 rest
-
 
 -- ---- what is prepared
 abbrev need-fits : Deck → ℕ → Need → Bool
@@ -291,6 +289,5 @@ prepare-addressed deck n (choices.Leave e) fits =
     star-call-fits deck n.tasks.system n n.star (choices.Leave e) fits.part
 prepare-addressed deck n choices.Switch fits = switch-fits deck n (next_order deck n) fits.shared
 prepare-addressed deck n (choices.Purge s) fits = purge-fits deck n s (next_order deck n) refl fits
-
 
 pub ruleset prepares = (prepare-addressed)

@@ -220,8 +220,6 @@ gone-fits deck n m fits same none is =
       part = subst (AnyPartFits deck m.tasks.system) (sym is) tt;
     }
 
-
-
 -- what a deck of so many entries has
 pub entries-there : (deck : Deck) (n : NodeState) → NodeFits deck n → deck.entries ≢ 0
 entries-there deck n fits = λ is. absurd (omega (arith, fits.some, is))

@@ -80,15 +80,16 @@ pub use Rattle.grs_known.proofs.system.Says.{askers, is_home_at, is_line_of, non
 pub use Rattle.grs_known.proofs.system.Says.{ToldBy}
 pub use Rattle.grs_known.proofs.system.Turns.{quiet_good}
 pub use Rattle.grs_known.proofs.tasks.Invariant.{Each, has_res, is_distinct, is_unsent, IsRec, IsTask}
-pub use Rattle.grs_known.proofs.tasks.UpToDate.{IsWanted, IsWantedBy}
+pub use Rattle.grs_known.proofs.tasks.UpToDate.{is_code_at, IsWanted, IsWantedBy}
 pub use Rattle.grs_known.proofs.told.News.{still-told, told-news, ToldNews}
 pub use Rattle.grs_known.specs.Items.{gives_back, goes_round, history, is_of, items, items_from, lists, mine}
 pub use Rattle.grs_known.specs.Items.{removes_system_of, reply_in, rounds, RunItem, wants_round}
 pub use Rattle.grs_known.specs.Known.{Coming, last_of, outstanding}
 pub use Rattle.grs_known.specs.Parts.{put_at}
+pub use Rattle.grs_known.specs.Passed.{has_code}
 pub use Rattle.grs_known.specs.Past.{Past, past_of, Speaks}
 pub use Rattle.grs_known.specs.Told.{entry_of_line, is_code_of, tells_control}
-pub use Rattle.grs_legal.specs.Asks.{asks_of, lines_of, meanings, scripts_of}
+pub use Rattle.grs_legal.specs.Asks.{asks_in, asks_of, lines_of, meanings, scripts_of}
 pub use Rattle.grs_legal.specs.Legal.{LegalFrom, line_entries}
 pub use Rattle.grs_legal.specs.declared.meaning.Display.{Display}
 pub use Rattle.grs_legal.specs.declared.meaning.Meaning.{Meaning}
@@ -127,7 +128,7 @@ pub use Rattle.grs_node.specs.declared.prepared.Prepared.TheVariants.{Call, Noth
 pub use Rattle.grs_wire.proofs.DeckLaws.{entries_some}
 pub use Rattle.grs_wire.proofs.MaskLaws.{has-with_other, has-with_same, has-without_other, has-without_same, has-zero}
 pub use Rattle.grs_wire.proofs.WantLaws.{by_test}
-pub use Rattle.grs_wire.specs.History.{after_fixed, entries_for, fixed_entries, is_by, removes, replay}
+pub use Rattle.grs_wire.specs.History.{after_fixed, code_of, entries_for, fixed_entries, is_by, removes, replay}
 pub use Rattle.grs_wire.specs.LockWords.{interest, is_manager, lock_word, submitted}
 unfoldable pub use Rattle.grs_wire.specs.LockWords.{leave_changes, leave_reply, left_word, manager}
 pub use Rattle.grs_wire.specs.Masks.{lives}
@@ -170,7 +171,7 @@ pub use Rattle.grs_world.specs.Decks.{FitsStar, may_be_star}
 pub use Rattle.grs_world.specs.InStar.{is_purged, NoneInStar, removes_in_star}
 pub use Rattle.grs_world.specs.Kept.{kept, places, without_gone}
 pub use Rattle.grs_world.specs.Removing.{call_at, call_in, reply_by, reply_of}
-pub use Rattle.grs_world.specs.Running.{is_live, node_at, nodes_of}
+pub use Rattle.grs_world.specs.Running.{is_live, node_at, nodes_of, units_of}
 unfoldable pub use Rattle.grs_world.specs.Running.{at_rest}
 pub use Rattle.grs_world.specs.Stopped.{cut, is_turned, lap, live_below, turn_of}
 pub use Rattle.grs_world.specs.World.{counted, first_nodes, fixed_by, hist, run, run_from, told, told_by, Turnout}

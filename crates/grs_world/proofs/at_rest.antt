@@ -4,10 +4,12 @@ pub mod Freed
 pub mod Events
 pub mod Unseen
 pub mod Ring
+pub mod RingPuts
 pub mod Tasks
 pub mod RingRun
 pub mod Homes
 pub mod AsAsked
+pub mod EndLines
 pub mod AtEnd
 pub mod RingEnd
 pub mod Held
@@ -26,6 +28,7 @@ pub mod StarEnd
 pub mod Full
 pub mod Sized
 pub mod KeptUp
+pub mod UnitSums
 pub mod Units
 pub mod Passing
 pub mod End

@@ -4,7 +4,7 @@ ghost use Rattle.std.specs.Str.{bytes_eq};
 ghost use Rattle.rnl_match.specs.Matches.{matches_qname, matches_rname, matches_every, matches_some_rname, matches, find};
 
 use super::pattern::matches_pattern;
-use grs_base::{RnlType, Qname, Rname, RnlEntry, RnlList, Steps};
+use grs_base::{Qname, Rname, RnlEntry, RnlList, RnlType, Steps};
 use std::sync::ledger::Ledger;
 
 /// Whether two names are the same bytes. It is asked of each entry of a list, where std's test of two slices would be a

@@ -8,7 +8,7 @@ ghost use Rattle.rnl_match.specs.Matches.{matches, find};
 ghost use Rattle.rnl_match.specs.Index.{most_compared, places, is_under, is_pattern, bucket_at, first_place};
 
 use super::entry::matches_counted;
-use grs_base::{RnlType, List, NoMemory, Qname, Rname, RnlEntry, RnlList, Steps};
+use grs_base::{List, NoMemory, Qname, Rname, RnlEntry, RnlList, RnlType, Steps};
 use indexmap::IndexMap;
 use indexmap::map::Entry;
 use std::alloc::Global;

@@ -9,7 +9,7 @@ use deck_scan::{
     GivenName, Miss, Token, any_word_at, close_at, end_at, is_bad_rname, maybe_rname, name_at,
     open_at, qname_of,
 };
-use grs_base::{RnlType, NoMemory, RnlEntry, Which, is_qname};
+use grs_base::{NoMemory, RnlEntry, RnlType, Which, is_qname};
 use std::alloc::Global;
 
 /// The operands that stand in an RNLDEF: RNL, TYPE, QNAME and RNAME, with names of any length.

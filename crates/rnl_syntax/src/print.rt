@@ -3,7 +3,7 @@ ghost use Rattle.std.specs.Prelude.{◌≡◌, ◌++◌, OnOk, OnErr, IfOk};
 ghost use Rattle.rnl_syntax.specs.Spelled.{which_word, rnl_type_word};
 ghost use Rattle.rnl_syntax.specs.Printed.{printed_rname, printed_rnldef};
 
-use grs_base::{RnlType, List, NoMemory, Rname, RnlEntry, Which, print_name};
+use grs_base::{List, NoMemory, Rname, RnlEntry, RnlType, Which, print_name};
 use std::alloc::Global;
 
 fn which_word(which: Which) -> &'static [u8]

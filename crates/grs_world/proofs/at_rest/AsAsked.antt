@@ -1,14 +1,12 @@
 -- The entries of a task's lines are what these lines asked, in the order of the lines.
 use Rattle.grs_world.proofs.Common.{[], ◌&&◌, ◌*◌, ◌++◌, ◌<◌, ◌∙◌, ◌∷◌, ◌≡◌, ◌≤◌, ◌⊎◌, and_parts, ap, append-nil}
-use Rattle.grs_world.proofs.Common.{append_assoc, arith, asks_of, Bool, cond, Deck, Display, false, Filter, HistEntry}
-use Rattle.grs_world.proofs.Common.{inl, inr, is_by, is_some, LegalFrom, length, length-append, Line, line_entries}
-use Rattle.grs_world.proofs.Common.{lines_of, List, Local, ltb-true, map, Meaning, meanings, nat_lt, None, Option}
-use Rattle.grs_world.proofs.Common.{option_map, Place, refl, replay, Res, same_task-exact, scripts_of, Slice, slice_get}
-use Rattle.grs_world.proofs.Common.{slice_get-past, slice_get_within, Some, subst, suc, sym, SysId, TaskId, true, Wait}
-use Rattle.grs_world.proofs.Common.{zero, ℕ}
-use Rattle.grs_legal.specs.Asks.{Ask, AsksRelease, AsksLook, asks_in, lines_in, home_asks, looks_in, meaning_of}
-use Rattle.grs_legal.specs.Asks.{slice_asks}
-use Rattle.grs_wire.specs.History.{code_of}
+use Rattle.grs_world.proofs.Common.{append_assoc, arith, asks_in, asks_of, Bool, code_of, cond, Deck, Display, false}
+use Rattle.grs_world.proofs.Common.{Filter, HistEntry, inl, inr, is_by, is_some, LegalFrom, length, length-append, Line}
+use Rattle.grs_world.proofs.Common.{line_entries, lines_of, List, Local, ltb-true, map, Meaning, meanings, nat_lt, None}
+use Rattle.grs_world.proofs.Common.{Option, option_map, Place, refl, replay, Res, same_task-exact, scripts_of, Slice}
+use Rattle.grs_world.proofs.Common.{slice_get, slice_get-past, slice_get_within, Some, subst, suc, sym, SysId, TaskId}
+use Rattle.grs_world.proofs.Common.{true, Wait, zero, ℕ}
+use Rattle.grs_legal.specs.Asks.{Ask, AsksRelease, AsksLook, lines_in, home_asks, looks_in, meaning_of, slice_asks}
 use Rattle.std.specs.Prelude.{IsSomeAnd}
 use Rattle.grs_legal.specs.Legal.{IsLegal, MayAsk, MayStand, ask_in, end_code, is_of_line}
 use Rattle.std.specs.Option.{option_or}

@@ -10,7 +10,7 @@ use Rattle.grs_world.proofs.at_rest.Ring.{IsRead}
 use Rattle.grs_world.proofs.at_rest.StarTasks.{IsDated, at-place, dated-by}
 use Rattle.grs_world.proofs.at_rest.Steps.{AllDate}
 use Rattle.grs_world.proofs.star.Ranked.{did-rank, ranked}
-use Rattle.grs_world.proofs.star.hearing.Gentle.{has-on, marked-on}
+use Rattle.grs_world.proofs.star.hearing.Answering.{has-on, marked-on}
 
 -- ---- ranks
 -- The tasks are in the same phases, and the same is on record and marked.

@@ -1,16 +1,16 @@
 -- A task that is held, by its last answer or at a WAIT line, has an element there that it doesn't own; and it goes on
 -- only where it owns that resource.
 use Rattle.grs_world.proofs.Common.{[], ◌&&◌, ◌++◌, ◌+◌, ◌-◌, ◌<◌, ◌==◌, ◌||◌, ◌∙◌, ◌∷◌, ◌≡◌, ◌≢◌, ◌≤◌, and_from}
-use Rattle.grs_world.proofs.Common.{and_parts, and_right, any-last, ap, arith, asks_of, Bool, cases_Bool, Code, cond}
-use Rattle.grs_world.proofs.Common.{Ctl, drop, entries_for, entry_of_line, eqb-false, eqb-true, false, filter, Fixed}
-use Rattle.grs_world.proofs.Common.{fixed_entries, has_res, HistEntry, history, is_code_of, is_distinct, is_marked}
-use Rattle.grs_world.proofs.Common.{is_unmarked, length, List, list_all, list_all-append, list_any, list_of, lists}
-use Rattle.grs_world.proofs.Common.{ltb-true, Meaning, nat_lt, no_truth, None, not, Option, or_left, or_parts, or_right}
-use Rattle.grs_world.proofs.Common.{Rec, refl, Res, Ret, RunItem, same_res, same_res-exact, same_res-itself, same_task}
-use Rattle.grs_world.proofs.Common.{slice_get, Some, standing_of, State, subst, suc, sym, SysId, take, TaskId}
-use Rattle.grs_world.proofs.Common.{tells_control, ToldLine, true, Wait, Want, zero, ℕ}
+use Rattle.grs_world.proofs.Common.{and_parts, and_right, any-last, ap, arith, asks_of, Bool, cases_Bool, Code, code_of}
+use Rattle.grs_world.proofs.Common.{cond, Ctl, drop, entries_for, entry_of_line, eqb-false, eqb-true, false, filter}
+use Rattle.grs_world.proofs.Common.{Fixed, fixed_entries, has_res, HistEntry, history, is_code_of, is_distinct}
+use Rattle.grs_world.proofs.Common.{is_marked, is_unmarked, length, List, list_all, list_all-append, list_any, list_of}
+use Rattle.grs_world.proofs.Common.{lists, ltb-true, Meaning, nat_lt, no_truth, None, not, Option, or_left, or_parts}
+use Rattle.grs_world.proofs.Common.{or_right, Rec, refl, Res, Ret, RunItem, same_res, same_res-exact, same_res-itself}
+use Rattle.grs_world.proofs.Common.{same_task, slice_get, Some, standing_of, State, subst, suc, sym, SysId, take}
+use Rattle.grs_world.proofs.Common.{TaskId, tells_control, ToldLine, true, Wait, Want, zero, ℕ}
 use Rattle.grs_legal.specs.Asks.{is_silent}
-use Rattle.grs_wire.specs.History.{code_of, look_entries}
+use Rattle.grs_wire.specs.History.{look_entries}
 use Rattle.grs_known.specs.Told.{asked_at, entries_behind, is_code_before, is_control, is_post_of, queued_last, queues}
 use Rattle.grs_known.specs.Told.{queues_at}
 use Rattle.grs_known.proofs.tasks.Invariant.{is_post_before}

@@ -11,7 +11,8 @@ use Rattle.grs_wire.specs.Masks.{only}
 use Rattle.grs_world.proofs.move.Changing.{IsChanging, view-read}
 use Rattle.grs_world.proofs.move.Moved.{alive as lives-on}
 use Rattle.grs_world.proofs.move.Waiting.{given, reads, whole_now}
-use Rattle.grs_world.proofs.at_rest.Ring.{IsRead, box-here, kept-all}
+use Rattle.grs_world.proofs.at_rest.Ring.{IsRead, kept-all}
+use Rattle.grs_world.proofs.at_rest.RingPuts.{box-here}
 use Rattle.grs_world.proofs.at_rest.RingRun.{read-more, still_of}
 use Rattle.grs_world.proofs.at_rest.Unseen.{own-among}
 use Rattle.grs_world.proofs.at_rest.View.{IsWaitingHere, read_by, system_of, waits-here}

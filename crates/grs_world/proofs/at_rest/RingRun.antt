@@ -13,7 +13,8 @@ use Rattle.grs_world.proofs.Common.{true, turned_open, Turnout, unseen, with_als
 use Rattle.grs_known.proofs.lists.Facts.{take-taken}
 use Rattle.grs_world.proofs.run.First.{first_of}
 use Rattle.grs_world.proofs.move.Sound.{GoodRun, every_run, in_ring, in_star}
-use Rattle.grs_world.proofs.at_rest.Ring.{IsRead, distinct-at, is_local, kept-all, kept-put, desk-read, known-read}
+use Rattle.grs_world.proofs.at_rest.Ring.{IsRead, distinct-at, is_local, kept-all}
+use Rattle.grs_world.proofs.at_rest.RingPuts.{kept-put, desk-read, known-read}
 use Rattle.grs_world.proofs.at_rest.Tasks.{read-task}
 use Rattle.grs_world.proofs.at_rest.Unseen.{own-among, requests_of, waits-elsewhere, waits-new}
 use Rattle.grs_known.proofs.tasks.UpToDate.{IsUpToDate}

@@ -27,7 +27,8 @@ use Rattle.grs_world.proofs.at_rest.Events.{can_get-answers, date-ranked, date-s
 use Rattle.grs_world.proofs.at_rest.Ring.{is_local}
 use Rattle.grs_world.proofs.at_rest.Steps.{AllDate, date-control, date-task, going-ours, placed-here}
 use Rattle.grs_world.proofs.star.Heard.{grants}
-use Rattle.grs_world.proofs.star.hearing.Gentle.{Answered, answered, phase-records}
+use Rattle.grs_world.proofs.star.hearing.Answering.{Answered, answered}
+use Rattle.grs_world.proofs.star.hearing.Gentle.{phase-records}
 use Rattle.grs_legal.specs.declared.meaning.Meaning.TheVariants as lines
 use Rattle.grs_wire.specs.declared.told.ToldLine.TheVariants as told
 use Rattle.grs_wire.specs.declared.told.Verb.TheVariants as verbs

@@ -3,22 +3,22 @@ use Rattle.grs_world.proofs.Common.{[], ◌&&◌, ◌++◌, ◌+◌, ◌-◌, �
 use Rattle.grs_world.proofs.Common.{answer_to, any-last, any-more, ap, arith, ask, Asked, Bool, by_test, C00, C08, cond}
 use Rattle.grs_world.proofs.Common.{controlled, decide, Deck, Deq, Did, did-line, did-none, did-outstanding, did-phase}
 use Rattle.grs_world.proofs.Common.{did-rows, did-shown, did-telling, Display, Each, end_step, Enq, eq-eqb, eqb-false}
-use Rattle.grs_world.proofs.Common.{eqb-true, false, goes_on, has_most, is_for_all, is_of_deck, is_some, is_task}
-use Rattle.grs_world.proofs.Common.{is_task-system, is_unmarked, is_unsent, IsOurs, IsWanted, IsWantedBy, length}
-use Rattle.grs_world.proofs.Common.{lines_of, List, list_any, Local, Look, look, look_around, look_home, looks_asked}
-use Rattle.grs_world.proofs.Common.{may_go, Meaning, new_owners, no_truth, NodeState, None, not, Option, or_left, Phase}
-use Rattle.grs_world.proofs.Common.{phase_step, post, ready_step, Rec, record_of, refl, Release, replied, Res}
-use Rattle.grs_world.proofs.Common.{res_wanted, Row, same_place, same_res, same_task-exact, show, slice_get, Some}
-use Rattle.grs_world.proofs.Common.{some_of, StarPart, State, state_of, Step, subst, suc, sym, SysId, take_line}
-use Rattle.grs_world.proofs.Common.{task_step, TaskId, TaskState, TasksView, tell_all, tell_code, tell_control}
-use Rattle.grs_world.proofs.Common.{tell_new, tell_rows, tell_untold, telling, ToldLine, true, wait, Want, with_line}
-use Rattle.grs_world.proofs.Common.{with_outstanding, with_phase, with_rows, with_tasks, zero, ℕ}
+use Rattle.grs_world.proofs.Common.{eqb-true, false, goes_on, has_code, has_most, is_code_at, is_for_all, is_of_deck}
+use Rattle.grs_world.proofs.Common.{is_some, is_task, is_task-system, is_unmarked, is_unsent, IsOurs, IsWanted}
+use Rattle.grs_world.proofs.Common.{IsWantedBy, length, lines_of, List, list_any, Local, Look, look, look_around}
+use Rattle.grs_world.proofs.Common.{look_home, looks_asked, may_go, Meaning, new_owners, no_truth, NodeState, None, not}
+use Rattle.grs_world.proofs.Common.{Option, or_left, Phase, phase_step, post, ready_step, Rec, record_of, refl, Release}
+use Rattle.grs_world.proofs.Common.{replied, Res, res_wanted, Row, same_place, same_res, same_task-exact, show}
+use Rattle.grs_world.proofs.Common.{slice_get, Some, some_of, StarPart, State, state_of, Step, subst, suc, sym, SysId}
+use Rattle.grs_world.proofs.Common.{take_line, task_step, TaskId, TaskState, TasksView, tell_all, tell_code}
+use Rattle.grs_world.proofs.Common.{tell_control, tell_new, tell_rows, tell_untold, telling, ToldLine, true, wait, Want}
+use Rattle.grs_world.proofs.Common.{with_line, with_outstanding, with_phase, with_rows, with_tasks, zero, ℕ}
 use Rattle.grs_known.proofs.records.Control.{hears-grows}
 use Rattle.grs_known.proofs.system.Did.{did-code}
 use Rattle.task_state.specs.View.{record_place}
-use Rattle.grs_known.proofs.tasks.UpToDate.{AreCoded, HasUnit, IsUpToDate, hears-date, is_code_at, is_end_at, is_kept}
-use Rattle.grs_known.proofs.tasks.UpToDate.{is_placed, more-told, unit_of}
-use Rattle.grs_known.specs.Passed.{has_code, is_at_line, passed_by, has_ended, passed_asking}
+use Rattle.grs_known.proofs.tasks.UpToDate.{AreCoded, HasUnit, IsUpToDate, hears-date, is_end_at, is_kept, is_placed}
+use Rattle.grs_known.proofs.tasks.UpToDate.{more-told, unit_of}
+use Rattle.grs_known.specs.Passed.{is_at_line, passed_by, has_ended, passed_asking}
 use Rattle.gqscan.specs.Shown.{code_for}
 use Rattle.grs_known.proofs.tasks.Asked.{any-after, told_after}
 use Rattle.grs_known.proofs.tasks.Answered.{IsCoded, IsDue, answered, coded-line, is_free, shown-line}

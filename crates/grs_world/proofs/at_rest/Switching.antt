@@ -17,7 +17,8 @@ use Rattle.grs_world.proofs.at_rest.Restful.{IsRestful, had-ring, had-star, had_
 use Rattle.grs_world.proofs.at_rest.Restful.{sent_in, sent_of}
 use Rattle.grs_world.proofs.run.Placed.{by_set, by_node}
 use Rattle.grs_world.proofs.at_rest.Events.{date-any}
-use Rattle.grs_world.proofs.at_rest.Ring.{IsRead, box-here, desk-read}
+use Rattle.grs_world.proofs.at_rest.Ring.{IsRead}
+use Rattle.grs_world.proofs.at_rest.RingPuts.{box-here, desk-read}
 use Rattle.grs_world.proofs.at_rest.RingRun.{AllRead, node_is, read-due, reads, still_of}
 use Rattle.grs_world.proofs.at_rest.StarTasks.{IsDated}
 use Rattle.grs_world.proofs.at_rest.Unseen.{requests_of}

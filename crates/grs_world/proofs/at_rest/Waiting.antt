@@ -11,7 +11,8 @@ use Rattle.grs_world.proofs.move.Late.{CameLate, desk_late, nothing_late, task_l
 use Rattle.grs_world.proofs.move.Late.{vary_late}
 use Rattle.grs_world.proofs.at_rest.Restful.{IsRestful, restful-turned, restful-waits}
 use Rattle.grs_world.proofs.at_rest.Events.{date-any}
-use Rattle.grs_world.proofs.at_rest.Ring.{IsRead, distinct-at, desk-read, known-read}
+use Rattle.grs_world.proofs.at_rest.Ring.{IsRead, distinct-at}
+use Rattle.grs_world.proofs.at_rest.RingPuts.{desk-read, known-read}
 use Rattle.grs_world.proofs.at_rest.RingRun.{still_of}
 use Rattle.grs_world.proofs.at_rest.Tasks.{read-task}
 use Rattle.grs_world.proofs.at_rest.View.{IsWaitingHere, shown_at, view-of, waits-here}

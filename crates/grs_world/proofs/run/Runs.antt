@@ -1,5 +1,5 @@
 -- What holds of the world at every moment of a run, part by part, and how an event of a system keeps it.
-use Rattle.grs_world.proofs.Common.{[], ◌++◌, ◌+◌, ◌-◌, ◌==◌, ◌∙◌, ◌∷◌, ◌≡◌, ◌≢◌, ◌≤◌, and_parts, answered, ap}
+use Rattle.grs_world.proofs.Common.{[], ◌++◌, ◌+◌, ◌-◌, ◌==◌, ◌∙◌, ◌∷◌, ◌≡◌, ◌≢◌, ◌≤◌, and_parts, ap}
 use Rattle.grs_world.proofs.Common.{append-nil, append_assoc, arith, counted, Deck, drop, drop-append_seam, eqb-true}
 use Rattle.grs_world.proofs.Common.{Event, false, false_by, filter, filter-append, first_world, Fixed, fixed_by}
 use Rattle.grs_world.proofs.Common.{happens, has, hist, HistEntry, history, is_line_of, IsHistory, items}

@@ -10,11 +10,12 @@ use Rattle.grs_world.proofs.Common.{put_in, read_entries, ready_step, recalled, 
 use Rattle.grs_world.proofs.Common.{rest_after_turn, RetEcb, RetNone, row, run, show, slice_of, Some, stamped, state_of}
 use Rattle.grs_world.proofs.Common.{subst, sym, take_line, TaskId, tell_all, tell_answer, tell_answer_any, tell_code}
 use Rattle.grs_world.proofs.Common.{tell_control, tell_line, tell_new, tell_rows, tell_untold, telling, tells_control}
-use Rattle.grs_world.proofs.Common.{told, true, turn_reply, turn_row, turned, unseen, unwrap_or, Wait, wait, wakes}
-use Rattle.grs_world.proofs.Common.{with_also, with_exclusive, with_line, with_outstanding, with_phase, with_record}
-use Rattle.grs_world.proofs.Common.{with_rows, with_state, with_told, without, without_record, without_rows, ℕ}
+use Rattle.grs_world.proofs.Common.{told, true, turn_reply, turn_row, turned, units_of, unseen, unwrap_or, Wait, wait}
+use Rattle.grs_world.proofs.Common.{wakes, with_also, with_exclusive, with_line, with_outstanding, with_phase}
+use Rattle.grs_world.proofs.Common.{with_record, with_rows, with_state, with_told, without, without_record}
+use Rattle.grs_world.proofs.Common.{without_rows, ℕ}
 use Rattle.grs_node.specs.Node.{turned as system_turned}
-use Rattle.grs_world.specs.Running.{task_end, units_of}
+use Rattle.grs_world.specs.Running.{task_end}
 use Rattle.grs_wire.specs.declared.told.ToldLine.TheVariants.{Shown}
 use Rattle.grs_known.specs.Told.{entries_of_line}
 use Rattle.grs_legal.specs.Asks.{looks_in}

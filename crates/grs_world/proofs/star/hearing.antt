@@ -3,6 +3,8 @@ pub mod Mails
 pub mod Passing
 pub mod Elements
 pub mod Gentle
+pub mod Answering
+pub mod ByItself
 pub mod Gains
 pub mod Own
 pub mod Quiet

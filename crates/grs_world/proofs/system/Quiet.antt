@@ -1,22 +1,22 @@
 -- A task of a system goes on by itself.
-use Rattle.grs_world.proofs.Common.{[], ◌&&◌, ◌++◌, ◌+◌, ◌||◌, ◌∙◌, ◌∷◌, ◌≡◌, and_parts, ap, arith, ask, Bool, by_test}
-use Rattle.grs_world.proofs.Common.{C00, C08, Code, Coded, cond, Deck, Deq, Did, did-none, did-phase, did-telling}
-use Rattle.grs_world.proofs.Common.{end_step, Ended, Enq, false, goes_on, has_most, has_res, history, is_res_of}
-use Rattle.grs_world.proofs.Common.{is_some, is_systems, is_task, is_unsent, IsAskedFor, IsHistory, IsLooksBy, IsOpenBy}
-use Rattle.grs_world.proofs.Common.{IsOurs, IsRec, IsTask, length, line_asked, line_entries, lines_of, List, list_any}
-use Rattle.grs_world.proofs.Common.{lists, map, may_go, Meaning, nat_le, NodeState, None, none, not, only, Option}
-use Rattle.grs_world.proofs.Common.{or_left, or_other, or_right, outstanding, owns, Past, past_of, Phase, phase_seen}
-use Rattle.grs_world.proofs.Common.{phase_step, post, ready_step, Rec, record_of, refl, Release, replay, Req, Res, Row}
-use Rattle.grs_world.proofs.Common.{RunItem, same_res, same_res-exact, same_res-itself, slice_get, Some, state_of}
-use Rattle.grs_world.proofs.Common.{subst, suc, sym, SysId, take_line, task_step, TaskId, TaskState, TasksView}
-use Rattle.grs_world.proofs.Common.{tell_code, telling, tells_control, ToldLine, true, wait, Want, with_line}
-use Rattle.grs_world.proofs.Common.{with_phase, with_tasks, ℕ}
+use Rattle.grs_world.proofs.Common.{[], ◌&&◌, ◌++◌, ◌+◌, ◌||◌, ◌∙◌, ◌∷◌, ◌≡◌, and_parts, ap, arith, ask, asks_in, Bool}
+use Rattle.grs_world.proofs.Common.{by_test, C00, C08, Code, Coded, cond, Deck, Deq, Did, did-none, did-phase}
+use Rattle.grs_world.proofs.Common.{did-telling, end_step, Ended, Enq, false, goes_on, has_most, has_res, history}
+use Rattle.grs_world.proofs.Common.{is_res_of, is_some, is_systems, is_task, is_unsent, IsAskedFor, IsHistory}
+use Rattle.grs_world.proofs.Common.{IsLooksBy, IsOpenBy, IsOurs, IsRec, IsTask, length, line_asked, line_entries}
+use Rattle.grs_world.proofs.Common.{lines_of, List, list_any, lists, map, may_go, Meaning, nat_le, NodeState, None}
+use Rattle.grs_world.proofs.Common.{none, not, only, Option, or_left, or_other, or_right, outstanding, owns, Past}
+use Rattle.grs_world.proofs.Common.{past_of, Phase, phase_seen, phase_step, post, ready_step, Rec, record_of, refl}
+use Rattle.grs_world.proofs.Common.{Release, replay, Req, Res, Row, RunItem, same_res, same_res-exact, same_res-itself}
+use Rattle.grs_world.proofs.Common.{slice_get, Some, state_of, subst, suc, sym, SysId, take_line, task_step, TaskId}
+use Rattle.grs_world.proofs.Common.{TaskState, TasksView, tell_code, telling, tells_control, ToldLine, true, wait, Want}
+use Rattle.grs_world.proofs.Common.{with_line, with_phase, with_tasks, ℕ}
 use Rattle.grs_known.proofs.tasks.Invariant.{may_pass}
 use Rattle.grs_base.specs.State.{is_full, enq_code, deq_reply}
 use Rattle.grs_known.proofs.system.Asking.{IsAtLines, held-none}
 use Rattle.grs_known.proofs.known.Histories.{has-may}
 use Rattle.grs_known.proofs.system.Ours.{ours-line, agrees-ours}
-use Rattle.grs_legal.specs.Asks.{AsksEnq, AsksDeq, AsksRelease, asks_in}
+use Rattle.grs_legal.specs.Asks.{AsksEnq, AsksDeq, AsksRelease}
 use Rattle.grs_known.proofs.system.Says.{more}
 use Rattle.grs_known.specs.Past.{has_own}
 use Rattle.grs_known.specs.Told.{LineAgrees, TellsWait}

@@ -17,7 +17,8 @@ use Rattle.grs_world.proofs.star.Under.{res-entry}
 use Rattle.grs_world.proofs.star.Worlds.{IsWhole, in_hands, items-one}
 use Rattle.grs_world.proofs.star.hearing.Elements.{idle-element, idle-silent, records-distinct}
 use Rattle.grs_world.proofs.star.hearing.Gains.{gained-among, gained-res, has-gain, own-gain, untold_of, gain-asks}
-use Rattle.grs_world.proofs.star.hearing.Gentle.{Answered, Gentle, GentleTo, answered, gentle-new, new-marked}
+use Rattle.grs_world.proofs.star.hearing.Answering.{Answered, answered}
+use Rattle.grs_world.proofs.star.hearing.Gentle.{Gentle, GentleTo, gentle-new, new-marked}
 use Rattle.grs_world.proofs.star.hearing.Mails.{answers, hears-recorded}
 use Rattle.grs_world.proofs.star.hearing.Managing.{gained-then, next-then, untold-then}
 use Rattle.grs_world.proofs.star.hearing.Own.{hands-kept, own-addressed, own-owner, owner-by, request-kept}

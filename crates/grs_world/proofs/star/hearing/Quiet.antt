@@ -13,7 +13,8 @@ use Rattle.grs_world.proofs.star.OwnEvents.{Task, idle_task, local_task}
 use Rattle.grs_world.proofs.star.Tasks.{task-quiet}
 use Rattle.grs_world.proofs.star.Worlds.{IsWhole, items-none, items-one}
 use Rattle.grs_world.proofs.star.hearing.Gains.{giving-next, giving-untold}
-use Rattle.grs_world.proofs.star.hearing.Gentle.{Gentle, gentle-none, gentle-task}
+use Rattle.grs_world.proofs.star.hearing.Gentle.{Gentle, gentle-none}
+use Rattle.grs_world.proofs.star.hearing.ByItself.{gentle-task}
 use Rattle.grs_world.proofs.star.hearing.Own.{Holds, heard-calm}
 use Rattle.grs_world.proofs.star.hearing.Passing.{enq_count-grown}
 use Rattle.grs_world.proofs.run.Site.{Site}

@@ -29,8 +29,8 @@ use Rattle.grs_world.proofs.star.Worlds.{AllHands, IsHand, IsWhole, in_hands, it
 use Rattle.grs_world.proofs.star.hearing.Decided.{one-place}
 use Rattle.grs_world.proofs.star.hearing.Elements.{IsAnswered, IsDueOn, answer-awaited, recorded-or-due}
 use Rattle.grs_world.proofs.star.hearing.Elements.{records-distinct}
-use Rattle.grs_world.proofs.star.hearing.Gentle.{Answered as AnsweredBy, Gentle, answered, control-marks}
-use Rattle.grs_world.proofs.star.hearing.Gentle.{gentle-control, gentle-none}
+use Rattle.grs_world.proofs.star.hearing.Answering.{Answered as AnsweredBy, answered}
+use Rattle.grs_world.proofs.star.hearing.Gentle.{Gentle, control-marks, gentle-control, gentle-none}
 use Rattle.grs_world.proofs.star.hearing.Mails.{hears-behind, hears-first, hears-lost, hears-other, timely-other}
 use Rattle.grs_world.proofs.star.hearing.Own.{own-owner, own-request}
 use Rattle.grs_world.proofs.star.hearing.Passing.{Grown, Hearable, Requested, handed-here, handed-own, heard-placed}

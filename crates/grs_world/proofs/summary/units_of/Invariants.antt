@@ -1,5 +1,4 @@
-use Rattle.grs_world.proofs.Common.{◌++◌, ◌≡◌, drop, nodes_of}
-use Rattle.grs_world.specs.Running.{units_of}
+use Rattle.grs_world.proofs.Common.{◌++◌, ◌≡◌, drop, nodes_of, units_of}
 use Rattle.grs_world.proofs.summary.units_of.Given as goal
 
 abbrev pub invariant-loop-node : goal.invariant-loop-node
