@@ -46,7 +46,7 @@ pub fn faults_are_failed_calls()
 {}
 
 /// A text that is answered by the report of a run, by `replay`, `run` or `stop`, is answered by one that shows one history of the
-/// deck that it spells: a legal one, with which each line that is told agrees.
+/// deck that it spells, where that run removes no system in star mode: a legal one, with which each line that is told agrees.
 pub fn answers_show_histories()
     ensures { AnswersShowHistories }
 {}
@@ -95,7 +95,7 @@ pub fn schedules_are_unread()
 {}
 
 /// A deck's text whose last line has its end, and which has no line that begins a report, with what `replay`, `run` or `stop`
-/// wrote for it behind it, is answered Yes by `audit`, where both aren't too long together.
+/// wrote for it behind it, is answered Yes by `audit`, where the run removes no system in star mode and both aren't too long together.
 pub fn own_reports_are_yes()
     ensures { OwnReportsAreYes }
 {

@@ -128,7 +128,6 @@ pub fn removed_are_in_history()
 
 /// When an event is answered what has to do with removals. A removed system's events do nothing. A system is told which were
 /// removed exactly where its call doesn't know it; and that there is no such system exactly where the history has its removal.
-/// That nobody is removed in star mode is never answered.
 pub fn answers_have_causes()
     ensures { (deck : Deck) → AreOrders (length deck.systems) 0 deck.systems → (events : List Event) (next : Event) → AnswersHaveCauses deck events next }
 {}
