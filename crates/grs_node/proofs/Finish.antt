@@ -1,9 +1,9 @@
 -- A reply that says nothing new leaves the system, and so does a call without an entry in the journal.
-use Rattle.std.proofs.Common.{◌≡◌, ℕ, true, false, [], ◌∷◌, Option, Some, None, refl, ap, sym, subst, ◌∙◌}
+use Rattle.std.proofs.Common.{◌≡◌, ℕ, Bool, true, false, [], ◌∷◌, Option, Some, None, refl, ap, sym, subst, ◌∙◌}
 use Rattle.std.specs.Prelude.{◌==◌}
 use Rattle.std.proofs.lemmas.Bool.{and_parts, eqb-true}
-use Rattle.grs_node.specs.Finish.{may_come, UnjournalledLeaves, RepliesLeave}
-use Rattle.grs_node.specs.Log.{finished}
+use Rattle.grs_node.specs.Finish.{may_come, MayFinish, UnjournalledLeaves, RepliesLeave}
+use Rattle.grs_node.specs.Log.{NodeView, finished}
 use Rattle.grs_base.specs.declared.resource.TaskId.{TaskId}
 use Rattle.grs_node.specs.Node.{NodeState, only, with_star, take_step, star_step, read_entries, all_sent, put_in}
 use Rattle.grs_node.specs.Node.{turned, finish_star, finish_call, prepare, finish}
@@ -119,3 +119,11 @@ pub unjournalled_leaves : UnjournalledLeaves
 unfolding finished
 unjournalled_leaves v choice reply h =
     ap (λ s. record v { node = s.node }) (replies_leave v.deck v.node choice reply h.1)
+
+-- so the system is behind it what it is finished to
+pub stays : (v : NodeView) (choice : Choice) (r : Reply × Bool) → MayFinish v choice (Some r) → r.1 ≡ false
+    → v ≡ finished v choice (Some r)
+stays v choice (reply, true) h is = absurd (cc)
+stays v choice (reply, false) h is = sym (unjournalled_leaves v choice reply h)
+
+pub ruleset leaving = (stays)

@@ -1,6 +1,6 @@
 //! A system with its deck and what it keeps of its own events. A choice is prepared; it makes at most one call
 //! of the medium, which somebody else carries out; and with the reply it is finished.
-ghost use Rattle.std.specs.Prelude.{◌≡◌, ◌<◌, ◌≤◌, ◌++◌, ◌∷◌, [], Some, true, take, drop, length, IfOk, IfSome, IfNone, OnOk};
+ghost use Rattle.std.specs.Prelude.{◌≡◌, ◌<◌, ◌≤◌, ◌++◌, ◌∷◌, [], None, Some, true, false, take, drop, length, IfOk, IfSome, IfNone, IsOk, OnOk};
 ghost use Rattle.grs_base.specs.Limits.{most_additions, most_systems};
 ghost use Rattle.grs_wire.specs.Decks.{IsBounded};
 ghost use Rattle.task_state.specs.Units.{counted, reserved_of};
@@ -261,27 +261,49 @@ impl<'d> Node<'d> {
         }
     }
 
-    /// Finishes a choice: without a reply what was prepared to be done without a call, else with the reply to
-    /// the call that was prepared, and whether the call has an entry in the journal. An event goes into the
-    /// log where it made no call, or where its call has such an entry. After NoMemory the system is to be given
-    /// up.
+    /// Finishes a choice that was prepared to be done without a call. The event goes into the log.
     #[tactic(auto, unfolding(crate::specs::Log::finished, crate::specs::Node::finish))]
-    pub fn finish(&mut self, choice: &Choice, reply: Option<(Reply, bool)>) -> Result<(), NoMemory>
-        requires { MayFinish self.old choice.now reply }
-        ensures step { OnOk result (self.new ≡ finished self.old choice.now reply) }
+    fn finish_alone(&mut self, choice: Choice) -> Result<(), NoMemory>
+        requires { MayFinish self.old choice None }
+        ensures step { OnOk result (self.new ≡ finished self.old choice None) }
         ensures deck { self.new.deck ≡ self.old.deck }
         ensures system { self.new.node.tasks.system ≡ self.old.node.tasks.system }
     {
         let place = self.state.tasks.told().len();
+        let fixed = self.finish_quiet(choice)?;
+        self.keep(choice, false, fixed, place)
+    }
+
+    /// Finishes a call that has an entry in the journal. The event goes into the log.
+    #[tactic(auto, unfolding(crate::specs::Log::finished, crate::specs::Node::finish))]
+    fn finish_entered(&mut self, choice: Choice, reply: Reply) -> Result<(), NoMemory>
+        requires { may_come (steps.prepare self.old.deck self.old.node choice) reply ≡ true }
+        ensures step { OnOk result (self.new ≡ finished self.old choice (Some (reply, true))) }
+        ensures deck { self.new.deck ≡ self.old.deck }
+        ensures system { self.new.node.tasks.system ≡ self.old.node.tasks.system }
+    {
+        let place = self.state.tasks.told().len();
+        let fixed = self.finish_call(choice, reply)?;
+        self.keep(choice, true, fixed, place)
+    }
+
+    /// Finishes a choice: without a reply what was prepared to be done without a call, else with the reply to
+    /// the call that was prepared, and whether the call has an entry in the journal. An event goes into the
+    /// log where it made no call, or where its call has such an entry; a call without one leaves all as it was, and
+    /// takes no memory. After NoMemory the system is to be given up.
+    #[tactic(auto, using(crate::proofs::Finish::leaving))]
+    pub fn finish(&mut self, choice: &Choice, reply: Option<(Reply, bool)>) -> Result<(), NoMemory>
+        requires { MayFinish self.old choice.now reply }
+        ensures step { OnOk result (self.new ≡ finished self.old choice.now reply) }
+        ensures unentered { IfSome reply (λ r. r.1 ≡ false → IsOk result) }
+        ensures deck { self.new.deck ≡ self.old.deck }
+        ensures system { self.new.node.tasks.system ≡ self.old.node.tasks.system }
+    {
         match reply {
-            None => {
-                let fixed = self.finish_quiet(*choice)?;
-                self.keep(*choice, false, fixed, place)
-            }
-            Some((reply, journalled)) => {
-                let fixed = self.finish_call(*choice, reply)?;
-                if journalled {
-                    self.keep(*choice, true, fixed, place)
+            None => self.finish_alone(*choice),
+            Some((reply, entered)) => {
+                if entered {
+                    self.finish_entered(*choice, reply)
                 } else {
                     Ok(())
                 }
