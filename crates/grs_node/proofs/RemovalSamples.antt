@@ -258,6 +258,12 @@ dropped : take_mail deck 1 of_b (gathering 1 4 [] []) (Request 0 (sys 0) (asks (
 unfolding has took_mail
 dropped = refl
 
+-- and so is a part of one, though it is awaited
+part_dropped : take_mail deck 5 of_b (gathering 1 4 [] []) (Part 0 (sys 2) (of_task_c ∷ []))
+    ≡ fixing_none of_b (gathering 1 4 [] [])
+unfolding has took_mail
+part_dropped = refl
+
 -- ---- two managers are removed in turn
 -- A's task owned, and B's, C's and another one of C's wait; C had sent its part to B when B is removed, so that C is to
 -- manage the entry, and nobody else has interest in it: it is taken up at once, and C's own tasks, which share, are

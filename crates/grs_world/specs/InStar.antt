@@ -1,4 +1,4 @@
--- The systems that a run removes while the complex is in star mode. The laws of runs that speak of star mode are so far
+-- The systems that a run removes while the complex is in star mode. Most laws of runs that speak of star mode are so far
 -- of runs that remove none then.
 use Rattle.std.specs.Prelude.{◌≡◌, ◌==◌, Bool, true, false, cond, ◌&&◌, nat_le, List, [], ◌∷◌, ◌++◌, length, Option}
 use Rattle.std.specs.Prelude.{Some}

@@ -153,14 +153,14 @@ pub fn nothing_is_kept_of_removed()
 
 /// In every run of a deck that begins in star mode and fits it, whichever systems are removed, the notices in a live
 /// system's inbox name the managers of lock entries: of those that name an entry the last one names the manager that the
-/// entry's word names, each other one a system that was removed since. And the entry's set holds whose inbox it is.
+/// entry's word names, each other one a system that was removed. And the entry's set holds whose inbox it is.
 pub fn notices_name_managers()
     ensures { (deck : Deck) → deck.star ≡ true → FitsStar deck → (events : List Event) → NoticesName deck events }
 {}
 
 /// In every run, by an event that takes a notice a task that has sent its request, which isn't answered yet, is to send it
-/// again exactly where the notice names the request's lock entry, and its system neither manages nor gathers that; of any
-/// other task that has sent one the request is still sent.
+/// again exactly where the notice names, in an item that the deck has, the request's lock entry, and its system neither manages nor
+/// gathers that; of any other task that has sent one the request is still sent.
 pub fn notices_send_again()
     ensures { (deck : Deck) → (events : List Event) (next : Event) → NoticesSendAgain deck events next }
 {}
