@@ -129,8 +129,9 @@ pub use Rattle.grs_wire.proofs.DeckLaws.{entries_some}
 pub use Rattle.grs_wire.proofs.MaskLaws.{has-with_other, has-with_same, has-without_other, has-without_same, has-zero}
 pub use Rattle.grs_wire.proofs.WantLaws.{by_test}
 pub use Rattle.grs_wire.specs.History.{after_fixed, code_of, entries_for, fixed_entries, is_by, removes, replay}
-pub use Rattle.grs_wire.specs.LockWords.{interest, is_manager, lock_word, submitted}
-unfoldable pub use Rattle.grs_wire.specs.LockWords.{leave_changes, leave_reply, left_word, manager}
+pub use Rattle.grs_wire.specs.LockWords.{interest, is_manager}
+unfoldable pub use Rattle.grs_wire.specs.LockWords.{leave_changes, leave_reply, left_word, lock_word, manager}
+unfoldable pub use Rattle.grs_wire.specs.LockWords.{submitted}
 pub use Rattle.grs_wire.specs.Masks.{lives}
 unfoldable pub use Rattle.grs_wire.specs.Masks.{has, with_also, without}
 pub use Rattle.grs_wire.specs.Notices.{noticed}

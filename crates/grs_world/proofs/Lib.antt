@@ -9,3 +9,4 @@ pub mod move
 pub mod at_rest
 pub mod lap
 pub mod gather
+pub mod shown

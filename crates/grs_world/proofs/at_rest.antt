@@ -24,6 +24,7 @@ pub mod Waiting
 pub mod Loaded
 pub mod Switching
 pub mod StarRun
+pub mod Ranked
 pub mod StarEnd
 pub mod Full
 pub mod Sized

@@ -10,8 +10,6 @@ pub mod Gathered
 pub mod Clean
 pub mod Known
 pub mod Acts
-pub mod OnTheWay
-pub mod Views
-pub mod Invariant
+pub mod InBoxes
 pub mod Notices
 pub mod Again

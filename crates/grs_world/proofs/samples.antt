@@ -11,5 +11,4 @@ pub mod RankSamples
 pub mod RemovalSamples
 pub mod InStarSamples
 pub mod GatherSamples
-pub mod WaySamples
 pub mod StopSamples

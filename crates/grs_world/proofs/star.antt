@@ -25,4 +25,5 @@ pub mod Sending
 pub mod Heard
 pub mod steps
 pub mod hearing
+pub mod ranks
 pub mod Sound

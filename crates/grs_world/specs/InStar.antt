@@ -1,8 +1,6 @@
 -- The systems that a run removes while the complex is in star mode. Most laws of runs that speak of star mode are so far
 -- of runs that remove none then.
-use Rattle.std.specs.Prelude.{◌≡◌, ◌==◌, Bool, true, false, cond, ◌&&◌, nat_le, List, [], ◌∷◌, ◌++◌, length, Option}
-use Rattle.std.specs.Prelude.{Some}
-use Rattle.std.specs.List.{list_all}
+use Rattle.std.specs.Prelude.{◌≡◌, Bool, true, false, cond, ◌&&◌, List, [], ◌∷◌, ◌++◌, Option, Some}
 use Rattle.grs_medium.specs.Medium.{MediumState}
 use Rattle.grs_wire.specs.declared.deck.Deck.{Deck}
 use Rattle.grs_wire.specs.declared.deck.Event.{Event}
@@ -32,12 +30,3 @@ removals_in_star deck es = removals_from deck (first_world deck) es
 -- A run removes no system in star mode.
 abbrev pub NoneInStar : Deck → List Event → Type 0
 NoneInStar deck es = removals_in_star deck es ≡ []
-
--- It removes none in star mode while a system has still to change.
-abbrev pub AllChanged : Deck → List Event → Type 0
-AllChanged deck es = list_all (λ m. m.message.still == 0) (removals_in_star deck es) ≡ true
-
--- And it removes one at most.
-pub record OneInStar (deck : Deck) (es : List Event) : Type 0 where
-  pub one : nat_le (length (removals_in_star deck es)) 1 ≡ true
-  pub changed : AllChanged deck es

@@ -133,6 +133,11 @@ KeptArePlaces deck es =
     (s : SysId) (r : Res) → is_live (run deck es) s ≡ true → is_systems r ≡ true
     → kept deck (run deck es) s r ≡ places deck es r
 
+-- After these events what the live systems show together of each resource of the whole complex is the history's list.
+abbrev pub ShownArePlaces : Deck → List Event → Type 0
+ShownArePlaces deck es =
+    (r : Res) → is_systems r ≡ true → shown_list deck (run deck es) r ≡ places deck es r
+
 -- A system's part in star mode is well kept where the manager in it is the system's own, ranks rise along the list of
 -- each resource, and each owner that is still to be told owns and is of another system.
 pub record IsKeptBy (s : ℕ) (p : StarPart) : Type 0 where

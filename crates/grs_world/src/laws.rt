@@ -11,7 +11,7 @@ ghost use Rattle.grs_world.specs.Fixing.{EventFixes};
 ghost use Rattle.grs_world.specs.Gone.{KnownAreGone, ActsWithoutGone};
 ghost use Rattle.grs_world.specs.InStar.{NoneInStar};
 ghost use Rattle.grs_world.specs.Interest.{WordsAreManaged, WordsGoWithSystems};
-ghost use Rattle.grs_world.specs.Kept.{KeptArePlaces, ManagersKeepWell};
+ghost use Rattle.grs_world.specs.Kept.{KeptArePlaces, ManagersKeepWell, ShownArePlaces};
 ghost use Rattle.grs_world.specs.Laps.{ComesBackLast, ProcessedLast, AnsweredLast};
 ghost use Rattle.grs_world.specs.Noticed.{NoticesName};
 ghost use Rattle.grs_world.specs.Passed.{PassedIsTold};
@@ -48,6 +48,14 @@ pub fn decks_without_removals_are_spared()
 /// long as the lists of its entries have still to be gathered, `kept` says too; so far that is shown by worked runs.
 pub fn kept_are_places()
     ensures { (deck : Deck) → (may_be_star deck ≡ true → FitsStar deck) → (events : List Event) → NoneInStar deck events → KeptArePlaces deck events }
+{}
+
+/// In every run of a deck that begins in star mode, and that removes no system, the live systems show together what is kept:
+/// once each has taken the mail of its inbox, what their tasks have on record of a Systems resource is, by its ranks, the list
+/// that the history leads to. So the ranks of records, of answers under way and of what managers keep are one. The deck needs
+/// the bounds of a deck that was read: an answer with a rank past the last number has no effect.
+pub fn shown_are_places()
+    ensures { (deck : Deck) → IsBounded deck → deck.star ≡ true → (events : List Event) → NoneInStar deck events → ShownArePlaces deck events }
 {}
 
 /// The change to star mode fixes nothing: neither does a Switch, nor an event by which its system changes. So no owner's and no

@@ -26,6 +26,7 @@ use Rattle.grs_world.proofs.star.Events.{good_choice}
 use Rattle.grs_world.proofs.star.Heard.{IsHeard, enq_count, had_by, had_with, sent_by, sent_with}
 use Rattle.grs_world.proofs.star.Members.{IsStep}
 use Rattle.grs_world.proofs.star.Sound.{outcome}
+use Rattle.grs_world.proofs.star.ranks.Ranked.{AreShown, shown-same}
 use Rattle.grs_world.proofs.star.steps.Outcome.{IsOutcome}
 use Rattle.grs_world.proofs.run.Site.{at_site}
 
@@ -195,6 +196,29 @@ module _ (deck : Deck) (w : World) (g : IsChanging deck w) (h : IsRestful deck w
         heard-alike deck shown shown (same-nodes deck shown shown refl (λ s l. refl) (λ s. refl) refl) S
         (sent_with S c n) H (had_with H c n) (λ s t l home e. sent-before s t e)
         (λ s k t r f l home wide e. had-before s t r e) (h.heard g)
+
+    -- ranks stay
+    pub ranked-star : AreShown deck shown → (g' : IsChanging deck (placed w c n o))
+        → AreShown deck (record (placed w c n o) { nodes = g'.view })
+    unfolding placed
+    ranked-star ranked g' =
+        shown-same deck (placed shown c n o) (record (placed w c n o) { nodes = g'.view }) refl
+        (λ s l. sym (view-star g' s l)) (λ s. refl) refl
+        (out.ranked out.stays.whole (sent_with S c n) (had_with H c n) before ranked)
+
+    -- and so do the mode, and that all have changed
+    pub mode-star : (placed w c n o).medium.star ≡ true
+    unfolding placed
+    mode-star = step.mode
+
+    pub all-star :
+        ((s : ℕ) (z : NodeState) → slice_get w.nodes s ≡ Some z → has w.medium.removed s ≡ false → z.star ≡ None → ⊥)
+        → (s : ℕ) (z : NodeState) → slice_get (placed w c n o).nodes s ≡ Some z
+        → has (placed w c n o).medium.removed s ≡ false → z.star ≡ None → ⊥
+    unfolding placed
+    all-star all =
+        by_node w.nodes c.0 n o.step.node at (λ u z. has o.medium.removed u ≡ false → z.star ≡ None → ⊥)
+        (λ l none. changed none) (λ u m ne f l none. all u m f (was-live u l) none)
 
     module _ (few : enq_count (items (w.fixed ++ fixed_by c (chosen deck w.medium c n choice).step.fixed))
         ≤ last_number) where

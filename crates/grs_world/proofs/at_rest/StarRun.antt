@@ -69,7 +69,7 @@ first-manages deck s e x p star h = go deck.star star
         no-part deck.entries (record { 0 = s }) e x
         (ap (λ (q : StarPart). managed_at q.manager e) (same_Some (first_part (record { 0 = s }) deck.entries) p f) ∙ h)
 
-first-star : (deck : Deck) (s : ℕ) → deck.star ≡ true → (first_node deck s).star ≡ None → ⊥
+pub first-star : (deck : Deck) (s : ℕ) → deck.star ≡ true → (first_node deck s).star ≡ None → ⊥
 unfolding first_node
 first-star deck s star none =
     absurd (let no : Some (first_part (record { 0 = s }) deck.entries) ≡ None =
@@ -80,7 +80,7 @@ first-boxes : (deck : Deck) (s : ℕ) → inbox (first_world deck).medium s ≡ 
 unfolding first_world
 first-boxes deck s = first_inbox deck s
 
-first-fixed : (deck : Deck) → items (first_world deck).fixed ≡ []
+pub first-fixed : (deck : Deck) → items (first_world deck).fixed ≡ []
 unfolding first_world
 first-fixed deck = refl
 
@@ -149,7 +149,7 @@ module _ (deck : Deck) (star : deck.star ≡ true) where
               managed
 
 -- ---- every list of events
-first-mode : (deck : Deck) → (first_world deck).medium.star ≡ deck.star
+pub first-mode : (deck : Deck) → (first_world deck).medium.star ≡ deck.star
 unfolding first_world
 first-mode deck = refl
 

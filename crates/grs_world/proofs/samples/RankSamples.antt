@@ -1,22 +1,23 @@
 -- Worked runs by which ranks and orders are checked: which rank an element gets, that its record has the same, who is
 -- told first that it owns, and who manages an entry behind the change to star mode.
 use Rattle.grs_world.proofs.Common.{[], ◌++◌, ◌∷◌, ◌≡◌, after_code, after_mail, all_sent, answer_own, any_unseen, apply}
-use Rattle.grs_world.proofs.Common.{ask, carry_out, change_to_star, chosen, cleared, closed_by, decide_own, Deck}
-use Rattle.grs_world.proofs.Common.{desk_told, E, end_step, Event, false, finish, finish_call, finish_quiet}
+use Rattle.grs_world.proofs.Common.{ask, carry_out, change_to_star, chosen, cleared, closed_by, Ctl, decide_own, Deck}
+use Rattle.grs_world.proofs.Common.{desk_told, E, Elem, end_step, Event, false, finish, finish_call, finish_quiet}
 use Rattle.grs_world.proofs.Common.{finish_star, first_after, first_node, first_world, happens, happens_at, has, inbox}
 use Rattle.grs_world.proofs.Common.{List, lock_word, lose_each, losing, mail_row, Managed, managed_at, manager, map}
 use Rattle.grs_world.proofs.Common.{may_go, may_send, members_below, NodeState, None, Option, passes_wait, phase_step}
-use Rattle.grs_world.proofs.Common.{placed, post, prepare, process, process_entry, put_in, read_entries, ready_step}
-use Rattle.grs_world.proofs.Common.{recalled, record_enq, refl, replied, rest_after_turn, RetNone, route, row, run, S}
-use Rattle.grs_world.proofs.Common.{slice_get, Some, stamped, star_call, StarPart, state_of, submit_row, submitted}
-use Rattle.grs_world.proofs.Common.{switch_row, switched, SystemDef, Systems, take_line, take_row, take_up_below}
-use Rattle.grs_world.proofs.Common.{tell_all, tell_answer, tell_answer_any, tell_answer_ranked, tell_code, tell_control}
-use Rattle.grs_world.proofs.Common.{tell_line, tell_new, tell_untold, telling, took_mail, true, turn_reply, turn_row}
-use Rattle.grs_world.proofs.Common.{turned, unseen, Wait, wakes, with_also, with_exclusive, with_line, with_outstanding}
-use Rattle.grs_world.proofs.Common.{with_phase, with_rank, with_record, with_state, with_told, without, without_record}
-use Rattle.grs_world.proofs.Common.{World, ℕ}
+use Rattle.grs_world.proofs.Common.{placed, places, post, prepare, process, process_entry, put_in, read_entries}
+use Rattle.grs_world.proofs.Common.{ready_step, recalled, record_enq, refl, replied, rest_after_turn, RetNone, route}
+use Rattle.grs_world.proofs.Common.{row, run, S, slice_get, Some, stamped, star_call, StarPart, state_of, submit_row}
+use Rattle.grs_world.proofs.Common.{submitted, switch_row, switched, SystemDef, Systems, take_line, take_row}
+use Rattle.grs_world.proofs.Common.{take_up_below, tell_all, tell_answer, tell_answer_any, tell_answer_ranked}
+use Rattle.grs_world.proofs.Common.{tell_code, tell_control, tell_line, tell_new, tell_untold, telling, took_mail, true}
+use Rattle.grs_world.proofs.Common.{turn_reply, turn_row, turned, unseen, Wait, wakes, with_also, with_exclusive}
+use Rattle.grs_world.proofs.Common.{with_line, with_outstanding, with_phase, with_rank, with_record, with_state}
+use Rattle.grs_world.proofs.Common.{with_told, without, without_record, World, ℕ}
 use Rattle.grs_node.specs.Node.{turned as system_turned}
 use Rattle.grs_world.specs.Interest.{manages_at}
+use Rattle.grs_world.specs.Kept.{shown_list}
 use Rattle.grs_world.proofs.samples.Samples.{system, task_of, shared, enq, deq, deck_of, goes, turn}
 use Rattle.grs_world.proofs.samples.StarSamples.{sends, settles, star_of, takes, tells}
 use Rattle.grs_world.proofs.samples.SwitchSamples.{switches}
@@ -105,6 +106,40 @@ unfolding state_of with_state with_line with_phase with_outstanding with_record 
     without with_also manager lock_word submitted route submit_row take_row mail_row row apply first_node first_world
     carry_out chosen placed happens_at happens
 told_in_order = (refl, refl)
+
+-- ---- what the systems show together
+-- the element of a task
+abbrev elem : ℕ → ℕ → Ctl → Elem
+elem s n c = record { task = task_of s n; ctl = c }
+
+-- a resource by what the systems have on record, once each has taken its mail, and by the history
+abbrev shown_of : List Event → ℕ → List Elem
+shown_of es name = shown_list queues (run queues es) (shared name)
+
+abbrev placed_of : List Event → ℕ → List Elem
+placed_of es name = places queues es (shared name)
+
+-- the answer to the last request that was settled is in its system's inbox
+abbrev last_answered : List Event
+last_answered = one_waits ++ takes 1 ∷ settled 2 ++ takes 1 ∷ settled 1
+
+-- What is still in an inbox counts, and elements stand by their ranks: of the second system's tasks the later asked
+-- sooner.
+pub shown_by_ranks :
+    (inbox (run queues last_answered).medium 1 ≡ mails.Answered (task_of 1 1) (answers.Coded Wait) 5 ∷ [])
+    × (map (shown_of last_answered) (65 ∷ 66 ∷ [])
+    ≡ (elem 0 0 E ∷ elem 1 2 S ∷ elem 1 1 S ∷ []) ∷ (elem 0 0 E ∷ elem 1 0 E ∷ []) ∷ [])
+    × (map (placed_of last_answered) (65 ∷ 66 ∷ [])
+    ≡ (elem 0 0 E ∷ elem 1 2 S ∷ elem 1 1 S ∷ []) ∷ (elem 0 0 E ∷ elem 1 0 E ∷ []) ∷ [])
+    × (map (shown_of given_back) (65 ∷ 66 ∷ [])
+    ≡ (elem 1 2 S ∷ elem 1 1 S ∷ []) ∷ (elem 1 0 E ∷ []) ∷ [])
+unfolding state_of with_state with_line with_phase with_outstanding with_record without_record with_told with_exclusive
+    with_rank telling tell_code record_enq after_code replied passes_wait tell_line tell_untold tell_control tell_all
+    tell_new recalled tell_answer tell_answer_any tell_answer_ranked after_mail decide_own took_mail post ask take_line
+    end_step ready_step phase_step may_go may_send star_call prepare finish_quiet finish_star finish_call finish has
+    without with_also manager lock_word submitted route submit_row take_row mail_row row apply first_node first_world
+    carry_out chosen placed happens_at happens
+shown_by_ranks = (refl, refl, refl, refl)
 
 -- ---- the change
 -- Each of two systems has a task that shares a resource; the desk of the second orders the change.

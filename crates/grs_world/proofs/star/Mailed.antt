@@ -11,10 +11,10 @@ use Rattle.grs_world.proofs.Common.{Req, Res, RunItem, same_task, same_task-exac
 use Rattle.grs_world.proofs.Common.{standing_of, StarPart, State, state_of, subst, sym, SysId, TaskId, TasksView}
 use Rattle.grs_world.proofs.Common.{tell_all, tell_answer_any_ranked, tell_answer_ranked, tell_control, tell_untold}
 use Rattle.grs_world.proofs.Common.{true, Want, ℕ}
-use Rattle.star_client.specs.Client.{can_get, is_code_of, deq_codes, has_sent, is_awaited}
+use Rattle.star_client.specs.Client.{can_get, has_sent, is_awaited, is_code_of, deq_codes}
+use Rattle.grs_known.specs.Known.{learns_item, Still, learns_control, is_answer_to}
+use Rattle.grs_known.proofs.known.Blank.{no-answer, coming-same, coming-late}
 use Rattle.grs_wire.specs.declared.medium.Mail.TheVariants.{Request}
-use Rattle.grs_known.proofs.known.Blank.{coming-same, coming-late, no-answer}
-use Rattle.grs_known.specs.Known.{Still, learns_control, learns_item, is_answer_to}
 use Rattle.grs_base.specs.Lists.{deq_code}
 use Rattle.grs_base.specs.declared.decision.Standing.{Standing}
 use Rattle.grs_world.proofs.system.AtNode.{opens_of}
@@ -176,7 +176,7 @@ module _ (deck : Deck) (words : List ℕ) (T : List RunItem) (right : IsHistory 
         ap (λ b. (b && (rank == 0)) || list_any (is_plain_answer u) ms) (sym apart) ∙ h.answered u x home due gave
 
     -- it is of a task that isn't here
-    unheard_away : is_home_at deck s t ≡ false → (o : Option StarPart)
+    pub unheard_away : is_home_at deck s t ≡ false → (o : Option StarPart)
         → IsSystem deck words T s (record n { star = o }) ms later out
     unheard_away away o = record {
       at = h.at;
@@ -210,7 +210,7 @@ module _ (deck : Deck) (words : List ℕ) (T : List RunItem) (right : IsHistory 
       item = late-in deck words s t x [] later due h.late
 
       -- the request that it answers
-      request : (a : Asked) × ((state_of n.tasks t).outstanding ≡ Some a) × (x.fixed ≡ fixing.Asked a.req)
+      pub request : (a : Asked) × ((state_of n.tasks t).outstanding ≡ Some a) × (x.fixed ≡ fixing.Asked a.req)
       request =
           go (state_of n.tasks t).outstanding refl (subst (IsOutstanding (state_of n.tasks t).outstanding) out_is
           (here deck s T later out n h.at t home).knows.request)
@@ -244,7 +244,7 @@ module _ (deck : Deck) (words : List ℕ) (T : List RunItem) (right : IsHistory 
             ∙ (ap reply_in made ∙ replies_are_answers item.lists t a.req.want)
 
         -- it is heard: its item is learned
-        heard : (o : Option StarPart)
+        pub heard : (o : Option StarPart)
             → Goes deck words T s (record n { tasks = tell_answer_ranked n.tasks t a answer rank; star = o }) ms
             (others_of t later) (without_asker t out) n.tasks.told
         heard o =
@@ -347,7 +347,7 @@ module _ (deck : Deck) (words : List ℕ) (T : List RunItem) (right : IsHistory 
                     (no-answer t (learns_item (blank (is_late t later)) x) T (news_of ms) refl
                     ((h.coming t home).0 (same_task-itself t)).3)
 
-        unheard : has_effect n.tasks t answer rank ≡ false → (o : Option StarPart)
+        pub unheard : has_effect n.tasks t answer rank ≡ false → (o : Option StarPart)
             → IsSystem deck words T s (record n { star = o }) ms later out
         unheard no_effect o = record {
           at = h.at;

@@ -28,6 +28,8 @@ use Rattle.grs_world.proofs.star.Worlds.{live-here, manager-live, items-none, it
 use Rattle.grs_world.proofs.star.Worlds.{fixes-own}
 use Rattle.grs_world.proofs.star.Heard.{StaysHeard}
 use Rattle.grs_world.proofs.star.hearing.Sent.{heard-sent}
+use Rattle.grs_world.proofs.star.ranks.Mails.{ranked-sent}
+use Rattle.grs_world.proofs.star.ranks.Ranked.{StaysRanked}
 use Rattle.grs_world.proofs.star.steps.Outcome.{IsOutcome}
 use Rattle.grs_world.proofs.run.Desks.{tells_tasks}
 use Rattle.grs_world.proofs.at_rest.StarTasks.{dated-by, keeps-decided, keeps-sent}
@@ -362,6 +364,9 @@ module _ (deck : Deck) (w : World) (g : IsWhole deck w) (c : SysId) (n : NodeSta
       heard =
           heard-sent deck w g c n at words flags t home ours.here a entry of_entry s apart
           (manager-live deck w g.roles entry s.0 managing) p p' star held manager;
+      ranked = λ g'.
+          ranked-sent deck w g c n at words flags t ours.here a entry of_entry s apart
+          (manager-live deck w g.roles entry s.0 managing) p p' star manager;
       dated = λ h.
           dated-by deck c.0 n (record n { tasks = with_phase n.tasks t phases.Sent; star = Some p' }) refl h
           (keeps-sent deck n.tasks t ours.here h.date);
@@ -407,6 +412,14 @@ module _ (deck : Deck) (w : World) (g : IsWhole deck w) (c : SysId) (n : NodeSta
           medium = record w.medium { words = words; rest = flags };
           step = record { node = decided; fixed = fixing.Asked q ∷ [] };
         }))
+        → (IsWhole deck (placed w c n (record {
+          medium = record w.medium { words = words; rest = flags };
+          step = record { node = decided; fixed = fixing.Asked q ∷ [] };
+        }))
+        → StaysRanked deck w c n (record {
+          medium = record w.medium { words = words; rest = flags };
+          step = record { node = decided; fixed = fixing.Asked q ∷ [] };
+        }))
         → IsStep deck w c n (record {
           medium = record w.medium { words = words; rest = flags };
           step = record { node = decided; fixed = fixing.Asked q ∷ [] };
@@ -415,7 +428,7 @@ module _ (deck : Deck) (w : World) (g : IsWhole deck w) (c : SysId) (n : NodeSta
           medium = record w.medium { words = words; rest = flags };
           step = record { node = decided; fixed = fixing.Asked q ∷ [] };
         })
-    outcome-decided owned heard step =
+    outcome-decided owned heard ranked step =
         let h = system-grown c.0 n at in
         let m =
         may-follow deck words T g.right c.0 n (inbox w.medium c.0) (g.later c.0) (g.out c.0) h t ls ours home a is free
@@ -447,6 +460,7 @@ module _ (deck : Deck) (w : World) (g : IsWhole deck w) (c : SysId) (n : NodeSta
               (sym (items-one w.fixed c (fixing.Asked q))) (told-news z.told))
               refl refl;
           heard = heard;
+          ranked = ranked;
           dated = λ d.
               dated-by deck c.0 n decided refl d (keeps-decided deck n.tasks t a (lists T) rank ts
               (and_parts (t.system.0 == c.0) (is_some (lines_of deck t)) home).1 ours.here is d.date);

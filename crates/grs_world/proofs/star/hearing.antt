@@ -2,6 +2,7 @@
 pub mod Mails
 pub mod Passing
 pub mod Elements
+pub mod Ranks
 pub mod Gentle
 pub mod Answering
 pub mod ByItself
@@ -13,4 +14,5 @@ pub mod Sent
 pub mod Managing
 pub mod Settled
 pub mod Decided
+pub mod Gets
 pub mod Taken

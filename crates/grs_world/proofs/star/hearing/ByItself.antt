@@ -7,9 +7,10 @@ use Rattle.grs_world.proofs.Common.{is_granted, is_sent, is_systems, is_task, Li
 use Rattle.grs_world.proofs.Common.{look_home, looks_asked, Meaning, new_owners, no_truth, NodeState, None, Option}
 use Rattle.grs_world.proofs.Common.{Phase, phase_step, post, posted, ready_step, Rec, record_of, refl, Release, replied}
 use Rattle.grs_world.proofs.Common.{Res, res_wanted, same_res, same_res-exact, show, slice_get, Some, state_of, Step}
-use Rattle.grs_world.proofs.Common.{suc, SysId, take_line, task_step, TaskId, TaskState, TasksView, tell_code}
-use Rattle.grs_world.proofs.Common.{tell_rows, telling, ToldLine, true, Wait, wait, Want, with_line, with_phase}
-use Rattle.grs_world.proofs.Common.{with_rows, with_tasks, zero, ℕ}
+use Rattle.grs_world.proofs.Common.{subst, suc, sym, SysId, take_line, task_step, TaskId, TaskState, TasksView}
+use Rattle.grs_world.proofs.Common.{tell_code, tell_rows, telling, ToldLine, true, Wait, wait, Want, with_line}
+use Rattle.grs_world.proofs.Common.{with_phase, with_rows, with_tasks, zero, ℕ}
+use Rattle.grs_world.proofs.star.hearing.Ranks.{HaveRank, IsOld, code-keeps, keeps-ranks}
 use Rattle.grs_world.proofs.star.hearing.Gentle.{Gentle, gentle-phase, gentle-none, gentle-then, gentle-did, gentle-new}
 use Rattle.grs_world.proofs.star.hearing.Answering.{Told, told-code}
 use Rattle.grs_legal.specs.declared.meaning.Meaning.TheVariants as lines
@@ -24,11 +25,15 @@ apart-kinds q r wide narrow =
     false_by (same_res q r) (λ e. no_truth (is_systems q) wide (ap is_systems (same_res-exact q r e) ∙ narrow))
 
 gentle-told : (v w : TasksView) (t : TaskId) (want : Want) (gives : Bool) (r : Res) → res_wanted want ≡ Some r
-    → is_systems r ≡ false → Told v w t want gives (state_of v t) → Gentle v w
-gentle-told v w t want gives r wanted narrow k = gentle-did v w t k.state k.told k.did (record {
+    → is_systems r ≡ false
+    → ((q : Res) (n : ℕ) → is_systems q ≡ true → HaveRank q n (state_of v t).records
+    → HaveRank q n (state_of w t).records)
+    → Told v w t want gives (state_of v t) → Gentle v w
+gentle-told v w t want gives r wanted narrow ranks k = gentle-did v w t k.state k.told k.did (record {
   sent = k.replied.sent;
   marked = λ q wide h. (k.replied.others q r wanted (apart-kinds q r wide narrow)).0 ∙ h;
   has = λ q wide. (k.replied.others q r wanted (apart-kinds q r wide narrow)).1;
+  ranks = λ q n wide h. subst (λ (y : TaskState). HaveRank q n y.records) k.did.state (ranks q n wide h);
 })
 
 module _ (t : TaskId) where
@@ -66,7 +71,15 @@ module _ (t : TaskId) where
       → res_wanted w ≡ Some r → is_systems r ≡ false → Gentle v (after_code v t w unit code)
   gentle-coded v here w unit code r wanted narrow =
       gentle-told v (after_code v t w unit code) t w (is_granted code) r wanted narrow
+      (λ q n wide h.
+      keeps-ranks q n v (after_code v t w unit code) t
+      (code-keeps q n v v t (state_of v t) v.told here (did-none v t) w unit code (other q wide) h))
       (told-code v v t (state_of v t) v.told here (did-none v t) w unit code)
+    where
+      other : (q : Res) → is_systems q ≡ true → IsOld q (res_wanted w) (state_of v t).records
+      other q wide =
+          subst (λ (o : Option Res). IsOld q o (state_of v t).records) (sym wanted)
+          (λ same. no_truth (same_res q r) same (apart-kinds q r wide narrow))
 
   gentle-decided : (n : NodeState) (w : Want) (unit : Option ℕ) → is_task n.tasks t ≡ true
       → is_for_all (res_wanted w) ≡ false → Gentle n.tasks (decide n t w unit).node.tasks

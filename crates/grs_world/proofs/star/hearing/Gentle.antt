@@ -3,19 +3,21 @@
 use Rattle.grs_world.proofs.Common.{[], ◌==◌, ◌||◌, ◌∙◌, ◌∷◌, ◌≡◌, ◌≢◌, ap, Bool, code_in, cond, controlled, Did}
 use Rattle.grs_world.proofs.Common.{did-none, did-phase, eqb-false, eqb-true, false, get_or, has_res, is_among}
 use Rattle.grs_world.proofs.Common.{is_marked, is_sent, is_systems, is_task, is_task-telling, List, new_task, None}
-use Rattle.grs_world.proofs.Common.{Option, Phase, record_of, refl, Res, same_task, same_task-exact, Some, state_of}
-use Rattle.grs_world.proofs.Common.{state_of-telling, subst, sym, TaskId, TaskState, TasksView, tell_all, tell_control}
-use Rattle.grs_world.proofs.Common.{tell_new, tell_untold, telling, ToldLine, true, with_phase}
+use Rattle.grs_world.proofs.Common.{Option, Phase, Rec, record_of, refl, Res, same_task, same_task-exact, Some}
+use Rattle.grs_world.proofs.Common.{state_of, state_of-telling, subst, sym, TaskId, TaskState, TasksView, tell_all}
+use Rattle.grs_world.proofs.Common.{tell_control, tell_new, tell_untold, telling, ToldLine, true, with_phase, ℕ}
 use Rattle.grs_known.proofs.records.Control.{Controlled, hears-has, hears-marked, hears-marks, hears-phase}
+use Rattle.grs_world.proofs.star.hearing.Ranks.{HaveRank, hears-ranks}
 use Rattle.grs_wire.specs.declared.told.ToldLine.TheVariants as told
 
 -- ---- tasks that lose nothing
 -- From one state to another no request becomes a sent one, and of the resources of the whole complex the same are on
--- record, where what was told stays told.
+-- record, where what was told stays told, and ranks stay.
 pub record GentleTo (x y : TaskState) : Type 0 where
   pub sent : is_sent y.phase ≡ true → is_sent x.phase ≡ true
   pub marked : (r : Res) → is_systems r ≡ true → is_marked r x.records ≡ true → is_marked r y.records ≡ true
   pub has : (r : Res) → is_systems r ≡ true → has_res r y.records ≡ has_res r x.records
+  pub ranks : (r : Res) (n : ℕ) → is_systems r ≡ true → HaveRank r n x.records → HaveRank r n y.records
 
 -- so of all tasks
 pub record Gentle (v w : TasksView) : Type 0 where
@@ -25,14 +27,19 @@ pub record Gentle (v w : TasksView) : Type 0 where
 -- the records stay, and the phase is none in which a request is sent, or the same
 pub gentle-phase : (x y : TaskState) → y.records ≡ x.records → (is_sent y.phase ≡ true → is_sent x.phase ≡ true)
     → GentleTo x y
-gentle-phase x y same
-    phase = record { sent = phase; marked = λ r wide h. ap (is_marked r) same ∙ h; has = λ r wide. ap (has_res r) same }
+gentle-phase x y same phase = record {
+  sent = phase;
+  marked = λ r wide h. ap (is_marked r) same ∙ h;
+  has = λ r wide. ap (has_res r) same;
+  ranks = λ r n wide h. subst (λ (zs : List Rec). HaveRank r n zs) (sym same) h;
+}
 
 pub gentle-to-then : (x y z : TaskState) → GentleTo x y → GentleTo y z → GentleTo x z
 gentle-to-then x y z a b = record {
   sent = λ h. a.sent (b.sent h);
   marked = λ r wide h. b.marked r wide (a.marked r wide h);
   has = λ r wide. b.has r wide ∙ a.has r wide;
+  ranks = λ r n wide h. b.ranks r n wide (a.ranks r n wide h);
 }
 
 pub gentle-none : (v : TasksView) → Gentle v v
@@ -106,6 +113,7 @@ gentle-control v r t = go (is_task v t) refl
           sent = λ h. hears-phase t r (state_of v t) v.told k.state k.told k.hears is_sent refl h;
           marked = λ q wide h. hears-marked t r q (state_of v t) v.told k.state k.told k.hears h;
           has = λ q wide. hears-has t r q (state_of v t) v.told k.state k.told k.hears;
+          ranks = λ q n wide h. hears-ranks t r (state_of v t) v.told k.state k.told k.hears q n h;
         })
 
 pub gentle-all : (v : TasksView) (r : Res) (ts : List TaskId) → Gentle v (tell_all v r ts)

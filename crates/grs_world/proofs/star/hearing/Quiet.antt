@@ -66,15 +66,44 @@ module _ (deck : Deck) (w : World) (g : IsWhole deck w) (c : SysId) (n : NodeSta
   other-fixed s (fixing.LocalLook t f) r wide narrow = refl
   other-fixed s (fixing.Purged target) r wide narrow = absurd (cc)
 
-  task_gentle : (t : TaskId) → may_go deck n t ≡ true
+  pub task_gentle : (t : TaskId) → may_go deck n t ≡ true
       → Gentle n.tasks (task_step deck.limit n t (lines_of deck t)).node.tasks
   unfolding may_go
   task_gentle t goes =
       gentle-task t deck.limit n (lines_of deck t)
       (and_parts (is_task n.tasks t) (is_of_deck deck t && goes_on (state_of n.tasks t).phase) goes).0
 
-  task_star : (t : TaskId) → (task_step deck.limit n t (lines_of deck t)).node.star ≡ Some me.part
+  pub task_star : (t : TaskId) → (task_step deck.limit n t (lines_of deck t)).node.star ≡ Some me.part
   task_star t = (task-quiet me.part n me.star deck.limit t (lines_of deck t)).star ∙ me.star
+
+  -- which leaves the lists of the whole complex
+  pub task-lists : (t : TaskId) →
+      Task deck w.medium.words (items w.fixed) g.right c.0 n (inbox w.medium c.0) (g.later c.0) (g.out c.0)
+      (g.system c.0 n at) c (task_step deck.limit n t (lines_of deck t))
+      →
+      ((r : Res) → is_systems r ≡ true
+      → list_of (lists (items (w.fixed ++ fixed_by c (task_step deck.limit n t (lines_of deck t)).fixed))) r
+      ≡ list_of (lists (items w.fixed)) r)
+      × (enq_count (items w.fixed)
+      ≤ enq_count (items (w.fixed ++ fixed_by c (task_step deck.limit n t (lines_of deck t)).fixed)))
+  task-lists t (idle_task nothing y) =
+      let same : items (w.fixed ++ fixed_by c (task_step deck.limit n t (lines_of deck t)).fixed) ≡ items w.fixed =
+      ap (λ fs. items (w.fixed ++ fixed_by c fs)) nothing ∙ items-none w.fixed c in (
+        λ r wide. ap (λ T. list_of (lists T) r) same,
+        subst (λ T. enq_count (items w.fixed) ≤ enq_count T) (sym same) (omega arith),
+      )
+  task-lists t (local_task f one away may y) =
+      let item : RunItem = made_item c (items w.fixed) f in
+      let same : items (w.fixed ++ fixed_by c (task_step deck.limit n t (lines_of deck t)).fixed)
+      ≡ items w.fixed ++ item ∷ [] =
+      ap (λ fs. items (w.fixed ++ fixed_by c fs)) one ∙ items-one w.fixed c f in (
+        λ r wide.
+            ap (λ T. list_of (lists T) r) same
+            ∙ (ap (λ s. list_of s r) (lists-push (items w.fixed) item)
+            ∙ other-fixed (lists (items w.fixed)) f r wide away),
+        subst (λ T. enq_count (items w.fixed) ≤ enq_count T) (sym same)
+            (enq_count-grown (items w.fixed) (item ∷ [])),
+      )
 
   pub heard-task : (t : TaskId) → may_go deck n t ≡ true
       → Task deck w.medium.words (items w.fixed) g.right c.0 n (inbox w.medium c.0) (g.later c.0) (g.out c.0)
@@ -86,40 +115,12 @@ module _ (deck : Deck) (w : World) (g : IsWhole deck w) (c : SysId) (n : NodeSta
       heard-calm deck w g c n at (record { medium = w.medium; step = task_step deck.limit n t (lines_of deck t) })
       refl
       (λ u. refl) (task_gentle t goes)
-      (λ r wide. (by-fixed z).0 r wide)
+      (λ r wide. (task-lists t z).0 r wide)
       me.part me.part me.star (task_star t)
       (λ ranks.
       holds-same me.part (items w.fixed)
       (items (w.fixed ++ fixed_by c (task_step deck.limit n t (lines_of deck t)).fixed))
-      (by-fixed z).1 ranks)
-    where
-      by-fixed :
-          Task deck w.medium.words (items w.fixed) g.right c.0 n (inbox w.medium c.0) (g.later c.0) (g.out c.0)
-          (g.system c.0 n at) c (task_step deck.limit n t (lines_of deck t))
-          →
-          ((r : Res) → is_systems r ≡ true
-          → list_of (lists (items (w.fixed ++ fixed_by c (task_step deck.limit n t (lines_of deck t)).fixed))) r
-          ≡ list_of (lists (items w.fixed)) r)
-          × (enq_count (items w.fixed)
-          ≤ enq_count (items (w.fixed ++ fixed_by c (task_step deck.limit n t (lines_of deck t)).fixed)))
-      by-fixed (idle_task nothing y) =
-          let same : items (w.fixed ++ fixed_by c (task_step deck.limit n t (lines_of deck t)).fixed) ≡ items w.fixed =
-          ap (λ fs. items (w.fixed ++ fixed_by c fs)) nothing ∙ items-none w.fixed c in (
-            λ r wide. ap (λ T. list_of (lists T) r) same,
-            subst (λ T. enq_count (items w.fixed) ≤ enq_count T) (sym same) (omega arith),
-          )
-      by-fixed (local_task f one away may y) =
-          let item : RunItem = made_item c (items w.fixed) f in
-          let same : items (w.fixed ++ fixed_by c (task_step deck.limit n t (lines_of deck t)).fixed)
-          ≡ items w.fixed ++ item ∷ [] =
-          ap (λ fs. items (w.fixed ++ fixed_by c fs)) one ∙ items-one w.fixed c f in (
-            λ r wide.
-                ap (λ T. list_of (lists T) r) same
-                ∙ (ap (λ s. list_of s r) (lists-push (items w.fixed) item)
-                ∙ other-fixed (lists (items w.fixed)) f r wide away),
-            subst (λ T. enq_count (items w.fixed) ≤ enq_count T) (sym same)
-                (enq_count-grown (items w.fixed) (item ∷ [])),
-          )
+      (task-lists t z).1 ranks)
 
   -- ---- a system gives up its interest in an entry
   pub heard-left : (x : ℕ) → is_done_with me.part x ≡ true → (m : MediumState) → m.inboxes ≡ w.medium.inboxes

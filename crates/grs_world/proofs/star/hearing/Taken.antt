@@ -1,25 +1,20 @@
 -- A system takes the first mail of its inbox: a request is held, an answer makes the record that is due, and control
 -- marks one.
 use Rattle.grs_world.proofs.Common.{[], ◌&&◌, ◌++◌, ◌==◌, ◌||◌, ◌∙◌, ◌∷◌, ◌≡◌, ◌≢◌, ◌≤◌, after_mail, and_from}
-use Rattle.grs_world.proofs.Common.{and_parts, and_right, Answer, answer_to, Answered, ap, append-nil, append_assoc}
-use Rattle.grs_world.proofs.Common.{arith, Asked, askers, Bool, C00, C04, C08, C14, Code, cond, Deck, Deq, End, Enq}
-use Rattle.grs_world.proofs.Common.{entry_for, entry_wanted, eq-eqb, false, false_by, fixed_by, get_or, Granted, has}
-use Rattle.grs_world.proofs.Common.{has_effect, has_res, has_task, inbox, inl, inr, is_among, is_entry, is_for_deck}
-use Rattle.grs_world.proofs.Common.{is_home_at, is_marked, is_of_deck, is_sent, is_some, is_systems, is_task}
-use Rattle.grs_world.proofs.Common.{is_task-system, items, last_number, length, lines_of, List, list_any, list_of}
-use Rattle.grs_world.proofs.Common.{lists, Look, Mail, managed_at, ManagerView, manages, MediumState, nat_le, nat_lt}
-use Rattle.grs_world.proofs.Common.{nat_tests, no_truth, NodeState, or_left, or_right, owns, owns-has, placed, refl}
-use Rattle.grs_world.proofs.Common.{Release, Req, Res, res_wanted, Ret, same_res, same_res-exact, same_Some, same_task}
-use Rattle.grs_world.proofs.Common.{same_task-exact, Some, standing_of, StarPart, State, state_of, subst, suc, sym}
-use Rattle.grs_world.proofs.Common.{SysId, TaskId, TaskState, TasksView, tell_answer_any_ranked, tell_answer_ranked}
-use Rattle.grs_world.proofs.Common.{tell_control, true, Turnout, Wait, Want, without_first, World, ℕ}
-use Rattle.std.specs.Prelude.{◌⊎◌, drop}
-use Rattle.star_client.specs.Client.{can_get, deq_codes, enq_codes, has_sent, is_awaited, is_code_of, same_code}
+use Rattle.grs_world.proofs.Common.{and_parts, and_right, Answer, Answered, ap, append-nil, append_assoc, arith, Asked}
+use Rattle.grs_world.proofs.Common.{askers, Bool, cond, Deck, entry_for, entry_wanted, eq-eqb, false, false_by}
+use Rattle.grs_world.proofs.Common.{fixed_by, get_or, Granted, has, has_effect, has_res, has_task, inbox, inl, inr}
+use Rattle.grs_world.proofs.Common.{is_among, is_entry, is_for_deck, is_home_at, is_marked, is_of_deck, is_sent}
+use Rattle.grs_world.proofs.Common.{is_some, is_systems, is_task, is_task-system, items, last_number, length, lines_of}
+use Rattle.grs_world.proofs.Common.{List, list_any, list_of, lists, Mail, managed_at, ManagerView, manages, MediumState}
+use Rattle.grs_world.proofs.Common.{nat_le, nat_lt, nat_tests, no_truth, NodeState, owns, owns-has, placed, refl, Req}
+use Rattle.grs_world.proofs.Common.{Res, res_wanted, same_res, same_res-exact, same_Some, same_task, same_task-exact}
+use Rattle.grs_world.proofs.Common.{Some, StarPart, state_of, subst, suc, sym, SysId, TaskId, TaskState, TasksView}
+use Rattle.grs_world.proofs.Common.{tell_answer_any_ranked, tell_answer_ranked, tell_control, true, Turnout}
+use Rattle.grs_world.proofs.Common.{without_first, World, ℕ}
+use Rattle.star_client.specs.Client.{can_get, has_sent, is_awaited}
 use Rattle.grs_wire.specs.declared.medium.Mail.TheVariants.{Request}
-use Rattle.grs_base.specs.declared.decision.Code.TheVariants.{C18}
-use Rattle.grs_base.specs.Lists.{can_have, deq_code, enq_decision}
-use Rattle.grs_base.specs.declared.decision.Standing.{Standing}
-use Rattle.grs_base.specs.declared.decision.Standing.TheVariants.{Exclusive, OnlyShared, AmongShared, Waits, Absent}
+use Rattle.std.specs.Prelude.{◌⊎◌, drop}
 use Rattle.grs_world.proofs.star.Heard.{AreAddressed, IsAddressed, StaysHeard, enq_count, grants, had_by, hears}
 use Rattle.grs_world.proofs.star.Heard.{is_timely}
 use Rattle.grs_world.proofs.star.Members.{IsPart, all_lists, has_manager}
@@ -35,101 +30,10 @@ use Rattle.grs_world.proofs.star.hearing.Mails.{hears-behind, hears-first, hears
 use Rattle.grs_world.proofs.star.hearing.Own.{own-owner, own-request}
 use Rattle.grs_world.proofs.star.hearing.Passing.{Grown, Hearable, Requested, handed-here, handed-own, heard-placed}
 use Rattle.grs_world.proofs.star.hearing.Passing.{is_untold_by, own-recorded-ready, untold-here, untold-own}
-use Rattle.grs_world.proofs.star.Shown.{AreApart, can-show}
 use Rattle.grs_world.proofs.run.Site.{Site, site-below}
 use Rattle.grs_world.proofs.star.Boxes.{taken-box, untaken-box}
 use Rattle.grs_world.proofs.run.Placed.{nodes_then}
-
--- ---- what a task can be answered
-same-code : (c : Code) → same_code c c ≡ true
-same-code C00 = refl
-same-code C04 = refl
-same-code C08 = refl
-same-code C14 = refl
-same-code C18 = refl
-same-code Wait = refl
-same-code (End n) = eq-eqb n n refl
-
-in-codes : (c : Code) (xs ys : List Code) → is_code_of (xs ++ c ∷ ys) c ≡ true
-in-codes c [] ys = or_left (same_code c c) (is_code_of ys c) (same-code c)
-in-codes c (x ∷ xs) ys = or_right (same_code c x) (is_code_of (xs ++ c ∷ ys) c) (in-codes c xs ys)
-
-gets-enq : (st : Standing) (ret : Ret) (full can : Bool)
-    → is_code_of (enq_codes ret full) (enq_decision st ret full can).code ≡ true
-gets-enq Exclusive ret full true =
-    in-codes (enq_decision Exclusive ret full true).code [] ((enq_decision Exclusive ret full false).code
-    ∷ (enq_decision OnlyShared ret full true).code ∷ (enq_decision OnlyShared ret full false).code
-    ∷ (enq_decision AmongShared ret full true).code ∷ (enq_decision AmongShared ret full false).code
-    ∷ (enq_decision Waits ret full true).code ∷ (enq_decision Waits ret full false).code
-    ∷ (enq_decision Absent ret full true).code ∷ (enq_decision Absent ret full false).code ∷ [])
-gets-enq Exclusive ret full false =
-    in-codes (enq_decision Exclusive ret full false).code ((enq_decision Exclusive ret full true).code ∷ [])
-    ((enq_decision OnlyShared ret full true).code ∷ (enq_decision OnlyShared ret full false).code
-    ∷ (enq_decision AmongShared ret full true).code ∷ (enq_decision AmongShared ret full false).code
-    ∷ (enq_decision Waits ret full true).code ∷ (enq_decision Waits ret full false).code
-    ∷ (enq_decision Absent ret full true).code ∷ (enq_decision Absent ret full false).code ∷ [])
-gets-enq OnlyShared ret full true =
-    in-codes (enq_decision OnlyShared ret full true).code
-    ((enq_decision Exclusive ret full true).code ∷ (enq_decision Exclusive ret full false).code ∷ [])
-    ((enq_decision OnlyShared ret full false).code ∷ (enq_decision AmongShared ret full true).code
-    ∷ (enq_decision AmongShared ret full false).code ∷ (enq_decision Waits ret full true).code
-    ∷ (enq_decision Waits ret full false).code ∷ (enq_decision Absent ret full true).code
-    ∷ (enq_decision Absent ret full false).code ∷ [])
-gets-enq OnlyShared ret full false =
-    in-codes (enq_decision OnlyShared ret full false).code ((enq_decision Exclusive ret full true).code
-    ∷ (enq_decision Exclusive ret full false).code ∷ (enq_decision OnlyShared ret full true).code ∷ [])
-    ((enq_decision AmongShared ret full true).code ∷ (enq_decision AmongShared ret full false).code
-    ∷ (enq_decision Waits ret full true).code ∷ (enq_decision Waits ret full false).code
-    ∷ (enq_decision Absent ret full true).code ∷ (enq_decision Absent ret full false).code ∷ [])
-gets-enq AmongShared ret full true =
-    in-codes (enq_decision AmongShared ret full true).code ((enq_decision Exclusive ret full true).code
-    ∷ (enq_decision Exclusive ret full false).code ∷ (enq_decision OnlyShared ret full true).code
-    ∷ (enq_decision OnlyShared ret full false).code ∷ [])
-    ((enq_decision AmongShared ret full false).code ∷ (enq_decision Waits ret full true).code
-    ∷ (enq_decision Waits ret full false).code ∷ (enq_decision Absent ret full true).code
-    ∷ (enq_decision Absent ret full false).code ∷ [])
-gets-enq AmongShared ret full false =
-    in-codes (enq_decision AmongShared ret full false).code ((enq_decision Exclusive ret full true).code
-    ∷ (enq_decision Exclusive ret full false).code ∷ (enq_decision OnlyShared ret full true).code
-    ∷ (enq_decision OnlyShared ret full false).code ∷ (enq_decision AmongShared ret full true).code ∷ [])
-    ((enq_decision Waits ret full true).code ∷ (enq_decision Waits ret full false).code
-    ∷ (enq_decision Absent ret full true).code ∷ (enq_decision Absent ret full false).code ∷ [])
-gets-enq Waits ret full true =
-    in-codes (enq_decision Waits ret full true).code ((enq_decision Exclusive ret full true).code
-    ∷ (enq_decision Exclusive ret full false).code ∷ (enq_decision OnlyShared ret full true).code
-    ∷ (enq_decision OnlyShared ret full false).code ∷ (enq_decision AmongShared ret full true).code
-    ∷ (enq_decision AmongShared ret full false).code ∷ [])
-    ((enq_decision Waits ret full false).code ∷ (enq_decision Absent ret full true).code
-    ∷ (enq_decision Absent ret full false).code ∷ [])
-gets-enq Waits ret full false =
-    in-codes (enq_decision Waits ret full false).code ((enq_decision Exclusive ret full true).code
-    ∷ (enq_decision Exclusive ret full false).code ∷ (enq_decision OnlyShared ret full true).code
-    ∷ (enq_decision OnlyShared ret full false).code ∷ (enq_decision AmongShared ret full true).code
-    ∷ (enq_decision AmongShared ret full false).code ∷ (enq_decision Waits ret full true).code ∷ [])
-    ((enq_decision Absent ret full true).code ∷ (enq_decision Absent ret full false).code ∷ [])
-gets-enq Absent ret full true =
-    in-codes (enq_decision Absent ret full true).code ((enq_decision Exclusive ret full true).code
-    ∷ (enq_decision Exclusive ret full false).code ∷ (enq_decision OnlyShared ret full true).code
-    ∷ (enq_decision OnlyShared ret full false).code ∷ (enq_decision AmongShared ret full true).code
-    ∷ (enq_decision AmongShared ret full false).code ∷ (enq_decision Waits ret full true).code
-    ∷ (enq_decision Waits ret full false).code ∷ [])
-    ((enq_decision Absent ret full false).code ∷ [])
-gets-enq Absent ret full false =
-    in-codes (enq_decision Absent ret full false).code ((enq_decision Exclusive ret full true).code
-    ∷ (enq_decision Exclusive ret full false).code ∷ (enq_decision OnlyShared ret full true).code
-    ∷ (enq_decision OnlyShared ret full false).code ∷ (enq_decision AmongShared ret full true).code
-    ∷ (enq_decision AmongShared ret full false).code ∷ (enq_decision Waits ret full true).code
-    ∷ (enq_decision Waits ret full false).code ∷ (enq_decision Absent ret full true).code ∷ [])
-    []
-
-gets-deq : (st : Standing) (have : Bool) → is_code_of (deq_codes have) (deq_code st have) ≡ true
-gets-deq st have = grind arith
-
-gets : (s : State) → AreApart s → (t : TaskId) (w : Want) → can_get w (answer_to s t w) ≡ true
-gets s apart t (Enq q c ret full) = gets-enq (standing_of (list_of s q) t) ret full (can_have (list_of s q) c)
-gets s apart t (Deq q have) = gets-deq (standing_of (list_of s q) t) have
-gets s apart t (Release q) = refl
-gets s apart t (Look first count f) = can-show s apart first count f
+use Rattle.grs_world.proofs.star.hearing.Gets.{gets}
 
 -- ---- the first mail is taken
 module _ (deck : Deck) (w : World) (g : IsWhole deck w) (c : SysId) (n : NodeState) (at : Site w c.0 n) (p : StarPart)
@@ -389,7 +293,8 @@ module _ (deck : Deck) (w : World) (g : IsWhole deck w) (c : SysId) (n : NodeSta
       here u home = (g.system c.0 n at).at.good.here u home
 
       -- one of a task of this system that has a rank in time has an effect
-      effect : is_home_at deck c.0 t ≡ true → nat_le rank last_number ≡ true → has_effect n.tasks t answer rank ≡ true
+      pub effect : is_home_at deck c.0 t ≡ true → nat_le rank last_number ≡ true
+          → has_effect n.tasks t answer rank ≡ true
       effect home low =
           let z =
           answer-awaited deck w.medium.words (items w.fixed) g.right c.0 n t answer rank rest (g.later c.0) (g.out c.0)

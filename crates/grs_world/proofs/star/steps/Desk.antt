@@ -8,6 +8,7 @@ use Rattle.grs_world.proofs.star.Worlds.{Hands, IsWhole, are_live, in_hands, ite
 use Rattle.grs_world.proofs.star.Systems.{IsSystem}
 use Rattle.grs_world.proofs.star.hearing.Gentle.{Gentle, gentle-line_told}
 use Rattle.grs_world.proofs.star.hearing.Quiet.{heard-still}
+use Rattle.grs_world.proofs.star.ranks.Quiet.{ranked-still}
 use Rattle.grs_world.proofs.system.Desks.{desk-at, desk-told}
 use Rattle.grs_world.proofs.run.Desks.{EventTells, tells_already, tells_no_such}
 use Rattle.grs_world.proofs.run.Purging.{target-fits}
@@ -69,6 +70,7 @@ module _ (deck : Deck) (w : World) (g : IsWhole deck w) (c : SysId) (n : NodeSta
         (λ m k p ne found is. g.hands m k p found is);
     news = news;
     heard = heard-still deck w g c n at w.medium refl refl (desk_told n said) (calm said) (same_star said);
+    ranked = λ g'. ranked-still deck w g c n at w.medium refl refl (desk_told n said) (calm said) (same_star said);
     dated = own_dated said;
   }
 

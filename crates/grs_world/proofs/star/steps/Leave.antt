@@ -19,6 +19,7 @@ use Rattle.grs_world.proofs.star.Systems.{IsSystem, near_at, system-words}
 use Rattle.grs_world.proofs.star.Worlds.{Hands, IsHand, IsWhole, are_live, in_hands, items-none, whole-placed}
 use Rattle.grs_world.proofs.star.Worlds.{none_fixed, live-site}
 use Rattle.grs_world.proofs.star.hearing.Quiet.{heard-left}
+use Rattle.grs_world.proofs.star.ranks.Quiet.{ranked-left}
 use Rattle.grs_world.proofs.star.steps.Outcome.{IsOutcome}
 use Rattle.grs_world.proofs.star.steps.Words.{hands-words, others-keep}
 use Rattle.grs_world.proofs.run.Desks.{tells_tasks}
@@ -163,5 +164,6 @@ module _ (deck : Deck) (some : 0 < deck.entries) (w : World) (g : IsWhole deck w
               (g.hands m k v found star));
           news = tells_tasks (still-told refl) refl refl;
           heard = heard-left deck w g c n at x done (left flags) refl refl;
+          ranked = λ g'. ranked-left deck w g c n at x (left flags) refl refl;
           dated = λ h. record { date = h.date; own = h.own };
         }

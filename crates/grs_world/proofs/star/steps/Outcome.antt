@@ -11,12 +11,14 @@ use Rattle.grs_world.proofs.star.Worlds.{none_fixed}
 use Rattle.grs_world.proofs.star.Heard.{StaysHeard}
 use Rattle.grs_world.proofs.star.hearing.Gentle.{Gentle, gentle-none}
 use Rattle.grs_world.proofs.star.hearing.Quiet.{heard-still}
+use Rattle.grs_world.proofs.star.ranks.Quiet.{ranked-still}
+use Rattle.grs_world.proofs.star.ranks.Ranked.{StaysRanked}
 use Rattle.grs_world.proofs.run.Desks.{EventTells, tells_tasks}
 use Rattle.grs_world.proofs.at_rest.StarTasks.{IsDated}
 use Rattle.grs_world.proofs.run.Site.{Site}
 
--- The world stays whole, what the system tells agrees with the history, what is still to be heard stays so, and the
--- system's tasks stay up to date.
+-- The world stays whole, what the system tells agrees with the history, what is still to be heard stays so, ranks stay,
+-- and the system's tasks stay up to date.
 pub record IsOutcome (deck : Deck) (w : World) (g : IsWhole deck w) (c : SysId) (n : NodeState) (o : Turnout) :
     Type 0 where
   pub stays : StaysWhole deck w g c (placed w c n o)
@@ -24,6 +26,7 @@ pub record IsOutcome (deck : Deck) (w : World) (g : IsWhole deck w) (c : SysId) 
       EventTells deck c (history (items (w.fixed ++ fixed_by c o.step.fixed))) o.step.fixed n o.step.node w.medium.star
       o.medium.star
   pub heard : IsWhole deck (placed w c n o) → StaysHeard deck w c n o
+  pub ranked : IsWhole deck (placed w c n o) → StaysRanked deck w c n o
   pub dated : IsDated deck c.0 n → IsDated deck c.0 o.step.node
 
 -- as far as it is a step of words, roles and lists
@@ -50,6 +53,10 @@ module _ (deck : Deck) (w : World) (g : IsWhole deck w) (c : SysId) (n : NodeSta
         (step.mode ∙ sym g.roles.mode);
     heard =
         heard-still deck w g c n at m boxes step.removed k
+        (subst (λ (z : NodeState). Gentle n.tasks z.tasks) (sym same) (gentle-none n.tasks))
+        (ap (λ (z : NodeState). z.star) same);
+    ranked = λ g'.
+        ranked-still deck w g c n at m boxes step.removed k
         (subst (λ (z : NodeState). Gentle n.tasks z.tasks) (sym same) (gentle-none n.tasks))
         (ap (λ (z : NodeState). z.star) same);
     dated = λ h. subst (IsDated deck c.0) (sym same) h;
@@ -83,6 +90,8 @@ module _ (deck : Deck) (w : World) (g : IsWhole deck w) (c : SysId) (n : NodeSta
     news = tells_tasks (still-told refl) refl refl;
     heard =
         heard-still deck w g c n at w.medium refl refl (record n { known = known }) (gentle-none n.tasks) refl;
+    ranked = λ g'.
+        ranked-still deck w g c n at w.medium refl refl (record n { known = known }) (gentle-none n.tasks) refl;
     dated = λ h. record { date = h.date; own = h.own };
   }
 

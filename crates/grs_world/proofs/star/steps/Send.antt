@@ -6,11 +6,11 @@ use Rattle.grs_world.proofs.Common.{decide_own, Deck, entry_for, entry_wanted, e
 use Rattle.grs_world.proofs.Common.{inbox, is_among, is_entry, is_home_at, is_of_deck, is_sent, is_some, is_task}
 use Rattle.grs_world.proofs.Common.{is_task-system, is_to_send, IsOurs, items, items_of, kept_for, length, lines_of}
 use Rattle.grs_world.proofs.Common.{List, list_of, lists, lists-push, made_item, Managed, managed_at, manager_at}
-use Rattle.grs_world.proofs.Common.{manages, may_send, Meaning, new_owners, NodeState, None, not, Option, owners_by}
-use Rattle.grs_world.proofs.Common.{owns, Phase, plain, rank_of, refl, Req, request_of, Res, res_wanted, RunItem}
-use Rattle.grs_world.proofs.Common.{same_task, Some, StarPart, State, state_of, submitted_words, subst, suc, sym, SysId}
-use Rattle.grs_world.proofs.Common.{TaskId, TasksView, tell_answer_ranked, tell_new, true, with_interest, with_mail}
-use Rattle.grs_world.proofs.Common.{with_phase, with_star, World, ℕ}
+use Rattle.grs_world.proofs.Common.{manages, may_send, Meaning, new_owners, no_elements, NodeState, None, not, Option}
+use Rattle.grs_world.proofs.Common.{owners_by, owns, Phase, plain, rank_of, refl, Req, request_of, Res, res_wanted}
+use Rattle.grs_world.proofs.Common.{RunItem, same_task, Some, StarPart, State, state_of, submitted_words, subst, suc}
+use Rattle.grs_world.proofs.Common.{sym, SysId, TaskId, TasksView, tell_answer_ranked, tell_new, true, with_interest}
+use Rattle.grs_world.proofs.Common.{with_mail, with_phase, with_star, World, ℕ}
 use Rattle.grs_known.proofs.lists.Alike.{answer-alike, owners-alike}
 use Rattle.grs_node.specs.Star.{lists_for}
 use Rattle.grs_known.proofs.lists.Owners.{new-owns}
@@ -28,6 +28,8 @@ use Rattle.grs_world.proofs.star.Under.{under, entry-same, answer-under, owners-
 use Rattle.grs_world.proofs.star.Worlds.{IsWhole}
 use Rattle.grs_world.proofs.star.hearing.Decided.{heard-decided}
 use Rattle.grs_world.proofs.star.hearing.Gains.{beginning-next, beginning-untold, untold_of}
+use Rattle.grs_world.proofs.star.ranks.Carried.{CarriesRank, entry-all, has_this_rank}
+use Rattle.grs_world.proofs.star.ranks.Decides.{ranked-decided}
 use Rattle.grs_world.proofs.star.steps.Outcome.{Comes}
 use Rattle.grs_world.proofs.run.Site.{Site}
 use Rattle.grs_wire.specs.declared.medium.Mail.TheVariants as mails
@@ -157,12 +159,13 @@ module _ (deck : Deck) (some : 0 < deck.entries) (w : World) (g : IsWhole deck w
             → ((v : Res) (u : TaskId) → untold_of p.manager v u ≡ true → untold_of q.manager v u ≡ true)
             → ((k : ℕ) → ((i : ℕ) (z : Managed) → managed_at p.manager i ≡ Some z → z.next ≤ suc k)
             → (i : ℕ) (z : Managed) → managed_at q.manager i ≡ Some z → z.next ≤ suc k)
+            → ((r : Res) (u : TaskId) (k : ℕ) → CarriesRank r u k p.manager → CarriesRank r u k q.manager)
             → Comes deck w g c n (record {
               medium = record w.medium { words = ws; rest = flags };
               step = with_star n (decide_own n.tasks q t a);
             })
         unfolding decide_own
-        decided ws flags grow q fits mine held begins low =
+        decided ws flags grow q fits mine held begins low carries =
             subst (λ (v : TasksView).
             Comes deck w g c n (record {
               medium = record w.medium { words = ws; rest = flags };
@@ -178,12 +181,15 @@ module _ (deck : Deck) (some : 0 < deck.entries) (w : World) (g : IsWhole deck w
             (sym (fits.roles x) ∙ mine) (new_owners L t a.req.want) (rank_of q (request_of t a)) p
             (record q { manager = after_request q.manager t a.req.want }) me.star held owned
             (heard-decided deck w g c n at ws flags t home a free x of_entry (sym (fits.roles x) ∙ mine)
-            (rank_of q (request_of t a)) p q me.star fits held begins low))
+            (rank_of q (request_of t a)) p q me.star fits held begins low)
+            (ranked-decided deck w g c n at ws flags t home a free x of_entry (sym (fits.roles x) ∙ mine) p q me.star
+            fits carries))
 
         -- the system manages the entry itself
         pub outcome-own : manages p x ≡ true
             → Comes deck w g c n (record { medium = w.medium; step = with_star n (decide_own n.tasks p t a) })
         outcome-own mine = decided words w.medium.rest (words-stay words) p me.fits mine refl (λ v u h. h) (λ k h. h)
+            (λ r u k h. h)
 
         -- another system manages it, or nobody does
         module _ (not_mine : manages p x ≡ false) where
@@ -218,6 +224,8 @@ module _ (deck : Deck) (some : 0 < deck.entries) (w : World) (g : IsWhole deck w
               (fits.roles x ∙ submit-first words x c inside_words inside g.roles.managed nobody) refl
               (λ v u h. beginning-untold p.manager x there none_kept v u h)
               (λ k h. beginning-next p.manager x there k h)
+              (λ r u k h.
+              entry-all (has_this_rank r u k) (λ b y. refl) (λ y. refl) p.manager (Some x) (Some no_elements) refl h)
 
           pub outcome-away : (s : SysId) → manager_at w.medium.words x ≡ Some s → (s.0 == c.0) ≡ false →
               Comes deck w g c n (record {

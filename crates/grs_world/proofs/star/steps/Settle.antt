@@ -18,6 +18,7 @@ use Rattle.grs_world.proofs.star.Systems.{gives_want}
 use Rattle.grs_world.proofs.star.Under.{under, answer-under, entry-same, owners-under}
 use Rattle.grs_world.proofs.star.Worlds.{IsHand, IsWhole, are_live, items-one}
 use Rattle.grs_world.proofs.star.hearing.Settled.{heard-settled}
+use Rattle.grs_world.proofs.star.ranks.Settles.{ranked-settled}
 use Rattle.grs_world.proofs.star.steps.Outcome.{Comes}
 use Rattle.grs_world.proofs.run.Desks.{tells_tasks}
 use Rattle.grs_world.proofs.at_rest.StarTasks.{dated-by, keeps-new}
@@ -122,6 +123,7 @@ module _ (deck : Deck) (w : World) (g : IsWhole deck w) (c : SysId) (n : NodeSta
       heard =
           heard-settled deck w g c n at p me.star me.fits q (drop 1 p.held) held its same-owners
           (awake w.medium c);
+      ranked = λ g'. ranked-settled deck w g c n at p me.star me.fits q its (awake w.medium c);
       dated = λ h.
           dated-by deck c.0 n (with_star n (settled_first n.tasks p q)).node refl h
           (keeps-new deck n.tasks (res_wanted q.want) (owners_by p q) h.date);

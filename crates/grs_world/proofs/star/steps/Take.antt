@@ -8,8 +8,8 @@ use Rattle.grs_world.proofs.Common.{none, not, not-true, Notice, or_parts, Part,
 use Rattle.grs_world.proofs.Common.{refl, Req, Res, RunItem, same_Some, same_task, same_task-exact, Some, stand_apart}
 use Rattle.grs_world.proofs.Common.{StarPart, StarStep, subst, sym, SysId, task_swap, TaskId, TasksView, tell_control}
 use Rattle.grs_world.proofs.Common.{told-news, ToldNews, true, Turnout, with_star, without_first, World, ℕ}
-use Rattle.std.specs.Prelude.{drop}
 use Rattle.grs_wire.specs.declared.medium.Mail.TheVariants.{Request}
+use Rattle.std.specs.Prelude.{drop}
 use Rattle.grs_world.proofs.star.Plain.{take_mail, took_mail}
 use Rattle.grs_world.proofs.star.Answering.{others_of, without_asker, mine-others}
 use Rattle.grs_world.proofs.star.Mailed.{TookAnswer, learns, leaves, took-request, took-control, took-answer, not_here}
@@ -18,6 +18,9 @@ use Rattle.grs_world.proofs.star.Heard.{StaysHeard}
 use Rattle.grs_world.proofs.star.Members.{IsPart, all_lists}
 use Rattle.grs_world.proofs.star.hearing.Taken.{heard-answered, heard-control, heard-dropped, heard-held, heard-missed}
 use Rattle.grs_world.proofs.star.hearing.Taken.{heard-strange}
+use Rattle.grs_world.proofs.star.ranks.Ranked.{StaysRanked}
+use Rattle.grs_world.proofs.star.ranks.Takes.{ranked-answered, ranked-granted, ranked-missed, ranked-request}
+use Rattle.grs_world.proofs.star.ranks.Takes.{ranked-strange}
 use Rattle.grs_world.proofs.star.OwnEvents.{Goes}
 use Rattle.grs_world.proofs.star.Systems.{IsSystem, is_late, late-none, requests_in}
 use Rattle.grs_world.proofs.star.Worlds.{IsIn, IsHand, AllHands, Hands, IsWhole, are_live, in_hands, items-none}
@@ -142,8 +145,9 @@ module _ (deck : Deck) (w : World) (g : IsWhole deck w) (c : SysId) (n : NodeSta
       Goes deck w.medium.words T c.0 (record n { tasks = v; star = Some q }) rest (later c.0) (out c.0) n.tasks.told
       → Hands deck w.medium.words (are_live w) g.later g.out c.0 (in_hands q rest) →
       (IsWhole deck (placed w c n (to v q)) → StaysHeard deck w c n (to v q))
+      → (IsWhole deck (placed w c n (to v q)) → StaysRanked deck w c n (to v q))
       → (AllDate false deck n.tasks → Keeps deck n.tasks v) → Comes deck w g c n (to v q)
-  took-mail later out same_later same_out stay v q goes own heard keeps step = record {
+  took-mail later out same_later same_out stay v q goes own heard ranked keeps step = record {
     stays =
         whole-placed deck w g c n at (to v q) step T (items-none w.fixed c) later out same_out none_fixed g.right
         g.near
@@ -168,6 +172,7 @@ module _ (deck : Deck) (w : World) (g : IsWhole deck w) (c : SysId) (n : NodeSta
         (told-news goes.told))
         refl refl;
     heard = heard;
+    ranked = ranked;
     dated = λ h. dated-by deck c.0 n (record n { tasks = v; star = Some q }) refl h (keeps h.date);
   }
     where
@@ -182,9 +187,10 @@ module _ (deck : Deck) (w : World) (g : IsWhole deck w) (c : SysId) (n : NodeSta
       →
       Hands deck w.medium.words (are_live w) g.later g.out c.0 (in_hands q rest)
       → (IsWhole deck (placed w c n (to v q)) → StaysHeard deck w c n (to v q))
+      → (IsWhole deck (placed w c n (to v q)) → StaysRanked deck w c n (to v q))
       → (AllDate false deck n.tasks → Keeps deck n.tasks v) → Comes deck w g c n (to v q)
-  took-same v q goes own heard keeps step =
-      took-mail g.later g.out (λ s ne. refl) (λ s ne. refl) (λ m qs h. h) v q goes own heard keeps step
+  took-same v q goes own heard ranked keeps step =
+      took-mail g.later g.out (λ s ne. refl) (λ s ne. refl) (λ m qs h. h) v q goes own heard ranked keeps step
 
   -- the answer to a task's request was learned
   took-learned : (t : TaskId) (v : TasksView) (q : StarPart) → is_late t (g.later c.0) ≡ true →
@@ -193,8 +199,9 @@ module _ (deck : Deck) (w : World) (g : IsWhole deck w) (c : SysId) (n : NodeSta
       →
       Hands deck w.medium.words (are_live w) g.later g.out c.0 (in_hands q rest)
       → (IsWhole deck (placed w c n (to v q)) → StaysHeard deck w c n (to v q))
+      → (IsWhole deck (placed w c n (to v q)) → StaysRanked deck w c n (to v q))
       → (AllDate false deck n.tasks → Keeps deck n.tasks v) → Comes deck w g c n (to v q)
-  took-learned t v q late goes own heard keeps step =
+  took-learned t v q late goes own heard ranked keeps step =
       let xs = others_of t (g.later c.0) in
       let qs = without_asker t (g.out c.0) in
       took-mail (put_at g.later c.0 xs) (put_at g.out c.0 qs) (put_other g.later c.0 xs) (put_other g.out c.0 qs)
@@ -205,7 +212,7 @@ module _ (deck : Deck) (w : World) (g : IsWhole deck w) (c : SysId) (n : NodeSta
       (sym (put_here g.later c.0 xs))
       (subst (λ rs. Goes deck w.medium.words T c.0 (record n { tasks = v; star = Some q }) rest xs rs n.tasks.told)
       (sym (put_here g.out c.0 qs)) goes))
-      own heard keeps step
+      own heard ranked keeps step
 
 -- ---- by the mail
 module _ (deck : Deck) (w : World) (g : IsWhole deck w) (c : SysId) (n : NodeState) (at : Site w c.0 n) (p : StarPart)
@@ -253,6 +260,8 @@ module _ (deck : Deck) (w : World) (g : IsWhole deck w) (c : SysId) (n : NodeSta
       (subst (Hands deck words live g.later g.out c.0) (sym (append_assoc p.held (q ∷ []) (requests_in rest)))
       (hands_now (Request e from q) is))
       (heard-held deck w g c n at p star fits rest (awake w.medium c) e from q is)
+      (ranked-request deck w g c n at p star (awake w.medium c) e from q rest is
+      (record p { held = p.held ++ q ∷ [] }) refl)
       (λ h. keeps-none deck n.tasks h)
 
   -- it has no effect
@@ -267,6 +276,7 @@ module _ (deck : Deck) (w : World) (g : IsWhole deck w) (c : SysId) (n : NodeSta
         apart = apart-fewer p.held q (requests_in rest) h.apart;
       })
       (heard-dropped deck w g c n at p star fits rest (awake w.medium c) e from q is never)
+      (ranked-request deck w g c n at p star (awake w.medium c) e from q rest is p refl)
       (λ k. keeps-none deck n.tasks k)
 
   -- an answer
@@ -291,11 +301,13 @@ module _ (deck : Deck) (w : World) (g : IsWhole deck w) (c : SysId) (n : NodeSta
           took-learned deck w g c n at (Answered t answer rank) rest is t
           (after_mail n.tasks (Answered t answer rank)) p late z (hands_now (Answered t answer rank) is)
           (heard-answered deck w g c n at p star fits rest (awake w.medium c) t answer rank is of_deck)
+          (ranked-answered deck w g c n at p star (awake w.medium c) fits t answer rank rest is of_deck)
           (λ k. keeps-mail deck n.tasks t answer rank of_deck k)
       go (leaves z) =
           took-same deck w g c n at (Answered t answer rank) rest is (after_mail n.tasks (Answered t answer rank))
           p z (hands_now (Answered t answer rank) is)
           (heard-answered deck w g c n at p star fits rest (awake w.medium c) t answer rank is of_deck)
+          (ranked-answered deck w g c n at p star (awake w.medium c) fits t answer rank rest is of_deck)
           (λ k. keeps-mail deck n.tasks t answer rank of_deck k)
 
   drops_answer : (t : TaskId) (answer : Answer) (rank : ℕ) (is : inbox w.medium c.0 ≡ Answered t answer rank ∷ rest)
@@ -313,6 +325,9 @@ module _ (deck : Deck) (w : World) (g : IsWhole deck w) (c : SysId) (n : NodeSta
       (heard-missed deck w g c n at p star fits rest (awake w.medium c) t answer rank is
       (not_here deck words (items w.fixed) g.right c.0 n rest (g.later c.0) (g.out c.0) t answer rank
       (system_now (Answered t answer rank) is) strange))
+      (ranked-missed deck w g c n at p star (awake w.medium c) t answer rank rest is
+      (not_here deck words (items w.fixed) g.right c.0 n rest (g.later c.0) (g.out c.0) t answer rank
+      (system_now (Answered t answer rank) is) strange))
       (λ k. keeps-none deck n.tasks k)
 
   -- control
@@ -322,6 +337,7 @@ module _ (deck : Deck) (w : World) (g : IsWhole deck w) (c : SysId) (n : NodeSta
       (took-control deck words (items w.fixed) g.right c.0 n rest (g.later c.0) (g.out c.0) t r
       (system_now (Granted t r) is) of_deck (Some p))
       (hands_now (Granted t r) is) (heard-control deck w g c n at p star fits rest (awake w.medium c) t r is)
+      (ranked-granted deck w g c n at p star (awake w.medium c) t r rest is)
       (λ k. keeps-control deck n.tasks r t k)
 
   drops_control : (t : TaskId) (r : Res) (is : inbox w.medium c.0 ≡ Granted t r ∷ rest) → is_of_deck deck t ≡ false
@@ -335,6 +351,7 @@ module _ (deck : Deck) (w : World) (g : IsWhole deck w) (c : SysId) (n : NodeSta
       })
       (hands_now (Granted t r) is)
       (heard-strange deck w g c n at p star fits rest (awake w.medium c) t r is strange)
+      (ranked-strange deck w g c n at p star (awake w.medium c) t r rest is)
       (λ k. keeps-none deck n.tasks k)
 
   -- whatever the mail is

@@ -5,6 +5,7 @@ use Rattle.grs_world.proofs.Common.{ToldNews, true, World}
 use Rattle.grs_world.proofs.star.OwnEvents.{Task, idle_task, local_task, system-task}
 use Rattle.grs_world.proofs.star.Worlds.{IsWhole, items-none, items-one, whole-task}
 use Rattle.grs_world.proofs.star.hearing.Quiet.{heard-task}
+use Rattle.grs_world.proofs.star.ranks.Quiet.{ranked-task}
 use Rattle.grs_world.proofs.star.steps.Outcome.{Comes}
 use Rattle.grs_world.proofs.run.Desks.{tells_tasks}
 use Rattle.grs_world.proofs.at_rest.Ring.{distinct-at}
@@ -46,6 +47,10 @@ module _ (deck : Deck) (w : World) (g : IsWhole deck w) (c : SysId) (n : NodeSta
         (stays-task deck.limit n t (lines_of deck t)).done refl;
     heard =
         heard-task deck w g c n at t goes (system-task deck w.medium.words (items w.fixed) g.right c.0 n
+        (inbox w.medium c.0) (g.later c.0) (g.out c.0) (g.system c.0 n at) c t (g.roles.node c.0 n at).part
+        (g.roles.node c.0 n at).star goes);
+    ranked = λ g'.
+        ranked-task deck w g c n at t goes (system-task deck w.medium.words (items w.fixed) g.right c.0 n
         (inbox w.medium c.0) (g.later c.0) (g.out c.0) (g.system c.0 n at) c t (g.roles.node c.0 n at).part
         (g.roles.node c.0 n at).star goes);
     dated = own-dated t goes;

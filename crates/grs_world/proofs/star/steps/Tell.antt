@@ -20,6 +20,8 @@ use Rattle.grs_world.proofs.star.Worlds.{IsWhole, Hands, are_live, in_hands, ite
 use Rattle.grs_world.proofs.star.Worlds.{live-below}
 use Rattle.grs_world.proofs.star.Heard.{StaysHeard}
 use Rattle.grs_world.proofs.star.hearing.Told.{heard-told}
+use Rattle.grs_world.proofs.star.ranks.Mails.{ranked-told}
+use Rattle.grs_world.proofs.star.ranks.Ranked.{StaysRanked}
 use Rattle.grs_world.proofs.star.steps.Outcome.{Comes, part}
 use Rattle.grs_world.proofs.run.Desks.{tells_tasks}
 use Rattle.grs_world.proofs.run.Site.{Site}
@@ -194,8 +196,9 @@ module _ (deck : Deck) (w : World) (g : IsWhole deck w) (c : SysId) (n : NodeSta
           ∙ ap (λ (z : StarPart). in_hands z (inbox sent_on c.0)) (same_Some q k is)))
           (g.hands c.0 n p at (g.roles.node c.0 n at).star)
 
-      tells : (IsWhole deck (placed w c n after) → StaysHeard deck w c n after) → Comes deck w g c n after
-      tells heard step = record {
+      tells : (IsWhole deck (placed w c n after) → StaysHeard deck w c n after)
+          → (IsWhole deck (placed w c n after) → StaysRanked deck w c n after) → Comes deck w g c n after
+      tells heard ranked step = record {
         stays =
             whole-placed deck w g c n at after step T (items-none w.fixed c) g.later g.out (λ u ne. refl)
             none_fixed g.right g.near own
@@ -206,6 +209,7 @@ module _ (deck : Deck) (w : World) (g : IsWhole deck w) (c : SysId) (n : NodeSta
             (g.hands m k v found is));
         news = tells_tasks (still-told refl) refl refl;
         heard = heard;
+        ranked = ranked;
         dated = λ h. record { date = h.date; own = h.own };
       }
 
@@ -220,6 +224,9 @@ module _ (deck : Deck) (w : World) (g : IsWhole deck w) (c : SysId) (n : NodeSta
   outcome-tell entry x is =
       tells entry x.0 x.1 owner (awake w.medium c) (told_by p (Some x)) refl
       (heard-told deck w g c n at p (g.roles.node c.0 n at).star x.0 x.1 owner.apart
+      (below entry x.0 x.1 owner (awake w.medium c)) (awake w.medium c))
+      (λ g'.
+      ranked-told deck w g c n at p (g.roles.node c.0 n at).star x.0 x.1 owner.apart
       (below entry x.0 x.1 owner (awake w.medium c)) (awake w.medium c))
     where
       owner : IsOwner deck w.medium.words (lists T) c.0 entry x.0 x.1

@@ -1,0 +1,312 @@
+-- In a star that loses nobody the live systems show together what the history says: once each has taken the mail of its
+-- inbox, what their tasks have on record of a resource is, by its ranks, the list of the resource.
+use Rattle.grs_world.proofs.Common.{[], ◌+◌, ◌<◌, ◌==◌, ◌||◌, ◌∙◌, ◌∷◌, ◌≡◌, and_from, and_parts, ap, Bool, Deck, Elem}
+use Rattle.grs_world.proofs.Common.{entry_of, entry_of_res, eq-eqb, eqb-true, false, first_node, get_or, has, has_res}
+use Rattle.grs_world.proofs.Common.{has_task, inbox, is_among, is_home_at, is_interested, is_res_of, is_some}
+use Rattle.grs_world.proofs.Common.{is_systems, IsHistory, items, items_of, length, lines_of, List, list_all, list_of}
+use Rattle.grs_world.proofs.Common.{lists, ltb-true, Managed, managed_at, manager_at, map, names_of, nat_lt, new_task}
+use Rattle.grs_world.proofs.Common.{no_truth, NodeState, None, Option, option_map_or, or_left, or_right, outstanding}
+use Rattle.grs_world.proofs.Common.{past_of, plain, Rec, record_of, refl, Res, RunItem, same_task, same_task-itself}
+use Rattle.grs_world.proofs.Common.{slice_get, slice_get-get_or, slice_of, Some, speaks-known, StarPart, state_of}
+use Rattle.grs_world.proofs.Common.{subst, sym, SysId, System, TaskId, TaskState, true, World, ℕ}
+use Rattle.std.specs.List.Sorted.{IsPermutation}
+use Rattle.std.proofs.lemmas.List.Sorted.{IsPermutation-sym}
+use Rattle.contention_mgr.specs.Installs.{elem_of}
+use Rattle.contention_mgr.specs.Laws.{AreWellKept}
+use Rattle.grs_base.specs.declared.resource.Res.TheVariants.{Step as StepRes, Systems}
+use Rattle.grs_known.proofs.known.Following.{has-known}
+use Rattle.grs_known.proofs.known.Histories.{has-may, replayed}
+use Rattle.grs_known.proofs.known.Knowing.{one-none}
+use Rattle.grs_known.proofs.system.Asking.{records-unasked}
+use Rattle.grs_known.proofs.tasks.Invariant.{key}
+use Rattle.grs_known.proofs.tasks.Keys.{has_res-own}
+use Rattle.grs_known.specs.Past.{own_elements, Speaks}
+use Rattle.grs_known.specs.Items.{history}
+use Rattle.grs_legal.specs.Asks.{Script, scripts_of}
+use Rattle.grs_node.proofs.Orderly.{all-at}
+use Rattle.lock_structure.specs.RankedRows.{rises}
+use Rattle.system_purge.specs.Gather.{by_rank}
+use Rattle.grs_world.proofs.shown.ByTask.{by-tasks, of_tasks}
+use Rattle.grs_world.proofs.shown.CaughtUp.{Caught}
+use Rattle.grs_world.proofs.shown.Names.{home-named, live-apart, live-named, live_names, named-home, task_at, zero_plus}
+use Rattle.grs_world.proofs.shown.OnRecord.{HasOwn, HaveThese, keys-listed, recs-ranked, shown-have, system-has}
+use Rattle.grs_world.proofs.shown.Rising.{each-on, rises-on}
+use Rattle.grs_world.proofs.shown.Sorted.{by_rank-is}
+use Rattle.grs_world.proofs.shown.Together.{caught, its-record}
+use Rattle.grs_world.proofs.run.Site.{Site, at_site}
+use Rattle.grs_world.proofs.star.Elements.{near-has}
+use Rattle.grs_world.proofs.star.Heard.{IsHeard, sent_by}
+use Rattle.grs_world.proofs.star.Members.{IsMember, all_lists, manager-here}
+use Rattle.grs_world.proofs.star.Systems.{here, near_at}
+use Rattle.grs_world.proofs.star.Under.{entry-same, in_entry, list-under, under}
+use Rattle.grs_world.proofs.star.Worlds.{IsWhole, are_live, live-below, live-site, manager-live}
+use Rattle.grs_world.proofs.star.hearing.Ranks.{HaveRank, rank-none}
+use Rattle.grs_world.proofs.star.ranks.Carried.{CarriesRank, all_at, has_this_rank}
+use Rattle.grs_world.proofs.star.ranks.Ranked.{AreShown, HasShown}
+use Rattle.grs_world.specs.Kept.{caught_up, on_record, once_changed, shown_from, taking}
+
+-- ---- one task of a system that knows all
+module _ (deck : Deck) (words : List ℕ) (T : List RunItem) (right : IsHistory deck T) (s : ℕ) (n : NodeState)
+    (c : Caught deck words T right s n) (t : TaskId) (home : is_home_at deck s t ≡ true) where
+  abbrev own_records : List Rec
+  own_records = (state_of n.tasks t).records
+
+  nothing-out : outstanding t (here deck s T c.later c.out n (c.system).at t home).known T ≡ None
+  nothing-out =
+      one-none (outstanding t (here deck s T c.later c.out n (c.system).at t home).known T)
+      (sym (c.idle t home) ∙ (here deck s T c.later c.out n (c.system).at t home).due)
+
+  speaks : Speaks deck.limit t (past_of t (here deck s T c.later c.out n (c.system).at t home).known T) (history T)
+  speaks =
+      let k = here deck s T c.later c.out n (c.system).at t home in
+      speaks-known deck T t k.known right (k.knows).live (k.knows).right nothing-out
+
+  past-keys : map key own_records ≡ (past_of t (here deck s T c.later c.out n (c.system).at t home).known T).own
+  past-keys =
+      ap (λ (xs : List Rec). map key xs) (sym (records-unasked (state_of n.tasks t)))
+      ∙ ((here deck s T c.later c.out n (c.system).at t home).task).keys
+
+  -- its records are its elements of the lists
+  own-keys : map key own_records ≡ own_elements (lists T) t
+  own-keys = past-keys ∙ (sym speaks.own ∙ ap (λ z. own_elements z t) (sym (replayed deck T right)))
+
+  none-recorded : (r : Res) → has_task (list_of (lists T) r) t ≡ false → has_res r own_records ≡ false
+  none-recorded r none =
+      let k = here deck s T c.later c.out n (c.system).at t home in
+      has_res-own r own_records (past_of t k.known T).own past-keys
+      ∙ (sym (has-known deck T right t (past_of t k.known T) speaks r) ∙ none)
+
+-- ---- lists
+each-task : (p : TaskId → Bool) (xs : List Elem) → ((t : TaskId) → has_task xs t ≡ true → p t ≡ true)
+    → list_all (λ x. p x.task) xs ≡ true
+each-task p [] h = refl
+each-task p (x ∷ xs) h =
+    and_from (p x.task) (list_all (λ y. p y.task) xs)
+    (h x.task (or_left (same_task x.task x.task) (has_task xs x.task) (same_task-itself x.task)))
+    (each-task p xs (λ t stands. h t (or_right (same_task t x.task) (has_task xs t) stands)))
+
+-- a resource of the whole complex is of a lock entry
+wide-entry : (entries : ℕ) (r : Res) → is_systems r ≡ true → (e : ℕ) × (entry_of_res entries r ≡ Some e)
+wide-entry entries (StepRes n j q r) wide = absurd (cc)
+wide-entry entries (System n q r) wide = absurd (cc)
+wide-entry entries (Systems q r) wide = (entry_of (slice_of q r) entries, refl)
+
+-- ---- a world in star mode that loses nobody
+module _ (deck : Deck) (w : World) (g : IsWhole deck w) (sent : ℕ → TaskId → Bool) (had : ℕ → TaskId → Res → Bool)
+    (h : IsHeard deck w sent had) (ranked : AreShown deck w)
+    (is : (s : ℕ) (n : NodeState) (t : TaskId) → Site w s n → sent_by n t ≡ true → sent s t ≡ true) (r : Res)
+    (wide : is_systems r ≡ true) where
+  abbrev listed : List Elem
+  listed = list_of (all_lists w) r
+
+  abbrev later_of : ℕ → NodeState → NodeState
+  later_of s n = taking deck n (inbox w.medium s)
+
+  -- the rank that a task shows
+  abbrev rank_in : ℕ → TaskId → Option NodeState → ℕ
+  rank_in s t None = 0
+  rank_in s t (Some n) =
+      option_map_or (λ (y : Rec). y.rank) (record_of (state_of (later_of s n).tasks t).records r) 0
+
+  abbrev rank_of : TaskId → ℕ
+  rank_of t = rank_in t.system.0 t (slice_get w.nodes t.system.0)
+
+  -- ---- one system
+  module _ (s : ℕ) (n : NodeState) (at : Site w s n) where
+    abbrev me : IsMember deck w.medium.words (all_lists w) s n
+    me = g.roles.node s n at
+
+    was-sent : (t : TaskId) → sent_by n t ≡ true → sent s t ≡ true
+    was-sent t e = is s n t at e
+
+    all-taken : Caught deck w.medium.words (items w.fixed) g.right s (later_of s n)
+    all-taken = (caught deck w g sent had h s n at was-sent me.part me.star).0
+
+    rank-is : (t : TaskId) (home : is_home_at deck s t ≡ true) (stands : has_task listed t ≡ true)
+        → rank_of t ≡ (ranked s n t r at home wide stands).rank
+    rank-is t home stands =
+        let z = its-record deck w g sent had h s n at was-sent ranked me.part me.star t r home wide stands in
+        let sys : t.system.0 ≡ s =
+        eqb-true t.system.0 s (and_parts (t.system.0 == s) (is_some (lines_of deck t)) home).0 in
+        ap (λ i. rank_in i t (slice_get w.nodes i)) sys
+        ∙ (ap (rank_in s t) at.at
+        ∙ (ap (λ (o : Option Rec). option_map_or (λ (y : Rec). y.rank) o 0) z.1 ∙ z.2))
+
+    own : (t : TaskId) → is_home_at deck s t ≡ true
+        → HasOwn r rank_of listed t (state_of (later_of s n).tasks t).records
+    own t home = record {
+      elems =
+          keys-listed r t (all_lists w) (state_of (later_of s n).tasks t).records
+          (own-keys deck w.medium.words (items w.fixed) g.right s (later_of s n) all-taken t home);
+      ranked =
+          recs-ranked r rank_of t (state_of (later_of s n).tasks t).records (go (has_task listed t) refl);
+    }
+      where
+        go : (b : Bool) → has_task listed t ≡ b
+            → HaveRank r (rank_of t) (state_of (later_of s n).tasks t).records
+        go true stands =
+            let k : HasShown w s n t r = ranked s n t r at home wide stands in
+            subst (λ i. HaveRank r i (state_of (later_of s n).tasks t).records) (sym (rank-is t home stands))
+            ((caught deck w g sent had h s n at was-sent me.part me.star).1 t r k.rank home wide stands k.shown).ranked
+        go false none =
+            rank-none r (rank_of t) (state_of (later_of s n).tasks t).records
+            (none-recorded deck w.medium.words (items w.fixed) g.right s (later_of s n) all-taken t home r none)
+
+    -- it shows just what its tasks have in the list
+    has-these : HaveThese r rank_of listed (names_of deck s) (on_record deck (later_of s n) r)
+    unfolding state_of
+    has-these =
+        system-has r rank_of listed deck s (later_of s n) (scripts_of deck s)
+        (ap (names_of deck) ((all-taken.system).at.good).system) each
+      where
+        each : (k : ℕ) (x : Script) → slice_get (scripts_of deck s) k ≡ Some x →
+            (y : TaskState) × (slice_get (later_of s n).tasks.tasks k ≡ Some y)
+            × HasOwn r rank_of listed (task_at s x.job (0 + k)) y.records
+        each k x found =
+            let home : is_home_at deck s (task_at s x.job k) ≡ true = named-home deck s k x found in
+            let inside =
+            and_parts ((later_of s n).tasks.system == s) (nat_lt k (length (later_of s n).tasks.tasks))
+            (((all-taken.system).at.good).here (task_at s x.job k) home) in (
+              state_of (later_of s n).tasks (task_at s x.job k),
+              slice_get-get_or (later_of s n).tasks.tasks k new_task
+                  (ltb-true k (length (later_of s n).tasks.tasks) inside.1),
+              subst
+                  (λ i.
+                  HasOwn r rank_of listed (task_at s x.job i)
+                  (state_of (later_of s n).tasks (task_at s x.job k)).records)
+                  (sym (zero_plus k)) (own (task_at s x.job k) home),
+            )
+
+  -- ---- who has an element
+  entry : (e : ℕ) × (entry_of_res deck.entries r ≡ Some e)
+  entry = wide-entry deck.entries r wide
+
+  -- is of a live system, and at home there
+  interested : (t : TaskId) → has_task listed t ≡ true → is_interested w.medium.words entry.0 t.system.0 ≡ true
+  interested t stands =
+      ap (near_at w.medium.words t.system.0) (sym entry.1)
+      ∙ near-has deck w.medium.words (all_lists w) r t g.near stands
+
+  element-live : (t : TaskId) → has_task listed t ≡ true → are_live w t.system.0 ≡ true
+  element-live t stands = go (are_live w t.system.0) refl
+    where
+      go : (b : Bool) → are_live w t.system.0 ≡ b → b ≡ true
+      go true e = refl
+      go false e =
+          no_truth (is_interested w.medium.words entry.0 t.system.0) (interested t stands)
+          (g.roles.nobody entry.0 t.system.0 e).0
+
+  element-home : (t : TaskId) → has_task listed t ≡ true → is_home_at deck t.system.0 t ≡ true
+  element-home t stands =
+      and_from (t.system.0 == t.system.0) (is_some (lines_of deck t)) (eq-eqb t.system.0 t.system.0 refl)
+      (and_parts (is_some (lines_of deck t)) (is_systems r || is_res_of t.system.0 r)
+      (has-may deck (items w.fixed) r t (g.right).asks stands)).0
+
+  -- ---- ranks rise
+  -- a manager carries of each element the rank that it shows
+  carried : (m : ℕ) (k : NodeState) (p : StarPart) → Site w m k → k.star ≡ Some p → (t : TaskId)
+      → has_task listed t ≡ true → CarriesRank r t (rank_of t) p.manager
+  carried m k p there star t stands =
+      let n : NodeState = get_or w.nodes t.system.0 k in
+      let at : Site w t.system.0 n = live-site w t.system.0 k (element-live t stands) in
+      let home = element-home t stands in
+      subst (λ i. CarriesRank r t i p.manager) (sym (rank-is t.system.0 n at t home stands))
+      ((ranked t.system.0 n t r at home wide stands).carried m k p there star)
+
+  of_entry : in_entry deck.entries entry.0 r ≡ true
+  of_entry = entry-same entry.0 (entry_of_res deck.entries r) entry.1
+
+  same-under : list_of (under deck.entries entry.0 (all_lists w)) r ≡ listed
+  same-under = list-under deck.entries entry.0 (all_lists w) r of_entry
+
+  rising : rises (map (λ (x : Elem). rank_of x.task) listed) ≡ true
+  rising = by-word (manager_at w.medium.words entry.0) refl
+    where
+      by-items : (p : StarPart) → ((t : TaskId) → has_task listed t ≡ true → CarriesRank r t (rank_of t) p.manager)
+          → AreWellKept p.manager → (o : Option Managed) → managed_at p.manager entry.0 ≡ o
+          → list_of (plain (items_of o)) r ≡ listed → rises (map (λ (x : Elem). rank_of x.task) listed) ≡ true
+      by-items p carries well None found same =
+          subst (λ (xs : List Elem). rises (map (λ (x : Elem). rank_of x.task) xs) ≡ true) same refl
+      by-items p carries well (Some m) found same =
+          subst (λ (xs : List Elem). rises (map (λ (x : Elem). rank_of x.task) xs) ≡ true) same
+          (rises-on r rank_of m.items ((well entry.0 m found).ranked).rising
+          (each-on r rank_of m.items (λ t stands.
+          subst (λ (o : Option Managed). all_at (has_this_rank r t (rank_of t)) o ≡ true) found
+          (all-at (all_at (has_this_rank r t (rank_of t))) p.manager.entries entry.0
+          (carries t (ap (λ xs. has_task xs t) (sym same) ∙ stands)) refl))))
+
+      by-manager : (m : SysId) → manager_at w.medium.words entry.0 ≡ Some m
+          → rises (map (λ (x : Elem). rank_of x.task) listed) ≡ true
+      by-manager m managed =
+          let manages_it = manager-here w.medium.words entry.0 m managed in
+          let live = manager-live deck w g.roles entry.0 m.0 manages_it in
+          let n : NodeState = get_or w.nodes m.0 (first_node deck 0) in
+          let at : Site w m.0 n = live-site w m.0 (first_node deck 0) live in
+          let k : IsMember deck w.medium.words (all_lists w) m.0 n = g.roles.node m.0 n at in
+          by-items k.part (λ t stands. carried m.0 n k.part at k.star t stands) k.fits.well
+          (managed_at (k.part).manager entry.0) refl
+          ((k.fits.lists entry.0 (k.fits.roles entry.0 ∙ manages_it)).lists r ∙ same-under)
+
+      by-word : (o : Option SysId) → manager_at w.medium.words entry.0 ≡ o
+          → rises (map (λ (x : Elem). rank_of x.task) listed) ≡ true
+      by-word None none =
+          subst (λ (xs : List Elem). rises (map (λ (x : Elem). rank_of x.task) xs) ≡ true)
+          (ap (λ z. list_of z r) (sym (g.roles.free entry.0 none)) ∙ same-under) refl
+      by-word (Some m) managed = by-manager m managed
+
+  -- ---- So together, as these systems are the live ones.
+  module _ (ns : List NodeState)
+      (same : (s : ℕ) (n : NodeState) → slice_get ns s ≡ Some n → has w.medium.removed s ≡ false
+      → slice_get w.nodes s ≡ Some n)
+      (count : length ns ≡ length w.nodes) where
+    abbrev names : List TaskId
+    names = live_names deck w.medium.removed 0 ns
+
+    shown-these : HaveThese r rank_of listed names (shown_from deck w r 0 ns)
+    shown-these = shown-have r rank_of listed deck w 0 ns each
+      where
+        by-star : (s : ℕ) (n : NodeState) (p : StarPart) → n.star ≡ Some p
+            → HaveThese r rank_of listed (names_of deck s) (on_record deck (later_of s n) r)
+            → HaveThese r rank_of listed (names_of deck s) (on_record deck (caught_up deck w (record { 0 = s }) n) r)
+        by-star s n p star these =
+            subst
+            (λ (o : Option StarPart).
+            HaveThese r rank_of listed (names_of deck s)
+            (on_record deck (taking deck (once_changed deck w (record { 0 = s }) n o) (inbox w.medium s)) r))
+            (sym star) these
+
+        one-shown : (s : ℕ) (n : NodeState) → slice_get ns s ≡ Some n → has w.medium.removed s ≡ false
+            → HaveThese r rank_of listed (names_of deck s) (on_record deck (caught_up deck w (record { 0 = s }) n) r)
+        one-shown s n found alive =
+            let at : Site w s n = at_site (same s n found alive) alive in
+            by-star s n (me s n at).part (me s n at).star (has-these s n at)
+
+        each : (k : ℕ) (n : NodeState) → slice_get ns k ≡ Some n → has w.medium.removed (0 + k) ≡ false →
+            HaveThese r rank_of listed (names_of deck (0 + k))
+            (on_record deck (caught_up deck w (record { 0 = 0 + k }) n) r)
+        each k n found alive =
+            subst
+            (λ i.
+            HaveThese r rank_of listed (names_of deck i) (on_record deck (caught_up deck w (record { 0 = i }) n) r))
+            (sym (zero_plus k))
+            (one-shown k n found (subst (λ i. has w.medium.removed i ≡ false) (zero_plus k) alive))
+
+    all-named : list_all (λ x. is_among x.task names) listed ≡ true
+    all-named = each-task (λ t. is_among t names) listed named
+      where
+        named : (t : TaskId) → has_task listed t ≡ true → is_among t names ≡ true
+        named t stands =
+            let s : ℕ = t.system.0 in
+            let below = live-below w s (element-live t stands) in
+            live-named deck w.medium.removed 0 ns s (get_or ns s (first_node deck 0)) t
+            (slice_get-get_or ns s (first_node deck 0) (subst (λ i. s < i) (sym count) below.0))
+            (subst (λ i. has w.medium.removed i ≡ false) (sym (zero_plus s)) below.1)
+            (subst (λ i. is_among t (names_of deck i) ≡ true) (sym (zero_plus s))
+            (home-named deck s t (element-home t stands)))
+
+    pub shown-listed : map elem_of (by_rank (shown_from deck w r 0 ns)) ≡ listed
+    shown-listed =
+        by_rank-is r rank_of (shown_from deck w r 0 ns) listed shown-these.ranked rising
+        (subst (λ (xs : List Elem). IsPermutation xs listed) (sym shown-these.elems)
+        (IsPermutation-sym listed (of_tasks names listed)
+        (by-tasks names listed (live-apart deck w.medium.removed 0 ns) all-named)))

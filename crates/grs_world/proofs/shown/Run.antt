@@ -1,0 +1,88 @@
+-- So it is in every run that begins in star mode and removes none.
+use Rattle.grs_world.proofs.Common.{[], ◌++◌, ◌+◌, ◌∙◌, ◌∷◌, ◌≡◌, ap, cond, Deck, Event, false, FitsStar, has, inbox}
+use Rattle.grs_world.proofs.Common.{is_systems, items, items_are_history, List, list_of, lists, map, may_be_star}
+use Rattle.grs_world.proofs.Common.{no_truth, NodeState, None, NoneInStar, Option, PartRec, places, refl, replay}
+use Rattle.grs_world.proofs.Common.{replayed, Res, run, same_Some, slice_get, Some, StarPart, sym, SysId, TaskId, true}
+use Rattle.grs_world.proofs.Common.{World, ℕ}
+use Rattle.contention_mgr.specs.Installs.{elem_of}
+use Rattle.system_purge.specs.Gather.{by_rank}
+use Rattle.grs_wire.specs.Decks.{IsBounded}
+use Rattle.grs_world.proofs.at_rest.Ranked.{HasRanks, ranked_run}
+use Rattle.grs_world.proofs.at_rest.Restful.{IsRestful, had_of, sent-star, sent_in, sent_of}
+use Rattle.grs_world.proofs.at_rest.StarRun.{restful_run}
+use Rattle.grs_world.proofs.at_rest.View.{node-of, shown-star, view-of}
+use Rattle.grs_world.proofs.shown.Lists.{shown-listed}
+use Rattle.grs_world.proofs.move.Changing.{IsChanging}
+use Rattle.grs_world.proofs.move.Sound.{GoodRun, every_run, in_ring, in_star}
+use Rattle.grs_world.proofs.run.Site.{Site}
+use Rattle.grs_world.proofs.star.Heard.{sent_by}
+use Rattle.grs_world.specs.Kept.{caught_up, on_record, once_changed, shown_from, shown_list, ShownArePlaces, taking}
+
+-- What is shown of systems goes by the medium alone.
+once-same : (deck : Deck) (w : World) (V : List NodeState) (s : SysId) (n : NodeState) (o : Option StarPart)
+    → once_changed deck (record w { nodes = V }) s n o ≡ once_changed deck w s n o
+once-same deck w V s n None = refl
+once-same deck w V s n (Some p) = refl
+
+from-same : (deck : Deck) (w : World) (V : List NodeState) (r : Res) (s : ℕ) (ns : List NodeState)
+    → shown_from deck (record w { nodes = V }) r s ns ≡ shown_from deck w r s ns
+from-same deck w V r s [] = refl
+from-same deck w V r s (n ∷ ns) =
+    ap
+    (λ (k : NodeState).
+    cond (has w.medium.removed s) [] (on_record deck (taking deck k (inbox w.medium s)) r)
+    ++ shown_from deck (record w { nodes = V }) r (s + 1) ns)
+    (once-same deck w V (record { 0 = s }) n n.star)
+    ∙ ap
+    (λ (ys : List PartRec).
+    cond (has w.medium.removed s) [] (on_record deck (caught_up deck w (record { 0 = s }) n) r) ++ ys)
+    (from-same deck w V r (s + 1) ns)
+
+module _ (deck : Deck) (w : World) (g : IsChanging deck w) (rest : IsRestful deck w) (ranks : HasRanks deck w) where
+  abbrev shown : World
+  shown = record w { nodes = g.view }
+
+  -- who has changed is shown as it is
+  stands : (s : ℕ) (n : NodeState) → slice_get w.nodes s ≡ Some n → has w.medium.removed s ≡ false
+      → slice_get g.view s ≡ Some n
+  stands s n at alive = go n.star refl
+    where
+      go : (o : Option StarPart) → n.star ≡ o → slice_get g.view s ≡ Some n
+      go None alone = absurd (ranks.all s n at alive alone)
+      go (Some p) star =
+          view-of deck w g s n at alive
+          ∙ ap (λ (z : NodeState). Some z) (shown-star deck w.medium.message.entries s n p star)
+
+  -- and has sent what it sent
+  as-sent : (s : ℕ) (n : NodeState) (t : TaskId) → Site shown s n → sent_by n t ≡ true → sent_of w.nodes s t ≡ true
+  as-sent s k t at e =
+      let found = node-of deck w g s k at.at at.live in by-star found.0 found.1 (found.0).star refl
+    where
+      by-star : (n : NodeState) → slice_get w.nodes s ≡ Some n → (o : Option StarPart) → n.star ≡ o
+          → sent_of w.nodes s t ≡ true
+      by-star n there None alone = absurd (ranks.all s n there at.live alone)
+      by-star n there (Some p) star =
+          let same : k ≡ n = same_Some k n (sym at.at ∙ stands s n there at.live) in
+          ap (λ (o : Option NodeState). sent_in o t) there
+          ∙ (sent-star n p t star ∙ (ap (λ (z : NodeState). sent_by z t) (sym same) ∙ e))
+
+  pub listed-shown : (r : Res) → is_systems r ≡ true → shown_list deck w r ≡ list_of (lists (items w.fixed)) r
+  listed-shown r wide =
+      ap (λ (ys : List PartRec). map elem_of (by_rank ys)) (sym (from-same deck w g.view r 0 w.nodes))
+      ∙ shown-listed deck shown g.whole (sent_of w.nodes) (had_of deck w.medium.message.entries w.nodes) (rest.heard g)
+      (ranks.shown g) as-sent r wide w.nodes stands (g.count ∙ sym g.whole.roles.systems)
+
+pub shown_places : (deck : Deck) → IsBounded deck → deck.star ≡ true → (es : List Event) → NoneInStar deck es
+    → ShownArePlaces deck es
+shown_places deck bounds star es none r wide = by_run (every_run deck fits es none)
+  where
+    fits : may_be_star deck ≡ true → FitsStar deck
+    fits h = record { few = bounds.fits.few; entries = bounds.entries }
+
+    by_run : GoodRun deck es (run deck es) → shown_list deck (run deck es) r ≡ places deck es r
+    by_run (in_ring begins ring g d) = no_truth deck.star star begins
+    by_run (in_star f g told d) =
+        let ranks = ranked_run deck bounds star es none in
+        listed-shown deck (run deck es) g (restful_run deck bounds es none ranks.mode) ranks r wide
+        ∙ (ap (λ z. list_of z r) (replayed deck (items (run deck es).fixed) g.whole.right)
+        ∙ ap (λ z. list_of (replay deck.limit z) r) (items_are_history (run deck es).fixed).0)
