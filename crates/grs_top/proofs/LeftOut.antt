@@ -1,6 +1,7 @@
 -- Events that come to nothing, and worlds that differ by such events.
 use Rattle.std.proofs.Common.{◌≡◌, ℕ, Bool, true, false, cond, List, [], ◌∷◌, ◌++◌, Option, Some, None, refl, ap, sym}
 use Rattle.std.proofs.Common.{◌∙◌}
+use Rattle.std.proofs.Common.{◌<◌, ◌+◌, length, drop, zero, suc, arith, slice_index_or}
 use Rattle.std.proofs.Common.{append-nil}
 use Rattle.std.specs.Prelude.{◌&&◌, ◌||◌, not, slice_get, set}
 use Rattle.std.specs.List.{list_any}
@@ -26,6 +27,7 @@ use Rattle.grs_wire.specs.declared.request.Fixed.{Fixed}
 use Rattle.grs_wire.specs.declared.request.Req.{Req}
 use Rattle.grs_world.specs.World.{World, chosen, carry_out, idle as unchanged, placed, counted, happens_at, happens}
 use Rattle.grs_world.specs.World.{run_from}
+use Rattle.grs_world.proofs.code.Happens.{run_from-more}
 use Rattle.task_state.specs.View.{is_task, state_of}
 use Rattle.task_state.specs.declared.state.Phase.{Phase}
 use Rattle.task_state.specs.declared.state.Phase.TheVariants as phases
@@ -62,6 +64,21 @@ pub same-run : (deck : Deck) (w v : World) (es : List Event) → lasting w ≡ l
     → lasting (run_from deck w es) ≡ lasting (run_from deck v es)
 same-run deck w v [] same = same
 same-run deck w v (e ∷ es) same = same-run deck (happens deck w e) (happens deck v e) es (same-step deck w v e same)
+
+-- what stands at a place of a list stands there whatever is given past its end
+in-range : (es : List Event) (i : ℕ) (d x : Event) → i < length es → slice_index_or es i d ≡ slice_index_or es i x
+in-range [] i d x inside = absurd (omega (arith, inside))
+in-range (e ∷ es) zero d x inside = refl
+in-range (e ∷ es) (suc i) d x inside = in-range es i d x (omega (arith, inside))
+
+-- behind the event at a place, what lasts is as if all from there on had happened
+pub led-on : (deck k : Deck) (w v : World) (es : List Event) (i : ℕ) (d : Event) → i < length es → k ≡ deck
+    → lasting v ≡ lasting (happens k w (slice_index_or es i d))
+    → lasting (run_from deck v (drop (i + 1) es)) ≡ lasting (run_from deck w (drop i es))
+led-on deck k w v es i d inside same led =
+    let e : Event = slice_index_or es i d in
+    same-run deck v (happens deck w e) (drop (i + 1) es) (led ∙ ap (λ (x : Deck). lasting (happens x w e)) same)
+    ∙ ap lasting (sym (run_from-more deck w es i e inside (in-range es i d e inside)))
 
 -- what lasts of a world with these systems and what was fixed
 abbrev lasting_with : World → List NodeState → List (SysId × Fixed) → World
