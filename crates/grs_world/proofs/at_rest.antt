@@ -20,11 +20,11 @@ pub mod View
 pub mod Alike
 pub mod Reads
 pub mod Restful
+pub mod RestfulLate
 pub mod Waiting
 pub mod Loaded
 pub mod Switching
 pub mod StarRun
-pub mod Ranked
 pub mod StarEnd
 pub mod Full
 pub mod Sized

@@ -1,5 +1,6 @@
 -- The run of a complex that changes from ring to star mode.
 pub mod Ranks
+pub mod TableRanks
 pub mod Parts
 pub mod Changing
 pub mod Star

@@ -1,20 +1,25 @@
 -- What is still to be heard is the same where two worlds show the same of their live systems.
 use Rattle.grs_world.proofs.Common.{◌∙◌, ◌≡◌, ◌≤◌, ◌⊎◌, ap, arith, askers, Bool, Deck, false, has, has_res, has_task}
-use Rattle.grs_world.proofs.Common.{inbox, inl, inr, is_among, is_home_at, is_systems, items, list_any, list_of, lists}
-use Rattle.grs_world.proofs.Common.{NodeState, owns, refl, Res, slice_get, Some, state_of, subst, sym, TaskId, true}
-use Rattle.grs_world.proofs.Common.{World, ℕ}
+use Rattle.grs_world.proofs.Common.{inbox, inl, inr, is_among, is_home_at, is_systems, items, List, list_any, list_of}
+use Rattle.grs_world.proofs.Common.{lists, Mail, NodeState, owns, refl, Res, slice_get, Some, state_of, subst, sym}
+use Rattle.grs_world.proofs.Common.{TaskId, true, World, ℕ}
 use Rattle.grs_world.proofs.star.Heard.{AreAddressed, IsHeard, IsInHands, IsUntold, enq_count, hears, is_timely}
 use Rattle.grs_world.proofs.star.Members.{all_lists}
+use Rattle.grs_world.proofs.star.hearing.Ranks.{HaveRank}
+use Rattle.grs_world.proofs.star.ranks.Ranked.{AreShown, HasShown}
+use Rattle.grs_world.proofs.star.ranks.Shows.{Shows}
 use Rattle.grs_world.proofs.star.Worlds.{in_hands}
 use Rattle.grs_world.proofs.run.Site.{at_site}
 
--- a system stood like this, with the same part and the same on record
+-- a system stood like this, with the same part and the same on record, by the same ranks
 pub record IsBack (deck : Deck) (w : World) (s : ℕ) (k' : NodeState) : Type 0 where
   pub node : NodeState
   pub at : slice_get w.nodes s ≡ Some node
   pub star : k'.star ≡ node.star
   pub has : (t : TaskId) (r : Res) → is_home_at deck s t ≡ true → is_systems r ≡ true
       → has_res r (state_of k'.tasks t).records ≡ has_res r (state_of node.tasks t).records
+  pub ranks : (t : TaskId) (r : Res) → is_home_at deck s t ≡ true → is_systems r ≡ true → (n : ℕ)
+      → HaveRank r n (state_of node.tasks t).records → HaveRank r n (state_of k'.tasks t).records
 
 -- the same system, with the same part
 pub record IsForth (w' : World) (s : ℕ) (k : NodeState) : Type 0 where
@@ -114,13 +119,42 @@ module _ (deck : Deck) (w w' : World) (z : SameShown deck w w') where
       by-record s k' t r b home wide (inl e) = inl (b.has t r home wide ∙ e)
       by-record s k' t r b home wide (inr e) = inr (ap (list_any (is_timely t)) (z.boxes s) ∙ e)
 
+  -- so are ranks
+  pub shown-alike : AreShown deck w → AreShown deck w'
+  shown-alike h s k' t r v home wide stands =
+      let l = was-live s v.live in
+      let b = z.back s k' v.at l in
+      let k : HasShown w s b.node t r =
+      h s b.node t r (at_site b.at l) home wide (ap (λ es. has_task es t) (sym (z.lists r wide)) ∙ stands) in
+      record {
+        rank = k.rank;
+        shown =
+            subst (λ (ms : List Mail). Shows r t k.rank (state_of k'.tasks t).records ms) (sym (z.boxes s))
+            (record {
+              ranked = b.ranks t r home wide k.rank k.shown.ranked;
+              comes = λ none. k.shown.comes (sym (b.has t r home wide) ∙ none);
+            });
+        carried = λ m x p there star.
+            let mb = z.back m x there.at (was-live m there.live) in
+            k.carried m mb.node p (at_site mb.at (was-live m there.live)) (sym mb.star ∙ star);
+      }
+    where
+      was-live : (i : ℕ) → has w'.medium.removed i ≡ false → has w.medium.removed i ≡ false
+      was-live i live = sym (ap (λ m. has m i) z.removed) ∙ live
+
 -- the same live systems stand there
 pub same-nodes : (deck : Deck) (w w' : World) → w'.medium.removed ≡ w.medium.removed
     → ((s : ℕ) → has w.medium.removed s ≡ false → slice_get w'.nodes s ≡ slice_get w.nodes s)
     → ((s : ℕ) → inbox w'.medium s ≡ inbox w.medium s) → items w'.fixed ≡ items w.fixed → SameShown deck w w'
 same-nodes deck w w' removed nodes boxes same = record {
   removed = removed;
-  back = λ s k' at live. record { node = k'; at = sym (nodes s live) ∙ at; star = refl; has = λ t r home wide. refl };
+  back = λ s k' at live. record {
+    node = k';
+    at = sym (nodes s live) ∙ at;
+    star = refl;
+    has = λ t r home wide. refl;
+    ranks = λ t r home wide n h. h;
+  };
   forth = λ s k at live. record { node = k; at = nodes s live ∙ at; star = refl };
   boxes = boxes;
   lists = λ r wide. ap (λ T. list_of (lists T) r) same;

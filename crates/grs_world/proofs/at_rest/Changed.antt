@@ -1,10 +1,20 @@
 -- A system that changes to star mode: its records get ranks, and else its tasks stand as they did.
-use Rattle.grs_world.proofs.Common.{[], ◌==◌, ◌∙◌, ◌∷◌, ◌≡◌, and_parts, ap, Bool, by_test, change_to_star, Deck, Deq}
-use Rattle.grs_world.proofs.Common.{Did, Elem, Enq, eqb-false, eqb-true, false, false_by, has_res, has_task, is_marked}
-use Rattle.grs_world.proofs.Common.{is_sent, is_systems, is_task, IsOurs, List, list_all, list_of, Look, Meaning}
-use Rattle.grs_world.proofs.Common.{NodeState, on_record, one_by_one, owns, ranked_by, RankedRow, refl, Release, Req}
-use Rattle.grs_world.proofs.Common.{Res, state_of, subst, sym, TaskId, TaskState, TasksView, ToldLine, true, Want}
-use Rattle.grs_world.proofs.Common.{with_first_look, with_list_ranks, with_rank, with_rank_by, with_ranks, ℕ}
+use Rattle.grs_world.proofs.Common.{[], ◌<◌, ◌==◌, ◌||◌, ◌∙◌, ◌∷◌, ◌≡◌, ◌≤◌, AllAsk, and_parts, ap, are_within, Bool}
+use Rattle.grs_world.proofs.Common.{by_test, change_to_star, Deck, Deq, Did, Elem, Enq, entry_of_res, eqb-false}
+use Rattle.grs_world.proofs.Common.{eqb-true, false, false_by, has_res, has_task, is_marked, is_res_of, is_sent}
+use Rattle.grs_world.proofs.Common.{is_some, is_systems, is_task, is_task-system, IsOurs, length, lines_of, List}
+use Rattle.grs_world.proofs.Common.{list_all, list_of, lists, Look, Meaning, most_systems, NodeState, on_record}
+use Rattle.grs_world.proofs.Common.{one_by_one, owns, ranked_by, RankedRow, refl, Release, Req, Res, RunItem}
+use Rattle.grs_world.proofs.Common.{same_place, same_task-exact, Some, some_of, state_of, subst, sym, TaskId, TaskState}
+use Rattle.grs_world.proofs.Common.{TasksView, ToldLine, true, Want, with_first_look, with_list_ranks, with_rank}
+use Rattle.grs_world.proofs.Common.{with_rank_by, with_ranks, ℕ}
+use Rattle.grs_base.specs.Lists.{is_apart}
+use Rattle.grs_world.proofs.move.TableRanks.{table-gives, table_rank}
+use Rattle.grs_world.proofs.star.hearing.Ranks.{HaveRank}
+use Rattle.grs_known.proofs.known.Histories.{has-may}
+use Rattle.grs_world.proofs.move.Begin.{front-within, more-within}
+use Rattle.grs_world.proofs.star.Shown.{apart-lists}
+use Rattle.grs_world.proofs.star.Under.{wide-entry}
 use Rattle.grs_world.proofs.at_rest.Events.{date-any, date-one_by_one, date-ranks, did-first, here-all, here-look}
 use Rattle.grs_world.proofs.at_rest.Ring.{IsRead}
 use Rattle.grs_world.proofs.at_rest.StarTasks.{IsDated, at-place, dated-by}
@@ -140,6 +150,42 @@ module _ (deck : Deck) (s : ℕ) (m : NodeState) (box : list_all (λ q. is_task 
   change-own : (change_to_star deck m).own ≡ m.own
   unfolding change_to_star
   change-own = refl
+
+  -- each element of a task has the table's rank on record
+  pub change-ranks : (some : 0 < deck.entries) → are_within most_systems m.shared ≡ true → (r : Res) (e : ℕ)
+      → entry_of_res deck.entries r ≡ Some e → is_apart (list_of m.shared r) ≡ true → (t : TaskId)
+      → is_task m.tasks t ≡ true → has_task (list_of m.shared r) t ≡ true
+      → ((u : TaskId) → has_task (list_of m.shared r) u ≡ true → is_task m.tasks u ≡ true → u.task ≡ t.task → u ≡ t)
+      → HaveRank r (table_rank deck.entries m.shared e r t) (state_of (change_to_star deck m).tasks t).records
+  unfolding change_to_star
+  change-ranks some few r e of apart t here stands alone =
+      let same = same-one_by_one m.tasks m.outbox box in
+      table-gives deck.entries some m.shared few r e of apart t (one_by_one m.tasks m.outbox) (same.here t ∙ here)
+      stands (λ u has at place. alone u has (sym (same.here u) ∙ at) place)
+
+  -- So it is where the table is that of a front of the history.
+  module _ (some : 0 < deck.entries) (few : length deck.systems ≤ most_systems) (before : List RunItem)
+      (shared : m.shared ≡ lists before) (asks : AllAsk deck before) (system : m.tasks.system ≡ s) (t : TaskId)
+      (ls : List Meaning) (ours : IsOurs deck s m.tasks t ls) (r : Res) (wide : is_systems r ≡ true) where
+    alone : (u : TaskId) → has_task (list_of m.shared r) u ≡ true → is_task m.tasks u ≡ true → u.task ≡ t.task → u ≡ t
+    alone u stands here place =
+        let may =
+        and_parts (is_some (lines_of deck u)) (is_systems r || is_res_of u.system.0 r)
+        (has-may deck before r u asks (ap (λ z. has_task (list_of z r) u) (sym shared) ∙ stands)) in
+        let found = some_of (lines_of deck u) may.0 in
+        let mine : IsOurs deck s m.tasks u found.0 =
+        record { lines = found.1; home = sym (is_task-system m.tasks u here) ∙ system; here = here } in
+        same_task-exact u t (same_place deck s m.tasks u t found.0 ls mine ours place)
+
+    pub home-ranks : has_task (list_of m.shared r) t ≡ true →
+        HaveRank r (table_rank deck.entries m.shared (wide-entry deck.entries r wide).0 r t)
+        (state_of (change_to_star deck m).tasks t).records
+    home-ranks stands =
+        change-ranks some
+        (subst (λ z. are_within most_systems z ≡ true) (sym shared)
+        (more-within (length deck.systems) most_systems few (lists before) (front-within deck before asks)))
+        r (wide-entry deck.entries r wide).0 (wide-entry deck.entries r wide).1
+        (ap (λ z. is_apart (list_of z r)) shared ∙ apart-lists before r) t ours.here stands alone
 
   module _ (h : IsRead deck s m []) where
     pub change-dated : IsDated deck s (change_to_star deck m)

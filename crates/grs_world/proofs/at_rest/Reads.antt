@@ -1,12 +1,14 @@
 -- What a system comes to by what it has still to process: its table goes by the table that it had, and what others
 -- process of the message leaves it.
-use Rattle.grs_world.proofs.Common.{[], ◌++◌, ◌==◌, ◌∙◌, ◌∷◌, ◌≡◌, ◌≢◌, after_want, ap, Bool, cleared, cond, Deck}
-use Rattle.grs_world.proofs.Common.{eqb-true, false, filter, has, has-with_other, has-without_other, has-zero}
-use Rattle.grs_world.proofs.Common.{is_for_all, is_home_at, is_of_deck, is_task, is_unseen, IsOurs, items, left_by}
-use Rattle.grs_world.proofs.Common.{List, list_all, map, Meaning, no_truth, NodeState, None, not, own_requests, process}
-use Rattle.grs_world.proofs.Common.{process_entry, read_entries, read_entry, refl, Remove, remove_state, Request}
-use Rattle.grs_world.proofs.Common.{res_wanted, RingBody, RingEntry, rounds, side_of, slice_get, Some, subst, sym}
-use Rattle.grs_world.proofs.Common.{SysId, TaskId, true, unseen, with_side, World, ℕ}
+use Rattle.grs_world.proofs.Common.{[], ◌++◌, ◌==◌, ◌∙◌, ◌∷◌, ◌≡◌, ◌≢◌, after_want, AllAsk, ap, append_assoc, Bool}
+use Rattle.grs_world.proofs.Common.{cleared, cond, Deck, eqb-true, false, filter, has, has-with_other}
+use Rattle.grs_world.proofs.Common.{has-without_other, has-zero, is_for_all, is_home_at, is_of_deck, is_task, is_unseen}
+use Rattle.grs_world.proofs.Common.{IsOurs, items, left_by, List, list_all, map, Meaning, no_truth, NodeState, None}
+use Rattle.grs_world.proofs.Common.{not, own_requests, process, process_entry, read_entries, read_entry, refl, Remove}
+use Rattle.grs_world.proofs.Common.{remove_state, Request, res_wanted, RingBody, RingEntry, rounds, side_of, slice_get}
+use Rattle.grs_world.proofs.Common.{Some, subst, sym, SysId, TaskId, true, unseen, with_side, World, ℕ}
+use Rattle.grs_known.proofs.known.Histories.{asks-front}
+use Rattle.grs_world.proofs.run.Growing.{asks-rounds}
 use Rattle.grs_wire.specs.Masks.{only}
 use Rattle.grs_world.proofs.move.Changing.{IsChanging, view-read}
 use Rattle.grs_world.proofs.move.Moved.{alive as lives-on}
@@ -105,6 +107,13 @@ module _ (deck : Deck) (w : World) (g : IsChanging deck w) (s : ℕ) (n : NodeSt
   read-seen =
       subst (Seen deck s (items w.fixed) (g.before s ++ g.due s) g.since []) (sym read-is)
       (view-read deck s (items w.fixed) (g.before s) (g.due s) g.since g.whole.right whole n z.waits).seen
+
+  -- what it has processed then is a front of what goes round
+  pub read-asks : AllAsk deck (g.before s ++ g.due s)
+  read-asks =
+      asks-front deck (g.before s ++ g.due s) g.since
+      (subst (AllAsk deck) (whole ∙ sym (append_assoc (g.before s) (g.due s) g.since))
+      (asks-rounds deck (items w.fixed) g.whole.right.asks))
 
   pub read-box :
       list_all (λ q. is_task (read_by deck w.medium.message.entries s n).tasks q.task)

@@ -1,32 +1,26 @@
 -- What holds of a run from the change of the medium on, so that nothing is lost where it ends at rest.
-use Rattle.grs_world.proofs.Common.{[], ◌++◌, ◌<◌, ◌==◌, ◌∙◌, ◌≡◌, ◌≢◌, ◌≤◌, ap, append-nil, askers, Bool}
-use Rattle.grs_world.proofs.Common.{change_to_star, Choice, chosen, cleared, cond, counted, Deck, eqb-false, eqb-true}
-use Rattle.grs_world.proofs.Common.{false, Fixed, fixed_by, has, has-without_other, has_res, has_task, is_among}
-use Rattle.grs_world.proofs.Common.{is_home_at, is_none, is_systems, is_task, items, last_number, length-set, List}
-use Rattle.grs_world.proofs.Common.{list_all, list_of, lists, Message, most_systems, no_truth, NodeState, None, only}
-use Rattle.grs_world.proofs.Common.{Option, owns, part_by_table, placed, refl, Res, RingEntry, same_Some, set}
-use Rattle.grs_world.proofs.Common.{slice_get, slice_get-set, slice_get-set_other, Some, star-changed, StarPart}
-use Rattle.grs_world.proofs.Common.{state_of, subst, sym, SysId, TaskId, true, turned_closed, Turnout, World, ℕ}
+use Rattle.grs_world.proofs.Common.{◌++◌, ◌<◌, ◌∙◌, ◌≡◌, ◌≤◌, ap, Bool, Choice, chosen, cond, counted, Deck, false}
+use Rattle.grs_world.proofs.Common.{fixed_by, has, is_none, items, last_number, length-set, List, list_of, Message}
+use Rattle.grs_world.proofs.Common.{most_systems, NodeState, None, Option, owns, placed, refl, Res, RingEntry, set}
+use Rattle.grs_world.proofs.Common.{slice_get, slice_get-set, slice_get-set_other, Some, StarPart, subst, sym, SysId}
+use Rattle.grs_world.proofs.Common.{TaskId, true, Turnout, World, ℕ}
 use Rattle.grs_known.proofs.lists.Placed.{put_one}
 use Rattle.grs_world.proofs.run.Came.{ChoiceRemovesNone}
 use Rattle.grs_world.proofs.run.Knowing.{KnowsRemoved}
 use Rattle.grs_world.proofs.run.Removals.{GoneAreRemoved}
 use Rattle.grs_world.proofs.star.Usual.{usual}
 use Rattle.grs_world.proofs.move.Changing.{IsChanging}
-use Rattle.grs_world.proofs.at_rest.Alike.{IsBack, IsForth, SameShown, heard-alike, same-nodes}
-use Rattle.grs_world.proofs.at_rest.Changed.{change-dated, change-had, change-has, change-unsent}
-use Rattle.grs_world.proofs.at_rest.Reads.{read-box, read-cleared, read-due, read-home, read-seen, shared-read}
+use Rattle.grs_world.proofs.at_rest.Alike.{SameShown, heard-alike, same-nodes, shown-alike}
 use Rattle.grs_world.proofs.at_rest.Ring.{IsRead}
-use Rattle.grs_world.proofs.at_rest.RingRun.{read-more, still_of}
+use Rattle.grs_world.proofs.at_rest.RingRun.{still_of}
 use Rattle.grs_world.proofs.at_rest.StarTasks.{IsDated}
-use Rattle.grs_world.proofs.at_rest.Unseen.{waits-elsewhere}
-use Rattle.grs_world.proofs.at_rest.View.{read_by, shown-star, shown-waits, shown_at, system_of, view-is, view-of}
-use Rattle.grs_world.proofs.run.Placed.{by_node, by_set}
+use Rattle.grs_world.proofs.at_rest.View.{read_by, shown-star, shown_at, view-is, view-of}
+use Rattle.grs_world.proofs.run.Placed.{by_node}
 use Rattle.grs_world.proofs.star.Events.{good_choice}
 use Rattle.grs_world.proofs.star.Heard.{IsHeard, enq_count, had_by, had_with, sent_by, sent_with}
 use Rattle.grs_world.proofs.star.Members.{IsStep}
 use Rattle.grs_world.proofs.star.Sound.{outcome}
-use Rattle.grs_world.proofs.star.ranks.Ranked.{AreShown, shown-same}
+use Rattle.grs_world.proofs.star.ranks.Ranked.{AreShown}
 use Rattle.grs_world.proofs.star.steps.Outcome.{IsOutcome}
 use Rattle.grs_world.proofs.run.Site.{at_site}
 
@@ -54,6 +48,7 @@ pub record IsRestful (deck : Deck) (w : World) : Type 0 where
       → IsRead deck s n (still_of s w.medium.message.entries)
   pub heard : (g : IsChanging deck w)
       → IsHeard deck (record w { nodes = g.view }) (sent_of w.nodes) (had_of deck w.medium.message.entries w.nodes)
+  pub ranked : (g : IsChanging deck w) → AreShown deck (record w { nodes = g.view })
 
 -- what a system has sent and was told, in star mode and before
 pub sent-star : (n : NodeState) (p : StarPart) (t : TaskId) → n.star ≡ Some p → sent_in (Some n) t ≡ sent_by n t
@@ -79,15 +74,21 @@ restful-counted deck w g h = record {
   dated = h.dated;
   still = h.still;
   read = h.read;
-  heard = λ g'. heard-alike deck (record w { nodes = g.view }) (record (counted w) { nodes = g'.view })
-      (same-nodes deck (record w { nodes = g.view }) (record (counted w) { nodes = g'.view }) refl
-      (λ s l.
-      sym (view-is deck (counted w) g' g.view (g.whole.roles.systems ∙ sym g.count)
-      (λ u n at live. view-of deck w g u n at live) s l))
-      (λ s. refl) refl)
+  heard = λ g'. heard-alike deck (record w { nodes = g.view }) (record (counted w) { nodes = g'.view }) (same g')
       (sent_of w.nodes) (sent_of w.nodes) (had_of deck w.medium.message.entries w.nodes)
       (had_of deck w.medium.message.entries w.nodes) (λ s t l home e. e) (λ s k t r f l home wide e. e) (h.heard g);
+  ranked = λ g'.
+      shown-alike deck (record w { nodes = g.view }) (record (counted w) { nodes = g'.view }) (same g') (h.ranked g);
 }
+  where
+    same : (g' : IsChanging deck (counted w))
+        → SameShown deck (record w { nodes = g.view }) (record (counted w) { nodes = g'.view })
+    same g' =
+        same-nodes deck (record w { nodes = g.view }) (record (counted w) { nodes = g'.view }) refl
+        (λ s l.
+        sym (view-is deck (counted w) g' g.view (g.whole.roles.systems ∙ sym g.count)
+        (λ u n at live. view-of deck w g u n at live) s l))
+        (λ s. refl) refl
 
 module _ (deck : Deck) (w : World) (g : IsChanging deck w) (h : IsRestful deck w) (c : SysId) (n : NodeState)
     (at : slice_get w.nodes c.0 ≡ Some n) (alive : has w.medium.removed c.0 ≡ false) where
@@ -198,27 +199,11 @@ module _ (deck : Deck) (w : World) (g : IsChanging deck w) (h : IsRestful deck w
         (λ s k t r f l home wide e. had-before s t r e) (h.heard g)
 
     -- ranks stay
-    pub ranked-star : AreShown deck shown → (g' : IsChanging deck (placed w c n o))
-        → AreShown deck (record (placed w c n o) { nodes = g'.view })
+    ranked-star : (g' : IsChanging deck (placed w c n o)) → AreShown deck (record (placed w c n o) { nodes = g'.view })
     unfolding placed
-    ranked-star ranked g' =
-        shown-same deck (placed shown c n o) (record (placed w c n o) { nodes = g'.view }) refl
-        (λ s l. sym (view-star g' s l)) (λ s. refl) refl
-        (out.ranked out.stays.whole (sent_with S c n) (had_with H c n) before ranked)
-
-    -- and so do the mode, and that all have changed
-    pub mode-star : (placed w c n o).medium.star ≡ true
-    unfolding placed
-    mode-star = step.mode
-
-    pub all-star :
-        ((s : ℕ) (z : NodeState) → slice_get w.nodes s ≡ Some z → has w.medium.removed s ≡ false → z.star ≡ None → ⊥)
-        → (s : ℕ) (z : NodeState) → slice_get (placed w c n o).nodes s ≡ Some z
-        → has (placed w c n o).medium.removed s ≡ false → z.star ≡ None → ⊥
-    unfolding placed
-    all-star all =
-        by_node w.nodes c.0 n o.step.node at (λ u z. has o.medium.removed u ≡ false → z.star ≡ None → ⊥)
-        (λ l none. changed none) (λ u m ne f l none. all u m f (was-live u l) none)
+    ranked-star g' =
+        shown-alike deck (placed shown c n o) (record (placed w c n o) { nodes = g'.view }) (same-star g')
+        (out.ranked out.stays.whole (sent_with S c n) (had_with H c n) before (h.ranked g))
 
     module _ (few : enq_count (items (w.fixed ++ fixed_by c (chosen deck w.medium c n choice).step.fixed))
         ≤ last_number) where
@@ -251,301 +236,5 @@ module _ (deck : Deck) (w : World) (g : IsChanging deck w) (h : IsRestful deck w
             subst (λ (x : Message). IsRead deck u m (still_of u x.entries)) (sym step.message)
             (h.read u m f (was-live u l) none));
         heard = heard-star;
-      }
-
-  -- ---- an event of a system that waits to change
-  module _ (alone : n.star ≡ None) where
-    -- what is shown of it goes by its table then
-    shown-part :
-        (v : World) (f : IsChanging deck v) (k : NodeState) (here : slice_get v.nodes c.0 ≡ Some k)
-        (l : has v.medium.removed c.0 ≡ false) (free : k.star ≡ None)
-        → (shown_at deck v.medium.message.entries c.0 k).star
-        ≡ Some (part_by_table deck.entries (system_of c.0) (read_by deck v.medium.message.entries c.0 k).shared)
-    shown-part v f k here l free =
-        ap (λ (z : NodeState). z.star) (shown-waits deck v.medium.message.entries c.0 k free)
-        ∙ (star-changed deck (read_by deck v.medium.message.entries c.0 k)
-        ∙ ap (λ (i : ℕ).
-        Some (part_by_table deck.entries (system_of i) (read_by deck v.medium.message.entries c.0 k).shared))
-        (read-seen deck v f c.0 k here l free).good.system)
-
-    shown-has :
-        (v : World) (f : IsChanging deck v) (k : NodeState) (here : slice_get v.nodes c.0 ≡ Some k)
-        (l : has v.medium.removed c.0 ≡ false) (free : k.star ≡ None)
-        → IsRead deck c.0 k (still_of c.0 v.medium.message.entries) → (t : TaskId) (r : Res)
-        → is_home_at deck c.0 t ≡ true → is_systems r ≡ true →
-        has_res r (state_of (shown_at deck v.medium.message.entries c.0 k).tasks t).records
-        ≡ has_task (list_of (read_by deck v.medium.message.entries c.0 k).shared r) t
-    shown-has v f k here l free rd t r home wide =
-        let ours = read-home deck v f c.0 k here l free t home in
-        ap (λ (z : NodeState). has_res r (state_of z.tasks t).records)
-        (shown-waits deck v.medium.message.entries c.0 k free)
-        ∙ change-has deck c.0 (read_by deck v.medium.message.entries c.0 k) (read-box deck v f c.0 k here l free)
-        (read-due deck v f c.0 k here l free rd) t ours.0 r ours.1 wide
-
-    there_waits : slice_get g.view c.0 ≡ Some (shown_at deck w.medium.message.entries c.0 n)
-    there_waits = view-of deck w g c.0 n at alive
-
-    -- it stands as k then, and fixes this
-    module _ (k : NodeState) (fs : List Fixed) (flags : ℕ) (free : k.star ≡ None) (table : k.shared ≡ n.shared)
-        (dated : IsDated deck c.0 k) (rd : IsRead deck c.0 k (still_of c.0 w.medium.message.entries))
-        (same_lists : (r : Res) → is_systems r ≡ true
-        → list_of (lists (items (w.fixed ++ fixed_by c fs))) r ≡ list_of (lists (items w.fixed)) r)
-        (count : enq_count (items w.fixed) ≤ enq_count (items (w.fixed ++ fixed_by c fs))) where
-      abbrev ow : Turnout
-      ow = record { medium = record w.medium { rest = flags }; step = record { node = k; fixed = fs } }
-
-      abbrev kn : NodeState
-      kn = shown_at deck w.medium.message.entries c.0 n
-
-      abbrev kk : NodeState
-      kk = shown_at deck w.medium.message.entries c.0 k
-
-      tables : (read_by deck w.medium.message.entries c.0 k).shared
-          ≡ (read_by deck w.medium.message.entries c.0 n).shared
-      tables = shared-read deck _ n k table
-
-      view-waits : (g' : IsChanging deck (placed w c n ow)) → (s : ℕ) → has w.medium.removed s ≡ false
-          → slice_get (set g.view c.0 kk) s ≡ slice_get g'.view s
-      unfolding placed
-      view-waits g' =
-          view-is deck (placed w c n ow) g' (set g.view c.0 kk)
-          (length-set g.view c.0 kk ∙ (g.whole.roles.systems ∙ (sym g.count ∙ sym (length-set w.nodes c.0 k))))
-          (by_node w.nodes c.0 n k at
-          (λ s z. has w.medium.removed s ≡ false → slice_get (set g.view c.0 kk) s ≡ Some (shown_at deck es s z))
-          (λ l. slice_get-set g.view c.0 kn kk there_waits)
-          (λ s m ne f l. slice_get-set_other g.view c.0 s kk ne ∙ view-of deck w g s m f l))
-
-      star-waits : (g' : IsChanging deck (placed w c n ow)) → kk.star ≡ kn.star
-      unfolding placed
-      star-waits g' =
-          shown-part (placed w c n ow) g' k (slice_get-set w.nodes c.0 n k at) alive free
-          ∙ (ap (λ x. Some (part_by_table deck.entries (system_of c.0) x)) tables
-          ∙ sym (shown-part w g n at alive alone))
-
-      has-waits : (g' : IsChanging deck (placed w c n ow)) → (t : TaskId) (r : Res) → is_home_at deck c.0 t ≡ true
-          → is_systems r ≡ true → has_res r (state_of kk.tasks t).records ≡ has_res r (state_of kn.tasks t).records
-      unfolding placed
-      has-waits g' t r home wide =
-          shown-has (placed w c n ow) g' k (slice_get-set w.nodes c.0 n k at) alive free rd t r home wide
-          ∙ (ap (λ x. has_task (list_of x r) t) tables
-          ∙ sym (shown-has w g n at alive alone (h.read c.0 n at alive alone) t r home wide))
-
-      same-waits : (g' : IsChanging deck (placed w c n ow))
-          → SameShown deck shown (record (placed w c n ow) { nodes = g'.view })
-      unfolding placed
-      same-waits g' = record {
-        removed = refl;
-        back = λ s k' f l.
-            by_node g.view c.0 kn kk there_waits (λ u z. IsBack deck shown u z)
-            (record { node = kn; at = there_waits; star = star-waits g'; has = has-waits g' })
-            (λ u z ne q. record { node = z; at = q; star = refl; has = λ t r home wide. refl }) s k'
-            (view-waits g' s l ∙ f);
-        forth = λ s m f l. forth s m f l (s == c.0) refl;
-        boxes = λ s. refl;
-        lists = same_lists;
-        count = count;
-      }
-        where
-          forth : (s : ℕ) (m : NodeState) → slice_get g.view s ≡ Some m → has w.medium.removed s ≡ false → (b : Bool)
-              → (s == c.0) ≡ b → IsForth (record (placed w c n ow) { nodes = g'.view }) s m
-          forth s m f l true e =
-              let same : s ≡ c.0 = eqb-true s c.0 e in
-              let is : kn ≡ m = same_Some kn m (sym there_waits ∙ (ap (slice_get g.view) (sym same) ∙ f)) in
-              record {
-                node = kk;
-                at =
-                    sym (view-waits g' s l)
-                    ∙ (ap (slice_get (set g.view c.0 kk)) same ∙ slice_get-set g.view c.0 kn kk there_waits);
-                star = star-waits g' ∙ ap (λ (z : NodeState). z.star) is;
-              }
-          forth s m f l false e =
-              let ne : s ≢ c.0 = eqb-false s c.0 e in record {
-                node = m;
-                at = sym (view-waits g' s l) ∙ (slice_get-set_other g.view c.0 s kk ne ∙ f);
-                star = refl;
-              }
-
-      sent-waits : (s : ℕ) (t : TaskId) → sent_of (set w.nodes c.0 k) s t ≡ true → sent_of w.nodes s t ≡ true
-      sent-waits s t =
-          by_set w.nodes c.0 n k at s (λ u z. sent_in z t ≡ true → sent_of w.nodes u t ≡ true)
-          (λ e. absurd (no_truth (sent_in (Some k) t) e (sent-ring k t free))) (λ ne e. e)
-
-      had-waits : (s : ℕ) (t : TaskId) (r : Res) → had_of deck w.medium.message.entries w.nodes s t r ≡ true
-          → had_of deck w.medium.message.entries (set w.nodes c.0 k) s t r ≡ true
-      had-waits s t r =
-          by_set w.nodes c.0 n k at s (λ u z. had_of deck es w.nodes u t r ≡ true → had_in deck es u z t r ≡ true)
-          (λ e.
-          had-ring deck es c.0 k t r free
-          ∙ (ap (λ x. owns (list_of x r) t) tables
-          ∙ (sym (had-ring deck es c.0 n t r alone) ∙ (sym (ap (λ z. had_in deck es c.0 z t r) at) ∙ e))))
-          (λ ne e. e)
-
-      heard-waits : (g' : IsChanging deck (placed w c n ow))
-          → IsHeard deck (record (placed w c n ow) { nodes = g'.view }) (sent_of (set w.nodes c.0 k))
-          (had_of deck w.medium.message.entries (set w.nodes c.0 k))
-      heard-waits g' =
-          heard-alike deck shown (record (placed w c n ow) { nodes = g'.view }) (same-waits g') S
-          (sent_of (set w.nodes c.0 k)) H (had_of deck es (set w.nodes c.0 k)) (λ s t l home e. sent-waits s t e)
-          (λ s k' t r f l home wide e. had-waits s t r e) (h.heard g)
-
-      pub restful-waits : IsRestful deck (placed w c n ow)
-      unfolding placed
-      restful-waits = record {
-        dated =
-            by_node w.nodes c.0 n k at (λ u z. has w.medium.removed u ≡ false → IsDated deck u z) (λ l. dated)
-            (λ u m ne f l. h.dated u m f l);
-        still =
-            by_node w.nodes c.0 n k at
-            (λ u z. has w.medium.removed u ≡ false → z.star ≡ None → has w.medium.message.still u ≡ true)
-            (λ l none. h.still c.0 n at l alone) (λ u m ne f l none. h.still u m f l none);
-        read =
-            by_node w.nodes c.0 n k at
-            (λ u z. has w.medium.removed u ≡ false → z.star ≡ None → IsRead deck u z (still_of u es)) (λ l none. rd)
-            (λ u m ne f l none. h.read u m f l none);
-        heard = heard-waits;
-      }
-
-    -- ---- its Turn, by which it changes
-    module _ (flags : ℕ) where
-      abbrev m : NodeState
-      m = read_by deck w.medium.message.entries c.0 n
-
-      abbrev kt : NodeState
-      kt = change_to_star deck (read_by deck w.medium.message.entries c.0 n)
-
-      abbrev ot : Turnout
-      ot = record {
-        medium = record w.medium { message = turned_closed w.medium.message c; rest = flags };
-        step = only (change_to_star deck (read_by deck w.medium.message.entries c.0 n));
-      }
-
-      due : IsRead deck c.0 m []
-      due = read-due deck w g c.0 n at alive alone (h.read c.0 n at alive alone)
-
-      box : list_all (λ q. is_task m.tasks q.task) m.outbox ≡ true
-      box = read-box deck w g c.0 n at alive alone
-
-      abbrev part : StarPart
-      part = part_by_table deck.entries (system_of m.tasks.system) m.shared
-
-      turned-star : kt.star ≡ Some part
-      turned-star = star-changed deck m
-
-      turned : kt.star ≡ None → ⊥
-      turned none = absurd (let no : Some part ≡ None = sym turned-star ∙ none in cc)
-
-      view-turned :
-          (g' :
-          IsChanging deck (placed w c n (record {
-            medium = record w.medium { message = turned_closed w.medium.message c; rest = flags };
-            step = only kt;
-          })))
-          → (s : ℕ) → has w.medium.removed s ≡ false → slice_get g.view s ≡ slice_get g'.view s
-      unfolding placed
-      view-turned g' =
-          view-is deck (placed w c n ot) g' g.view
-          (g.whole.roles.systems ∙ (sym g.count ∙ sym (length-set w.nodes c.0 kt)))
-          (by_node w.nodes c.0 n kt at
-          (λ s z. has w.medium.removed s ≡ false → slice_get g.view s ≡ Some (shown_at deck (cleared c es) s z))
-          (λ l.
-          there_waits
-          ∙ ap (λ (z : NodeState). Some z)
-          (shown-waits deck es c.0 n alone ∙ sym (shown-star deck (cleared c es) c.0 kt part turned-star)))
-          (λ s z ne f l.
-          view-of deck w g s z f l
-          ∙ ap (λ x. Some (cond (is_none z.star) (change_to_star deck x) z))
-          (sym (read-cleared deck c (system_of s) ne es z))))
-
-      same-turned :
-          (g' :
-          IsChanging deck (placed w c n (record {
-            medium = record w.medium { message = turned_closed w.medium.message c; rest = flags };
-            step = only kt;
-          })))
-          → SameShown deck shown (record (placed w c n (record {
-            medium = record w.medium { message = turned_closed w.medium.message c; rest = flags };
-            step = only kt;
-          }))
-          { nodes = g'.view })
-      unfolding placed
-      same-turned g' =
-          same-nodes deck shown (record (placed w c n ot) { nodes = g'.view }) refl (λ s l. sym (view-turned g' s l))
-          (λ s. refl) (ap items (append-nil w.fixed))
-
-      sent-turned : (s : ℕ) (t : TaskId) → is_home_at deck s t ≡ true → sent_of (set w.nodes c.0 kt) s t ≡ true
-          → sent_of w.nodes s t ≡ true
-      sent-turned s t =
-          by_set w.nodes c.0 n kt at s
-          (λ u z. is_home_at deck u t ≡ true → sent_in z t ≡ true → sent_of w.nodes u t ≡ true)
-          (λ home e. let ours = read-home deck w g c.0 n at alive alone t home in
-          absurd (no_truth (sent_in (Some kt) t) e
-          (sent-star kt part t turned-star ∙ change-unsent deck c.0 m box due t ours.0 ours.1)))
-          (λ ne home e. e)
-
-      had-turned : (s : ℕ) (t : TaskId) (r : Res) → is_home_at deck s t ≡ true → is_systems r ≡ true
-          → had_of deck w.medium.message.entries w.nodes s t r ≡ true
-          → had_of deck (cleared c w.medium.message.entries) (set w.nodes c.0 kt) s t r ≡ true
-      had-turned s t r =
-          by_set w.nodes c.0 n kt at s (λ u z.
-          is_home_at deck u t ≡ true → is_systems r ≡ true → had_of deck es w.nodes u t r ≡ true
-          → had_in deck (cleared c es) u z t r ≡ true)
-          (λ home wide e.
-          let ours = read-home deck w g c.0 n at alive alone t home in
-          had-star deck (cleared c es) c.0 kt part t r turned-star
-          ∙ change-had deck c.0 m box due t ours.0 r ours.1 wide
-          (sym (had-ring deck es c.0 n t r alone) ∙ (sym (ap (λ z. had_in deck es c.0 z t r) at) ∙ e)))
-          (λ ne home wide e. by_old ne (slice_get w.nodes s) e)
-        where
-          by_old : s ≢ c.0 → (z : Option NodeState) → had_in deck w.medium.message.entries s z t r ≡ true
-              → had_in deck (cleared c w.medium.message.entries) s z t r ≡ true
-          by_old ne None e = e
-          by_old ne (Some z) e =
-              ap (λ (x : NodeState). cond (is_none z.star) (owns (list_of x.shared r) t) (had_by z t r))
-              (read-cleared deck c (system_of s) ne es z)
-              ∙ e
-
-      heard-turned :
-          (g' :
-          IsChanging deck (placed w c n (record {
-            medium = record w.medium { message = turned_closed w.medium.message c; rest = flags };
-            step = only kt;
-          })))
-          → IsHeard deck (record (placed w c n (record {
-            medium = record w.medium { message = turned_closed w.medium.message c; rest = flags };
-            step = only kt;
-          }))
-          { nodes = g'.view })
-          (sent_of (set w.nodes c.0 kt)) (had_of deck (cleared c w.medium.message.entries) (set w.nodes c.0 kt))
-      heard-turned g' =
-          heard-alike deck shown (record (placed w c n ot) { nodes = g'.view }) (same-turned g') S
-          (sent_of (set w.nodes c.0 kt)) H (had_of deck (cleared c es) (set w.nodes c.0 kt))
-          (λ s t l home e. sent-turned s t home e) (λ s k' t r f l home wide e. had-turned s t r home wide e)
-          (h.heard g)
-
-      pub restful-turned :
-          IsRestful deck (placed w c n (record {
-            medium = record w.medium { message = turned_closed w.medium.message c; rest = flags };
-            step = only kt;
-          }))
-      unfolding placed
-      restful-turned = record {
-        dated =
-            by_node w.nodes c.0 n kt at (λ u z. has w.medium.removed u ≡ false → IsDated deck u z)
-            (λ l. change-dated deck c.0 m box due) (λ u z ne f l. h.dated u z f l);
-        still =
-            by_node w.nodes c.0 n kt at (λ u z.
-            has w.medium.removed u ≡ false → z.star ≡ None → has (turned_closed w.medium.message c).still u ≡ true)
-            (λ l none. absurd (turned none))
-            (λ u z ne f l none. has-without_other w.medium.message.still c.0 u ne ∙ h.still u z f l none);
-        read =
-            by_node w.nodes c.0 n kt at
-            (λ u z. has w.medium.removed u ≡ false → z.star ≡ None → IsRead deck u z (still_of u (cleared c es)))
-            (λ l none. absurd (turned none))
-            (λ u z ne f l none.
-            read-more deck u z (still_of u es) (still_of u (cleared c es))
-            (λ t home e.
-            subst (λ xs. is_among t (askers (still_of u xs)) ≡ true) (append-nil (cleared c es))
-            (waits-elsewhere c (system_of u) ne t es [] e))
-            (h.read u z f l none));
-        heard = heard-turned;
+        ranked = ranked-star;
       }

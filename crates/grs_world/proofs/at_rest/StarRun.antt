@@ -48,7 +48,7 @@ module _ (deck : Deck) (some : 0 < deck.entries) (w : World) (g : IsChanging dec
           restful-star deck w g h c n at alive some inside p star e.choice removed knows kept
           (ranks-few deck bounds (items (w.fixed ++ fixed_by c (chosen deck w.medium c n e.choice).step.fixed)) right)
       go None alone =
-          restful-late deck w g h c n at alive alone (chosen deck w.medium c n e.choice)
+          restful-late deck w g h c n at alive some bounds.fits.few alone (chosen deck w.medium c n e.choice)
           (came_late deck w g.whole.roles.mode g.closed c n alone alive
           (late-stays deck w g c n at alive alone knows) e.choice kept)
 
@@ -114,6 +114,7 @@ module _ (deck : Deck) (star : deck.star ≡ true) where
       mails = λ s. subst (AreAddressed deck) (sym (first-boxes deck s)) tt;
       ranks = λ m k p e x v has_part managed. absurd (first-view g m k p e x v.at v.live has_part managed);
     };
+    ranked = λ g s n t r v home wide stands. absurd (none-has t r stands);
   }
     where
       read_at : (s : ℕ) (n : NodeState) → slice_get (first_world deck).nodes s ≡ Some n

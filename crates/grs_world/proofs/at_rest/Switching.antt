@@ -11,7 +11,7 @@ use Rattle.grs_world.proofs.Common.{subst, suc, switched, sym, SysId, table-is, 
 use Rattle.grs_world.proofs.Common.{World, ℕ}
 use Rattle.grs_world.proofs.move.Begin.{front-within, more-within}
 use Rattle.grs_world.proofs.move.Changing.{IsChanging}
-use Rattle.grs_world.proofs.at_rest.Changed.{change-dated, change-had, change-has, change-unsent}
+use Rattle.grs_world.proofs.at_rest.Changed.{change-dated, change-had, change-has, change-unsent, home-ranks}
 use Rattle.grs_world.proofs.at_rest.Loaded.{table-few, table-ranks}
 use Rattle.grs_world.proofs.at_rest.Restful.{IsRestful, had-ring, had-star, had_in, had_of, sent-ring, sent-star}
 use Rattle.grs_world.proofs.at_rest.Restful.{sent_in, sent_of}
@@ -30,6 +30,12 @@ use Rattle.grs_world.proofs.run.Runs.{GoodWorld}
 use Rattle.grs_world.proofs.star.Heard.{AreAddressed, IsHeard, enq_count}
 use Rattle.grs_world.proofs.star.Sound.{no_mail}
 use Rattle.grs_world.proofs.star.Worlds.{items-none}
+use Rattle.grs_world.proofs.move.TableRanks.{table-carries, table_rank}
+use Rattle.grs_world.proofs.star.Shown.{apart-lists}
+use Rattle.grs_world.proofs.star.Under.{wide-entry}
+use Rattle.grs_world.proofs.star.hearing.Ranks.{HaveRank}
+use Rattle.grs_world.proofs.star.ranks.Carried.{CarriesRank}
+use Rattle.grs_world.proofs.star.ranks.Ranked.{AreShown}
 use Rattle.grs_world.proofs.system.AtNode.{Seen, opens_of}
 use Rattle.grs_world.proofs.system.Desks.{desk-seen}
 use Rattle.grs_world.proofs.system.Puts.{home-task}
@@ -149,6 +155,41 @@ module _ (deck : Deck) (some : 0 < deck.entries) (few : length deck.systems ≤ 
         let small = table-few deck P asks in
         omega (arith, low, small)
 
+    -- each element has the table's rank on record
+    arriving-ranked : (t : TaskId) (r : Res) → is_home_at deck s t ≡ true → (wide : is_systems r ≡ true)
+        → has_task (list_of (lists P) r) t ≡ true →
+        HaveRank r (table_rank deck.entries (lists (rounds P)) (wide-entry deck.entries r wide).0 r t)
+        (state_of k.tasks t).records
+    arriving-ranked t r home wide has =
+        let ours = a.home t home in
+        subst
+        (λ z.
+        HaveRank r (table_rank deck.entries z (wide-entry deck.entries r wide).0 r t) (state_of k.tasks t).records)
+        a.shared
+        (subst
+        (λ (z : NodeState).
+        HaveRank r (table_rank deck.entries m.shared (wide-entry deck.entries r wide).0 r t)
+        (state_of z.tasks t).records)
+        (sym a.is)
+        (home-ranks deck s m a.box some few (rounds P) a.shared (asks-rounds deck P g.history.asks) a.system t ours.0
+        ours.1 r wide (ap (λ xs. has_task xs t) (in-table r wide) ∙ has)))
+
+    -- and its managers carry it
+    arriving-carries : (p : StarPart) → k.star ≡ Some p → (t : TaskId) (r : Res) (wide : is_systems r ≡ true) →
+        CarriesRank r t (table_rank deck.entries (lists (rounds P)) (wide-entry deck.entries r wide).0 r t) p.manager
+    arriving-carries p star t r wide =
+        let asks : AllAsk deck (rounds P) = asks-rounds deck P g.history.asks in
+        let within : are_within most_systems (lists (rounds P)) ≡ true =
+        more-within (length deck.systems) most_systems few (lists (rounds P)) (front-within deck (rounds P) asks) in
+        let same : part_by_table deck.entries (system_of s) (lists (rounds P)) ≡ p =
+        same_Some _ p (sym arriving-star ∙ star) in
+        subst
+        (λ (q : StarPart).
+        CarriesRank r t (table_rank deck.entries (lists (rounds P)) (wide-entry deck.entries r wide).0 r t) q.manager)
+        same
+        (table-carries deck.entries some (lists (rounds P)) within r (wide-entry deck.entries r wide).0
+        (wide-entry deck.entries r wide).1 (apart-lists (rounds P) r) t (system_of s))
+
   abbrev o : Turnout
   o = record {
     medium =
@@ -263,6 +304,50 @@ module _ (deck : Deck) (some : 0 < deck.entries) (few : length deck.systems ≤ 
         (arriving-ranks s x a.0 (subst (λ q. IsArriving deck s P q a.0) (sym z.2) a.1) p e y star managed);
   }
 
+  ranked-begun :
+      (g' :
+      IsChanging deck (placed w c n (record {
+        medium =
+            record w.medium {
+              star = true;
+              words = own_words deck n;
+              message = closed_by w.medium.message c (live w.medium);
+              rest = awake w.medium c;
+            };
+        step = only k;
+      })))
+      → AreShown deck (record (placed w c n (record {
+        medium =
+            record w.medium {
+              star = true;
+              words = own_words deck n;
+              message = closed_by w.medium.message c (live w.medium);
+              rest = awake w.medium c;
+            };
+        step = only k;
+      }))
+      { nodes = g'.view })
+  unfolding placed closed_by
+  ranked-begun g' s x t r v home wide stands =
+      let z = node-of deck (placed w c n o) g' s x v.at v.live in
+      let a = arrives-shown s z.0 z.1 v.live in
+      let arriving : IsArriving deck s P x a.0 = subst (λ y. IsArriving deck s P y a.0) (sym z.2) a.1 in
+      let before : has_task (list_of (lists P) r) t ≡ true =
+      ap (λ U. has_task (list_of (lists U) r) t) (sym same) ∙ stands in
+      record {
+        rank = table_rank deck.entries (lists (rounds P)) (wide-entry deck.entries r wide).0 r t;
+        shown = record {
+          ranked = arriving-ranked s x a.0 arriving t r home wide before;
+          comes = λ none.
+              no_truth (has_res r (state_of x.tasks t).records) (arriving-has s x a.0 arriving t r home wide before)
+              none;
+        };
+        carried = λ m y p there star.
+            let zm = node-of deck (placed w c n o) g' m y there.at there.live in
+            let am = arrives-shown m zm.0 zm.1 there.live in
+            arriving-carries m y am.0 (subst (λ q. IsArriving deck m P q am.0) (sym zm.2) am.1) p star t r wide;
+      }
+
   pub restful-begun :
       IsRestful deck (placed w c n (record {
         medium =
@@ -290,4 +375,5 @@ module _ (deck : Deck) (some : 0 < deck.entries) (few : length deck.systems ≤ 
         (λ u z. has w.medium.removed u ≡ false → z.star ≡ None → IsRead deck u z (still_of u es))
         (λ l none. absurd (not-ring none)) (λ u z ne f l none. all u z f l);
     heard = heard-begun;
+    ranked = ranked-begun;
   }

@@ -1,15 +1,16 @@
 -- An event of a system that waits to change to star mode leaves what rests.
-use Rattle.grs_world.proofs.Common.{[], ◌++◌, ◌+◌, ◌∙◌, ◌∷◌, ◌≡◌, ◌≤◌, after_fixed, ap, arith, Deck, desk_told, false}
-use Rattle.grs_world.proofs.Common.{Fixed, fixed_by, goes_round, has, is_systems, items, lines_of, List, list_of, lists}
-use Rattle.grs_world.proofs.Common.{lists-push, made_item, may_go, NodeState, None, only, own_requests, placed, refl}
-use Rattle.grs_world.proofs.Common.{Res, RunItem, Said, slice_get, Some, State, stays-task, subst, sym, SysId}
-use Rattle.grs_world.proofs.Common.{task_step, TaskId, true, Turnout, World, ℕ}
+use Rattle.grs_world.proofs.Common.{[], ◌++◌, ◌+◌, ◌<◌, ◌∙◌, ◌∷◌, ◌≡◌, ◌≤◌, after_fixed, ap, arith, Deck, desk_told}
+use Rattle.grs_world.proofs.Common.{false, Fixed, fixed_by, goes_round, has, is_systems, items, length, lines_of, List}
+use Rattle.grs_world.proofs.Common.{list_of, lists, lists-push, made_item, may_go, most_systems, NodeState, None, only}
+use Rattle.grs_world.proofs.Common.{own_requests, placed, refl, Res, RunItem, Said, slice_get, Some, State, stays-task}
+use Rattle.grs_world.proofs.Common.{subst, sym, SysId, task_step, TaskId, true, Turnout, World, ℕ}
 use Rattle.grs_node.proofs.Keeping.{Stays}
 use Rattle.grs_wire.proofs.WantLaws.{list_of-want_other}
 use Rattle.grs_world.proofs.move.Changing.{IsChanging}
 use Rattle.grs_world.proofs.move.Late.{CameLate, desk_late, nothing_late, task_late, turn_late, informed_late}
 use Rattle.grs_world.proofs.move.Late.{vary_late}
-use Rattle.grs_world.proofs.at_rest.Restful.{IsRestful, restful-turned, restful-waits}
+use Rattle.grs_world.proofs.at_rest.Restful.{IsRestful}
+use Rattle.grs_world.proofs.at_rest.RestfulLate.{restful-turned, restful-waits}
 use Rattle.grs_world.proofs.at_rest.Events.{date-any}
 use Rattle.grs_world.proofs.at_rest.Ring.{IsRead, distinct-at}
 use Rattle.grs_world.proofs.at_rest.RingPuts.{desk-read, known-read}
@@ -36,7 +37,8 @@ unfolding desk_told
 desk-star n said = refl
 
 module _ (deck : Deck) (w : World) (g : IsChanging deck w) (h : IsRestful deck w) (c : SysId) (n : NodeState)
-    (at : slice_get w.nodes c.0 ≡ Some n) (alive : has w.medium.removed c.0 ≡ false) (alone : n.star ≡ None) where
+    (at : slice_get w.nodes c.0 ≡ Some n) (alive : has w.medium.removed c.0 ≡ false) (some : 0 < deck.entries)
+    (few : length deck.systems ≤ most_systems) (alone : n.star ≡ None) where
   abbrev T : List RunItem
   T = items w.fixed
 
@@ -57,7 +59,7 @@ module _ (deck : Deck) (w : World) (g : IsChanging deck w) (h : IsRestful deck w
   still-restful k flags fs none free table rk =
       let same : items (w.fixed ++ fixed_by c fs) ≡ items w.fixed =
       ap (λ zs. items (w.fixed ++ fixed_by c zs)) none ∙ items-none w.fixed c in
-      restful-waits deck w g h c n at alive alone k fs flags free table
+      restful-waits deck w g h c n at alive some few alone k fs flags free table
       (record { date = date-any true deck _ rk.date; own = rk.own }) rk
       (λ r wide. ap (λ U. list_of (lists U) r) same)
       (subst (λ U. enq_count (items w.fixed) ≤ enq_count U) (sym same) (omega arith))
@@ -99,7 +101,7 @@ module _ (deck : Deck) (w : World) (g : IsChanging deck w) (h : IsRestful deck w
           let item : RunItem = made_item c T f in
           let same : items (w.fixed ++ fixed_by c (task_step deck.limit n t (lines_of deck t)).fixed) ≡ T ++ item ∷ [] =
           ap (λ zs. items (w.fixed ++ fixed_by c zs)) one ∙ items-one w.fixed c f in
-          restful-waits deck w g h c n at alive alone (task_step deck.limit n t (lines_of deck t)).node
+          restful-waits deck w g h c n at alive some few alone (task_step deck.limit n t (lines_of deck t)).node
           (task_step deck.limit n t (lines_of deck t)).fixed w.medium.rest (kept.star ∙ alone)
           (then.shared ∙ sym seen.shared) (record { date = date-any true deck _ rk.date; own = rk.own }) rk
           (λ r wide.
@@ -119,7 +121,7 @@ module _ (deck : Deck) (w : World) (g : IsChanging deck w) (h : IsRestful deck w
   pub restful-late : (o : Turnout) → CameLate deck w c n o → IsRestful deck (placed w c n o)
   restful-late o (nothing_late flags) = still-restful n flags [] refl alone refl rd
   restful-late o (task_late t may) = task-restful t may
-  restful-late o (turn_late flags here) = restful-turned deck w g h c n at alive alone flags
+  restful-late o (turn_late flags here) = restful-turned deck w g h c n at alive some few alone flags
   restful-late o (desk_late next) = desk-restful saids.StarAlready
   restful-late o (vary_late target next gone) = desk-restful saids.VaryNoSuch
   restful-late o (informed_late known) =

@@ -181,3 +181,19 @@ unfolding state_of with_state with_line with_phase with_outstanding with_record 
     rest_after_turn closed_by turned first_node first_world carry_out chosen placed happens_at happens losing
     members_below lose_each take_up_below
 least_manages = (refl, refl, refl, refl, refl, refl)
+
+-- What both show together is the list, where the first has still to change too.
+pub shown_in_change :
+    map (λ es. shown_list changing (run changing es) (shared 66))
+    ((shared_by_both ++ switches 1 ∷ []) ∷ (shared_by_both ++ switches 1 ∷ turn 0 ∷ []) ∷ [])
+    ≡ (elem 0 0 S ∷ elem 1 0 S ∷ []) ∷ (elem 0 0 S ∷ elem 1 0 S ∷ []) ∷ []
+unfolding state_of with_state with_line with_phase with_outstanding with_record without_record with_told
+    with_exclusive with_rank telling tell_code record_enq after_code replied passes_wait tell_line tell_untold
+    tell_control tell_all tell_new recalled tell_answer tell_answer_any tell_answer_ranked after_mail decide_own
+    took_mail post ask take_line end_step ready_step phase_step may_go may_send star_call prepare finish_quiet
+    finish_star finish_call finish read_entries all_sent put_in switched desk_told change_to_star system_turned
+    answer_own process process_entry has without with_also manager lock_word submitted route turn_row switch_row
+    submit_row take_row mail_row row apply first_after unseen any_unseen cleared stamped turn_reply wakes
+    rest_after_turn closed_by turned first_node first_world carry_out chosen placed happens_at happens losing
+    members_below lose_each take_up_below
+shown_in_change = refl

@@ -1,19 +1,18 @@
 -- In a star that loses nobody the live systems show together what the history says: once each has taken the mail of its
 -- inbox, what their tasks have on record of a resource is, by its ranks, the list of the resource.
 use Rattle.grs_world.proofs.Common.{[], ◌+◌, ◌<◌, ◌==◌, ◌||◌, ◌∙◌, ◌∷◌, ◌≡◌, and_from, and_parts, ap, Bool, Deck, Elem}
-use Rattle.grs_world.proofs.Common.{entry_of, entry_of_res, eq-eqb, eqb-true, false, first_node, get_or, has, has_res}
-use Rattle.grs_world.proofs.Common.{has_task, inbox, is_among, is_home_at, is_interested, is_res_of, is_some}
-use Rattle.grs_world.proofs.Common.{is_systems, IsHistory, items, items_of, length, lines_of, List, list_all, list_of}
-use Rattle.grs_world.proofs.Common.{lists, ltb-true, Managed, managed_at, manager_at, map, names_of, nat_lt, new_task}
+use Rattle.grs_world.proofs.Common.{entry_of_res, eq-eqb, eqb-true, false, first_node, get_or, has, has_res, has_task}
+use Rattle.grs_world.proofs.Common.{inbox, is_among, is_home_at, is_interested, is_res_of, is_some, is_systems}
+use Rattle.grs_world.proofs.Common.{IsHistory, items, items_of, length, lines_of, List, list_all, list_of, lists}
+use Rattle.grs_world.proofs.Common.{ltb-true, Managed, managed_at, manager_at, map, names_of, nat_lt, new_task}
 use Rattle.grs_world.proofs.Common.{no_truth, NodeState, None, Option, option_map_or, or_left, or_right, outstanding}
 use Rattle.grs_world.proofs.Common.{past_of, plain, Rec, record_of, refl, Res, RunItem, same_task, same_task-itself}
-use Rattle.grs_world.proofs.Common.{slice_get, slice_get-get_or, slice_of, Some, speaks-known, StarPart, state_of}
-use Rattle.grs_world.proofs.Common.{subst, sym, SysId, System, TaskId, TaskState, true, World, ℕ}
+use Rattle.grs_world.proofs.Common.{slice_get, slice_get-get_or, Some, speaks-known, StarPart, state_of, subst, sym}
+use Rattle.grs_world.proofs.Common.{SysId, TaskId, TaskState, true, World, ℕ}
 use Rattle.std.specs.List.Sorted.{IsPermutation}
 use Rattle.std.proofs.lemmas.List.Sorted.{IsPermutation-sym}
 use Rattle.contention_mgr.specs.Installs.{elem_of}
 use Rattle.contention_mgr.specs.Laws.{AreWellKept}
-use Rattle.grs_base.specs.declared.resource.Res.TheVariants.{Step as StepRes, Systems}
 use Rattle.grs_known.proofs.known.Following.{has-known}
 use Rattle.grs_known.proofs.known.Histories.{has-may, replayed}
 use Rattle.grs_known.proofs.known.Knowing.{one-none}
@@ -38,7 +37,7 @@ use Rattle.grs_world.proofs.star.Elements.{near-has}
 use Rattle.grs_world.proofs.star.Heard.{IsHeard, sent_by}
 use Rattle.grs_world.proofs.star.Members.{IsMember, all_lists, manager-here}
 use Rattle.grs_world.proofs.star.Systems.{here, near_at}
-use Rattle.grs_world.proofs.star.Under.{entry-same, in_entry, list-under, under}
+use Rattle.grs_world.proofs.star.Under.{entry-same, in_entry, list-under, under, wide-entry}
 use Rattle.grs_world.proofs.star.Worlds.{IsWhole, are_live, live-below, live-site, manager-live}
 use Rattle.grs_world.proofs.star.hearing.Ranks.{HaveRank, rank-none}
 use Rattle.grs_world.proofs.star.ranks.Carried.{CarriesRank, all_at, has_this_rank}
@@ -85,16 +84,12 @@ each-task p (x ∷ xs) h =
     (h x.task (or_left (same_task x.task x.task) (has_task xs x.task) (same_task-itself x.task)))
     (each-task p xs (λ t stands. h t (or_right (same_task t x.task) (has_task xs t) stands)))
 
--- a resource of the whole complex is of a lock entry
-wide-entry : (entries : ℕ) (r : Res) → is_systems r ≡ true → (e : ℕ) × (entry_of_res entries r ≡ Some e)
-wide-entry entries (StepRes n j q r) wide = absurd (cc)
-wide-entry entries (System n q r) wide = absurd (cc)
-wide-entry entries (Systems q r) wide = (entry_of (slice_of q r) entries, refl)
-
 -- ---- a world in star mode that loses nobody
 module _ (deck : Deck) (w : World) (g : IsWhole deck w) (sent : ℕ → TaskId → Bool) (had : ℕ → TaskId → Res → Bool)
     (h : IsHeard deck w sent had) (ranked : AreShown deck w)
-    (is : (s : ℕ) (n : NodeState) (t : TaskId) → Site w s n → sent_by n t ≡ true → sent s t ≡ true) (r : Res)
+    (is : (s : ℕ) (n : NodeState) (t : TaskId) → Site w s n → is_home_at deck s t ≡ true → sent_by n t ≡ true
+    → sent s t ≡ true)
+    (r : Res)
     (wide : is_systems r ≡ true) where
   abbrev listed : List Elem
   listed = list_of (all_lists w) r
@@ -116,8 +111,8 @@ module _ (deck : Deck) (w : World) (g : IsWhole deck w) (sent : ℕ → TaskId �
     abbrev me : IsMember deck w.medium.words (all_lists w) s n
     me = g.roles.node s n at
 
-    was-sent : (t : TaskId) → sent_by n t ≡ true → sent s t ≡ true
-    was-sent t e = is s n t at e
+    was-sent : (t : TaskId) → is_home_at deck s t ≡ true → sent_by n t ≡ true → sent s t ≡ true
+    was-sent t home e = is s n t at home e
 
     all-taken : Caught deck w.medium.words (items w.fixed) g.right s (later_of s n)
     all-taken = (caught deck w g sent had h s n at was-sent me.part me.star).0
@@ -254,10 +249,10 @@ module _ (deck : Deck) (w : World) (g : IsWhole deck w) (sent : ℕ → TaskId �
           (ap (λ z. list_of z r) (sym (g.roles.free entry.0 none)) ∙ same-under) refl
       by-word (Some m) managed = by-manager m managed
 
-  -- ---- So together, as these systems are the live ones.
+  -- ---- So together, as these systems once they have changed are the live ones.
   module _ (ns : List NodeState)
-      (same : (s : ℕ) (n : NodeState) → slice_get ns s ≡ Some n → has w.medium.removed s ≡ false
-      → slice_get w.nodes s ≡ Some n)
+      (same : (s : ℕ) (n : NodeState) → slice_get ns s ≡ Some n → has w.medium.removed s ≡ false →
+      (k : NodeState) × (slice_get w.nodes s ≡ Some k) × (k ≡ once_changed deck w (record { 0 = s }) n n.star))
       (count : length ns ≡ length w.nodes) where
     abbrev names : List TaskId
     names = live_names deck w.medium.removed 0 ns
@@ -265,21 +260,14 @@ module _ (deck : Deck) (w : World) (g : IsWhole deck w) (sent : ℕ → TaskId �
     shown-these : HaveThese r rank_of listed names (shown_from deck w r 0 ns)
     shown-these = shown-have r rank_of listed deck w 0 ns each
       where
-        by-star : (s : ℕ) (n : NodeState) (p : StarPart) → n.star ≡ Some p
-            → HaveThese r rank_of listed (names_of deck s) (on_record deck (later_of s n) r)
-            → HaveThese r rank_of listed (names_of deck s) (on_record deck (caught_up deck w (record { 0 = s }) n) r)
-        by-star s n p star these =
-            subst
-            (λ (o : Option StarPart).
-            HaveThese r rank_of listed (names_of deck s)
-            (on_record deck (taking deck (once_changed deck w (record { 0 = s }) n o) (inbox w.medium s)) r))
-            (sym star) these
-
         one-shown : (s : ℕ) (n : NodeState) → slice_get ns s ≡ Some n → has w.medium.removed s ≡ false
             → HaveThese r rank_of listed (names_of deck s) (on_record deck (caught_up deck w (record { 0 = s }) n) r)
         one-shown s n found alive =
-            let at : Site w s n = at_site (same s n found alive) alive in
-            by-star s n (me s n at).part (me s n at).star (has-these s n at)
+            let k = same s n found alive in
+            subst
+            (λ (z : NodeState).
+            HaveThese r rank_of listed (names_of deck s) (on_record deck (taking deck z (inbox w.medium s)) r))
+            k.2 (has-these s k.0 (at_site k.1 alive))
 
         each : (k : ℕ) (n : NodeState) → slice_get ns k ≡ Some n → has w.medium.removed (0 + k) ≡ false →
             HaveThese r rank_of listed (names_of deck (0 + k))

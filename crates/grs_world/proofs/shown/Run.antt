@@ -1,19 +1,22 @@
--- So it is in every run that begins in star mode and removes none.
+-- So it is in every run, once the complex is in star mode, that removes none there.
 use Rattle.grs_world.proofs.Common.{[], ◌++◌, ◌+◌, ◌∙◌, ◌∷◌, ◌≡◌, ap, cond, Deck, Event, false, FitsStar, has, inbox}
-use Rattle.grs_world.proofs.Common.{is_systems, items, items_are_history, List, list_of, lists, map, may_be_star}
-use Rattle.grs_world.proofs.Common.{no_truth, NodeState, None, NoneInStar, Option, PartRec, places, refl, replay}
-use Rattle.grs_world.proofs.Common.{replayed, Res, run, same_Some, slice_get, Some, StarPart, sym, SysId, TaskId, true}
+use Rattle.grs_world.proofs.Common.{is_home_at, is_systems, items, items_are_history, List, list_of, lists, map}
+use Rattle.grs_world.proofs.Common.{may_be_star, no_truth, NodeState, None, NoneInStar, Option, PartRec, places, refl}
+use Rattle.grs_world.proofs.Common.{replay, replayed, Res, run, slice_get, Some, StarPart, sym, SysId, TaskId, true}
 use Rattle.grs_world.proofs.Common.{World, ℕ}
 use Rattle.contention_mgr.specs.Installs.{elem_of}
 use Rattle.system_purge.specs.Gather.{by_rank}
 use Rattle.grs_wire.specs.Decks.{IsBounded}
-use Rattle.grs_world.proofs.at_rest.Ranked.{HasRanks, ranked_run}
+use Rattle.grs_world.proofs.at_rest.Changed.{change-unsent}
+use Rattle.grs_world.proofs.at_rest.Reads.{read-box, read-due, read-home}
 use Rattle.grs_world.proofs.at_rest.Restful.{IsRestful, had_of, sent-star, sent_in, sent_of}
 use Rattle.grs_world.proofs.at_rest.StarRun.{restful_run}
-use Rattle.grs_world.proofs.at_rest.View.{node-of, shown-star, view-of}
+use Rattle.grs_world.proofs.at_rest.View.{node-of, read_by, shown-star, shown-waits, shown_at, system_of, view-of}
 use Rattle.grs_world.proofs.shown.Lists.{shown-listed}
 use Rattle.grs_world.proofs.move.Changing.{IsChanging}
+use Rattle.grs_world.proofs.move.Moved.{late-stays}
 use Rattle.grs_world.proofs.move.Sound.{GoodRun, every_run, in_ring, in_star}
+use Rattle.grs_world.proofs.run.Knowing.{KnownAreRemoved, known_run}
 use Rattle.grs_world.proofs.run.Site.{Site}
 use Rattle.grs_world.proofs.star.Heard.{sent_by}
 use Rattle.grs_world.specs.Kept.{caught_up, on_record, once_changed, shown_from, shown_list, ShownArePlaces, taking}
@@ -38,51 +41,67 @@ from-same deck w V r s (n ∷ ns) =
     cond (has w.medium.removed s) [] (on_record deck (caught_up deck w (record { 0 = s }) n) r) ++ ys)
     (from-same deck w V r (s + 1) ns)
 
-module _ (deck : Deck) (w : World) (g : IsChanging deck w) (rest : IsRestful deck w) (ranks : HasRanks deck w) where
+module _ (deck : Deck) (w : World) (g : IsChanging deck w) (rest : IsRestful deck w) (known : KnownAreRemoved w) where
   abbrev shown : World
   shown = record w { nodes = g.view }
 
-  -- who has changed is shown as it is
-  stands : (s : ℕ) (n : NodeState) → slice_get w.nodes s ≡ Some n → has w.medium.removed s ≡ false
-      → slice_get g.view s ≡ Some n
-  stands s n at alive = go n.star refl
+  -- a system is shown as it is once it has changed
+  once : (s : ℕ) (n : NodeState) → slice_get w.nodes s ≡ Some n → has w.medium.removed s ≡ false →
+      (k : NodeState) × (slice_get g.view s ≡ Some k) × (k ≡ once_changed deck shown (record { 0 = s }) n n.star)
+  once s n at alive = (
+    shown_at deck w.medium.message.entries s n,
+    view-of deck w g s n at alive,
+    go n.star refl,
+  )
     where
-      go : (o : Option StarPart) → n.star ≡ o → slice_get g.view s ≡ Some n
-      go None alone = absurd (ranks.all s n at alive alone)
+      go : (o : Option StarPart) → n.star ≡ o
+          → shown_at deck w.medium.message.entries s n ≡ once_changed deck shown (record { 0 = s }) n n.star
+      go None alone =
+          shown-waits deck w.medium.message.entries s n alone
+          ∙ (sym (late-stays deck w g (system_of s) n at alive alone (known s n at))
+          ∙ sym (ap (λ (o : Option StarPart). once_changed deck shown (record { 0 = s }) n o) alone))
       go (Some p) star =
-          view-of deck w g s n at alive
-          ∙ ap (λ (z : NodeState). Some z) (shown-star deck w.medium.message.entries s n p star)
+          shown-star deck w.medium.message.entries s n p star
+          ∙ sym (ap (λ (o : Option StarPart). once_changed deck shown (record { 0 = s }) n o) star)
 
-  -- and has sent what it sent
-  as-sent : (s : ℕ) (n : NodeState) (t : TaskId) → Site shown s n → sent_by n t ≡ true → sent_of w.nodes s t ≡ true
-  as-sent s k t at e =
-      let found = node-of deck w g s k at.at at.live in by-star found.0 found.1 (found.0).star refl
+  -- and has sent what it sent before
+  as-sent : (s : ℕ) (n : NodeState) (t : TaskId) → Site shown s n → is_home_at deck s t ≡ true → sent_by n t ≡ true
+      → sent_of w.nodes s t ≡ true
+  as-sent s k t at home e =
+      let found = node-of deck w g s k at.at at.live in by-star found.0 found.1 found.2 (found.0).star refl
     where
-      by-star : (n : NodeState) → slice_get w.nodes s ≡ Some n → (o : Option StarPart) → n.star ≡ o
+      by-star : (n : NodeState) → slice_get w.nodes s ≡ Some n
+          → k ≡ shown_at deck w.medium.message.entries s n → (o : Option StarPart) → n.star ≡ o
           → sent_of w.nodes s t ≡ true
-      by-star n there None alone = absurd (ranks.all s n there at.live alone)
-      by-star n there (Some p) star =
-          let same : k ≡ n = same_Some k n (sym at.at ∙ stands s n there at.live) in
+      by-star n there is None alone =
+          let ours = read-home deck w g s n there at.live alone t home in
+          no_truth (sent_by k t) e
+          (ap (λ (z : NodeState). sent_by z t) (is ∙ shown-waits deck w.medium.message.entries s n alone)
+          ∙ change-unsent deck s (read_by deck w.medium.message.entries s n) (read-box deck w g s n there at.live alone)
+          (read-due deck w g s n there at.live alone (rest.read s n there at.live alone)) t ours.0 ours.1)
+      by-star n there is (Some p) star =
           ap (λ (o : Option NodeState). sent_in o t) there
-          ∙ (sent-star n p t star ∙ (ap (λ (z : NodeState). sent_by z t) (sym same) ∙ e))
+          ∙ (sent-star n p t star
+          ∙ (ap (λ (z : NodeState). sent_by z t)
+          (sym (is ∙ shown-star deck w.medium.message.entries s n p star))
+          ∙ e))
 
   pub listed-shown : (r : Res) → is_systems r ≡ true → shown_list deck w r ≡ list_of (lists (items w.fixed)) r
   listed-shown r wide =
       ap (λ (ys : List PartRec). map elem_of (by_rank ys)) (sym (from-same deck w g.view r 0 w.nodes))
       ∙ shown-listed deck shown g.whole (sent_of w.nodes) (had_of deck w.medium.message.entries w.nodes) (rest.heard g)
-      (ranks.shown g) as-sent r wide w.nodes stands (g.count ∙ sym g.whole.roles.systems)
+      (rest.ranked g) as-sent r wide w.nodes once (g.count ∙ sym g.whole.roles.systems)
 
-pub shown_places : (deck : Deck) → IsBounded deck → deck.star ≡ true → (es : List Event) → NoneInStar deck es
-    → ShownArePlaces deck es
-shown_places deck bounds star es none r wide = by_run (every_run deck fits es none)
+pub shown_places : (deck : Deck) → IsBounded deck → (es : List Event) → NoneInStar deck es
+    → (run deck es).medium.star ≡ true → ShownArePlaces deck es
+shown_places deck bounds es none star r wide = by_run (every_run deck fits es none)
   where
     fits : may_be_star deck ≡ true → FitsStar deck
     fits h = record { few = bounds.fits.few; entries = bounds.entries }
 
     by_run : GoodRun deck es (run deck es) → shown_list deck (run deck es) r ≡ places deck es r
-    by_run (in_ring begins ring g d) = no_truth deck.star star begins
+    by_run (in_ring begins ring g d) = no_truth (run deck es).medium.star star ring.mode
     by_run (in_star f g told d) =
-        let ranks = ranked_run deck bounds star es none in
-        listed-shown deck (run deck es) g (restful_run deck bounds es none ranks.mode) ranks r wide
+        listed-shown deck (run deck es) g (restful_run deck bounds es none star) (known_run deck es) r wide
         ∙ (ap (λ z. list_of z r) (replayed deck (items (run deck es).fixed) g.whole.right)
         ∙ ap (λ z. list_of (replay deck.limit z) r) (items_are_history (run deck es).fixed).0)

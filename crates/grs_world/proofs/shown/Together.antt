@@ -25,14 +25,14 @@ found-record xs r has_it = go (record_of xs r) refl
 
 module _ (deck : Deck) (w : World) (g : IsWhole deck w) (sent : ℕ → TaskId → Bool) (had : ℕ → TaskId → Res → Bool)
     (h : IsHeard deck w sent had) (s : ℕ) (n : NodeState) (at : Site w s n)
-    (is : (t : TaskId) → sent_by n t ≡ true → sent s t ≡ true) where
+    (is : (t : TaskId) → is_home_at deck s t ≡ true → sent_by n t ≡ true → sent s t ≡ true) where
   -- each item that is still to come has an answer that comes in time
   timely-all : AllTimely deck w.medium.words (items w.fixed) g.right s (g.later s) (inbox w.medium s)
   timely-all t home x due =
       let asked =
       due-sent deck w.medium.words (items w.fixed) g.right s n (inbox w.medium s) (g.later s) (g.out s)
       (g.system s n at) t home x due in
-      go (h.requests s n t at home (is t asked.1))
+      go (h.requests s n t at home (is t home asked.1))
     where
       go : IsInHands w.medium w.nodes t ⊎ (list_any (is_timely t) (inbox w.medium s) ≡ true)
           → list_any (is_timely t) (inbox w.medium s) ≡ true

@@ -1,7 +1,7 @@
 -- The elements on the resources of a lock entry.
 use Rattle.grs_world.proofs.Common.{[], ◌&&◌, ◌++◌, ◌+◌, ◌==◌, ◌∙◌, ◌∷◌, ◌≡◌, after_want, and_from, and_parts}
 use Rattle.grs_world.proofs.Common.{answer_to, ap, arith, Bool, cond, Deq, Enq, entry_of, entry_of_res, entry_wanted}
-use Rattle.grs_world.proofs.Common.{eq-eqb, eqb-true, false, Filter, has_task, is_entry, list_all, list_of}
+use Rattle.grs_world.proofs.Common.{eq-eqb, eqb-true, false, Filter, has_task, is_entry, is_systems, list_all, list_of}
 use Rattle.grs_world.proofs.Common.{list_of-part, Look, look, looks, nat_le, nat_lt, new_owners, no_truth, None, Option}
 use Rattle.grs_world.proofs.Common.{part, refl, Release, Res, res_wanted, Rows, same_res, same_res-exact, same_Some}
 use Rattle.grs_world.proofs.Common.{Slice, slice_of, Some, State, suc, sym, TaskId, true, Want, zero, ℕ}
@@ -67,6 +67,12 @@ none-under p (x ∷ s) r h = go (p x.0) refl (none-under p s r h)
     go : (b : Bool) → p x.0 ≡ b → list_of (part p s) r ≡ [] → list_of (cond b (x ∷ part p s) (part p s)) r ≡ []
     go true e more = here e (same_res r x.0) refl more
     go false e more = more
+
+-- a resource of the whole complex is of a lock entry
+pub wide-entry : (entries : ℕ) (r : Res) → is_systems r ≡ true → (e : ℕ) × (entry_of_res entries r ≡ Some e)
+wide-entry entries (resources.Step n j q r) wide = absurd (cc)
+wide-entry entries (resources.System n q r) wide = absurd (cc)
+wide-entry entries (resources.Systems q r) wide = (entry_of (slice_of q r) entries, refl)
 
 pub list-under : (entries e : ℕ) (s : State) (r : Res) → in_entry entries e r ≡ true
     → list_of (under entries e s) r ≡ list_of s r

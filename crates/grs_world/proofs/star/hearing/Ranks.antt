@@ -45,6 +45,16 @@ rank-none q n (x ∷ xs) h = go (same_res q x.res) refl h (rank-none q n xs)
     go true e k more = absurd (cc)
     go false e k more = ((λ is. no_truth (same_res q x.res) is e), more k)
 
+-- one that is there has one
+pub one-rank-on : (q : Res) (xs : List Rec) → has_res q xs ≡ true → (n m : ℕ) → HaveRank q n xs → HaveRank q m xs
+    → n ≡ m
+one-rank-on q [] one n m h k = no_truth true refl (sym one)
+one-rank-on q (x ∷ xs) one n m h k = go (same_res q x.res) refl one (λ more. one-rank-on q xs more n m h.1 k.1)
+  where
+    go : (b : Bool) → same_res q x.res ≡ b → (b || has_res q xs) ≡ true → (has_res q xs ≡ true → n ≡ m) → n ≡ m
+    go true is some more = sym (h.0 is) ∙ k.0 is
+    go false off some more = more some
+
 -- what changes neither a record's resource nor its rank
 rank-on : (f : Rec → Rec) → ((z : Rec) → (f z).res ≡ z.res) → ((z : Rec) → (f z).rank ≡ z.rank) → (q : Res) (n : ℕ)
     (r : Res) (xs : List Rec) → HaveRank q n xs → HaveRank q n (on_record r f xs)

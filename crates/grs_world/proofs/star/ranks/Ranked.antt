@@ -1,12 +1,11 @@
 -- The ranks of a star that loses nobody: each element has one rank, which the managers carry, and which its task's
 -- system shows. What an event must leave so that it stays so; and the events that leave all mail and lists do.
 use Rattle.grs_world.proofs.Common.{◌∙◌, ◌≡◌, ◌≢◌, ap, Bool, Deck, false, has, has_task, inbox, is_home_at, is_systems}
-use Rattle.grs_world.proofs.Common.{items, List, list_of, lists, Mail, no_truth, NodeState, placed, refl, Res}
-use Rattle.grs_world.proofs.Common.{slice_get, Some, StarPart, state_of, subst, sym, SysId, TaskId, true, Turnout}
-use Rattle.grs_world.proofs.Common.{World, ℕ}
+use Rattle.grs_world.proofs.Common.{List, list_of, Mail, no_truth, NodeState, placed, refl, Res, Some, StarPart}
+use Rattle.grs_world.proofs.Common.{state_of, subst, sym, SysId, TaskId, true, Turnout, World, ℕ}
 use Rattle.grs_world.proofs.star.ranks.Carried.{CarriesRank}
 use Rattle.grs_world.proofs.star.ranks.Shows.{RecordsStay, Shows, shows-more, shows-stay}
-use Rattle.grs_world.proofs.run.Site.{Site, at_site, each_site}
+use Rattle.grs_world.proofs.run.Site.{Site, each_site}
 use Rattle.grs_world.proofs.star.Heard.{IsHeard}
 use Rattle.grs_world.proofs.star.Members.{IsMember, all_lists}
 use Rattle.grs_world.proofs.star.Worlds.{IsWhole}
@@ -122,23 +121,3 @@ module _ (deck : Deck) (w : World) (g : IsWhole deck w) (c : SysId) (n : NodeSta
             (sym (ap (λ es. has_task es t) (same r wide)) ∙ after) before;
       })
       h
-
--- Where the same live systems stand, ranks are the same.
-pub shown-same : (deck : Deck) (w w' : World) → w'.medium.removed ≡ w.medium.removed
-    → ((s : ℕ) → has w.medium.removed s ≡ false → slice_get w'.nodes s ≡ slice_get w.nodes s)
-    → ((s : ℕ) → inbox w'.medium s ≡ inbox w.medium s) → items w'.fixed ≡ items w.fixed → AreShown deck w
-    → AreShown deck w'
-shown-same deck w w' removed nodes boxes same h s n t r found home wide stands =
-    let k : HasShown w s n t r =
-    h s n t r (at_site (sym (nodes s (was s found.live)) ∙ found.at) (was s found.live)) home wide
-    (sym (ap (λ T. has_task (list_of (lists T) r) t) same) ∙ stands) in
-    record {
-      rank = k.rank;
-      shown =
-          subst (λ (ms : List Mail). Shows r t k.rank (state_of n.tasks t).records ms) (sym (boxes s)) k.shown;
-      carried = λ m z p there star.
-          k.carried m z p (at_site (sym (nodes m (was m there.live)) ∙ there.at) (was m there.live)) star;
-    }
-  where
-    was : (i : ℕ) → has w'.medium.removed i ≡ false → has w.medium.removed i ≡ false
-    was i live = sym (ap (λ m. has m i) removed) ∙ live
