@@ -89,6 +89,11 @@ class Lists:
     def __init__(self):
         self.of = {}
 
+    def copy(self):
+        again = Lists()
+        again.of = {resource: [list(it) for it in queue] for resource, queue in self.of.items()}
+        return again
+
     def list(self, resource):
         return self.of.get(resource, [])
 

@@ -487,6 +487,7 @@ def modelled(run, deck):
     tasks, model, stays = tasks_of(run), runs.Run(deck), []
     # where the message is, with the event from which on
     at, managed, gathered = (0, model.medium.at), Spells(len(deck.systems)), Spells(len(deck.systems))
+    model.says.is_brief = True
     for number, event in enumerate(deck.events, 1):
         node, state = model.nodes[event.system], None
         if model.step(event.system, event.verb, event.of) is None and event.verb == "TASK":

@@ -3,6 +3,8 @@
 The model was written from docs/SERVICE.md and docs/TABLES.md. It isn't proved and decides nothing: whoever takes words from it
 first compares its report with the program's. Each event answers why it had nothing to do, or None where it did something.
 """
+import copy
+
 import decks
 from lists import Lists, Wanted, by_kind, by_name, cycle, is_shared, resolve
 
@@ -53,6 +55,11 @@ class TaskState:
         # the event in which it came into its phase, and what its WAIT line is for
         self.since, self.waits_for = 0, None
 
+    def copy(self):
+        again = copy.copy(self)
+        again.records = [copy.copy(it) for it in self.records]
+        return again
+
     def record(self, resource):
         return next((it for it in self.records if it.resource == resource), None)
 
@@ -69,6 +76,13 @@ class Medium:
         # of each lock entry the mask of who has interest, the manager, and how often a manager was removed
         self.words, self.inbox = [(0, None, 0)] * entries, [[] for _ in range(systems)]
         self.resting, self.removed = set(), {}
+
+    def copy(self):
+        again = copy.copy(self)
+        again.still, again.resting, again.removed = set(self.still), set(self.resting), dict(self.removed)
+        again.entries = [(asked, set(mask)) for asked, mask in self.entries]
+        again.words, again.inbox = list(self.words), [list(it) for it in self.inbox]
+        return again
 
     def live(self):
         return [it for it in range(self.systems) if it not in self.removed]
@@ -137,9 +151,18 @@ class Medium:
             self.inbox[it].append(("notice", moved))
         self.resting -= set(self.live())
 
+    def place(self, system, *mail):
+        """The place in a system's inbox, from 1, of the first mail that begins so; or None."""
+        return next((place for place, it in enumerate(self.inbox[system], 1) if it[:len(mail)] == mail), None)
+
+    def notices(self, system, entry):
+        """The places of the notices of an entry in a system's inbox, from 1."""
+        return [place for place, (kind, *mail) in enumerate(self.inbox[system], 1)
+                if kind == "notice" and any(it[0] == entry for it in mail[0])]
+
     def moved(self, system, entry):
         """Whether a notice of an entry lies in a system's inbox: Yours where the system is the manager, Old where another one is."""
-        if any(kind == "notice" and any(it[0] == entry for it in mail[0]) for kind, *mail in self.inbox[system]):
+        if self.notices(system, entry):
             return "YOURS" if self.words[entry][1] == system else "OLD"
         return None
 
@@ -193,6 +216,16 @@ class Node:
         # of each entry that it gathers: whose parts it awaits, and the parts that came; and to whom it owes its part of an entry
         self.gathers, self.owes = {}, {}
         self.tasks = [TaskState() for _ in run.deck.systems[number].tasks]
+
+    def copy(self, run):
+        """The same system in a run that goes on from here without a TASK, which alone changes the own lists."""
+        again = copy.copy(self)
+        again.run, again.medium, again.table, again.tasks = run, run.medium, self.table.copy(), [it.copy() for it in self.tasks]
+        again.managed = {entry: (lists.copy(), set(untold)) for entry, (lists, untold) in self.managed.items()}
+        again.gathers = {entry: (set(awaits), list(parts)) for entry, (awaits, parts) in self.gathers.items()}
+        again.outbox, again.held, again.interest, again.knows = list(self.outbox), list(self.held), set(self.interest), set(self.knows)
+        again.next_rank, again.owes = dict(self.next_rank), dict(self.owes)
+        return again
 
     def entry(self, resource):
         return decks.slice_of(*resource[1:]) % self.deck.entries
@@ -261,14 +294,16 @@ class Node:
     def learns(self):
         """What the system is only told in place of its next event, or None."""
         gone = [self.run.name(it) for it in sorted(set(self.medium.removed) - self.knows)]
-        return "%s only learns that %s was removed" % (self.name, " and ".join(gone)) if gone else None
+        were = "were" if len(gone) > 1 else "was"
+        return "%s only learns that %s %s removed" % (self.name, " and ".join(gone), were) if gone else None
 
     def stale(self):
         """In place of what it was to do a system is only told who was removed."""
-        learns, new = self.learns(), sorted(set(self.medium.removed) - self.knows)
+        learns, new, told = self.learns(), sorted(set(self.medium.removed) - self.knows), len(self.run.told)
         self.knows = set(self.medium.removed)
         self.lose(new)
-        return learns and "by it %s; its next event goes on" % learns
+        more = ", and tells who owns by that" if len(self.run.told) > told else ""
+        return learns and "by it %s%s; its next event goes on" % (learns, more)
 
     def task(self, place):
         state, lines = self.tasks[place], self.deck.systems[self.number].tasks[place].lines
@@ -494,7 +529,7 @@ class Node:
             return stale
         reply = self.medium.submit(self.number, entry, asked)
         if reply in ("YOURS", "OLD"):
-            return self.run.says.moved(self, entry, reply)
+            return self.run.says.noticed(self, entry)
         self.interest.add(entry)
         if reply == "SENT":
             return self.enter(state, SENT)
@@ -612,7 +647,7 @@ class Node:
             return stale
         others = self.medium.leave(self.number, entry)
         if others in ("YOURS", "OLD"):
-            return self.run.says.moved(self, entry, others)
+            return self.run.says.noticed(self, entry)
         if others:
             names = [self.run.name(it) for it in range(len(self.deck.systems)) if others >> it & 1]
             return "%s manages entry %d, in which %s still has interest" % (self.name, entry, " and ".join(names))
@@ -829,10 +864,11 @@ def report(run):
 # Why an event had nothing to do, and why a task hasn't ended
 
 class Says:
-    """Sentences about a run as it stands."""
+    """Sentences about a run as it stands. What would bring a task on takes time to find, and isn't looked for where they are to be
+    brief."""
 
     def __init__(self, run):
-        self.run = run
+        self.run, self.is_brief = run, False
 
     def who(self, elements):
         """Some elements of a list, as the first three and how many more."""
@@ -868,20 +904,26 @@ class Says:
         names = [self.run.name(it) for it in sorted(node.gathers[entry][0])]
         return "%s gathers the lists of entry %d, and awaits the part of %s" % (node.name, entry, " and ".join(names))
 
-    def moved(self, node, entry, reply):
+    def moved(self, node, entry):
+        return "the manager of entry %d was removed, and %s is the new one; the mail that says so is in the inbox of %s" % (
+            entry, self.run.name(self.run.medium.words[entry][1]), node.name)
+
+    def noticed(self, node, entry):
         """Why a call of an entry wasn't carried out, of which a notice lies in the system's inbox."""
-        place = next(place for place, (kind, *mail) in enumerate(self.run.medium.inbox[node.number], 1)
-                     if kind == "notice" and any(it[0] == entry for it in mail[0]))
-        who = "it" if reply == "YOURS" else self.run.name(self.run.medium.words[entry][1])
-        return "the manager of entry %d was removed, and %s is the new one; the mail that says so is in the inbox of %s: %s" % (
-            entry, who, node.name, self.recipe((node, "TAKE", place)))
+        return "%s: %s" % (self.moved(node, entry), self.takes(node, self.run.medium.notices(node.number, entry)[-1]))
+
+    def no_lists(self, node, entry):
+        """Why a system that is to decide of an entry, or to send a request of it, doesn't do so yet; or None."""
+        if entry in node.gathers:
+            return self.gathers(node, entry)
+        return self.moved(node, entry) if self.run.medium.moved(node.number, entry) else None
 
     def no_settle(self, node):
         if node.held:
             return self.gathers(node, node.held[0][0])
         mail = self.run.medium.inbox[node.number]
-        waits = any(it[0] == "request" for it in mail)
-        return "%s has taken no request" % node.name + ("; one is in its inbox: %s TAKE" % node.name if waits else "")
+        place = next((place for place, it in enumerate(mail, 1) if it[0] == "request" and it[2] not in self.run.medium.removed), None)
+        return "%s has taken no request" % node.name + ("; one is in its inbox: %s" % self.takes(node, place) if place else "")
 
     def of_entry(self, node, entry):
         return "%s %s entry %d" % (node.name, "manages no" if entry not in node.managed else "manages", entry)
@@ -918,6 +960,8 @@ class Says:
     def held(self, task):
         """Why a task can't go on."""
         state = self.run.nodes[task[0]].tasks[task[1]]
+        if self.is_brief:
+            return "it waits"
         if state.phase == ENDED:
             return "it has ended, in event %d" % state.since
         if state.phase in (HELD_ANSWER, HELD_LINE):
@@ -944,40 +988,30 @@ class Says:
 
     def control_comes(self, node, task, resource):
         """How a task of this system, which owns a resource by the lists, is told so."""
-        mail, entry = self.run.medium.inbox[node.number], node.entry(resource)
-        place = next((place for place, it in enumerate(mail) if it[0] == "control" and it[1:] == (task, resource)), None)
-        if place is not None:
-            return "the mail that says so is in its inbox: %s" % self.recipe((node, "TAKE", place + 1))
-        # (a manager that has changed to star mode has to tell one that hasn't)
-        for manager in self.run.nodes:
-            untold = list(manager.all_untold(entry))
-            if (task, resource) in untold:
-                tells = untold[:untold.index((task, resource)) + 1]
-                mails = sum(it[0] == node.number for it, _ in tells)
-                return "it is told so by %s" % self.recipe((manager, "TELL %d" % entry, len(tells)), (node, "TAKE", len(mail) + mails))
-        return self.new_manager(entry) or "%s is told when the message comes by: %s" % (node.name, self.turns(node))
+        medium, entry = self.run.medium, node.entry(resource)
+        way = Way(self.run, task, {node.number}) if medium.is_star else None
+        if way is None or way.is_home:
+            return "%s is told when the message comes by: %s" % (node.name, self.turns(node))
+        if medium.place(node.number, "control", task, resource):
+            return "the mail that says so is in its inbox: %s" % way
+        why = self.no_lists(self.run.nodes[medium.words[entry][1]], entry)
+        return "%s: %s" % (why, way) if why else "it is told so by %s" % way
 
-    def new_manager(self, entry):
-        """What the manager of an entry has to do before it has its lists, if the one before it was removed."""
-        medium = self.run.medium
-        manager = medium.words[entry][1] if medium.is_star else None
-        if manager is None:
-            return None
-        if entry in self.run.nodes[manager].gathers:
-            return self.gathers(self.run.nodes[manager], entry)
-        return self.moved(self.run.nodes[manager], entry, "OLD") if medium.moved(manager, entry) else None
+    def times(self, event, times, learns=None):
+        """An event that is made so many times, by the first of which a system may only learn something."""
+        if times == 1:
+            return event + " (by which %s)" % learns * bool(learns)
+        return "%s (%d times%s)" % (event, times, ", by the first of which %s" % learns if learns else "")
 
-    def recipe(self, *events):
-        """Events that bring something home, each as often as what stands in front of it makes needed."""
-        said = ["%s %s" % (node.name, what) + " (%d times)" % times * (times > 1) for node, what, times in events if times]
-        late = sorted({node.name for node, _, _ in events if not node.is_star})
-        return "once %s changed to star mode, " % " and ".join(late) * bool(late) + ", ".join(said)
+    def takes(self, node, place):
+        """The events by which a system takes the mail at a place of its inbox."""
+        learns = node.learns()
+        return self.times("%s TAKE" % node.name, place + bool(learns), learns)
 
     def turns(self, node, times=1):
         """So many turns of a system in ring mode, and one more where by the first it only learns something."""
         learns = node.learns()
-        why = ", by the first of which %s" % learns if learns else ""
-        return "%s TURN" % node.name + " (%d times%s)" % (times + bool(learns), why) * (times + bool(learns) > 1)
+        return self.times("%s TURN" % node.name, times + bool(learns), learns)
 
     def request(self, state, task):
         return "its RELEASE of %s" % resource_text(self.run, state.asked.resource) if state.asked.verb == "RELEASE" else (
@@ -985,35 +1019,28 @@ class Says:
 
     def on_its_way(self, task):
         """Where the request is that a task has asked and not been answered."""
-        node, state = self.run.nodes[task[0]], self.run.nodes[task[0]].tasks[task[1]]
-        asked, name = self.request(state, task), node.name
-        if not node.is_star:
-            at = "the message is at %s" % self.run.name(self.run.medium.at)
-            if state.phase == TO_SEND and self.run.medium.closed:
+        node, state, medium = self.run.nodes[task[0]], self.run.nodes[task[0]].tasks[task[1]], self.run.medium
+        asked, name, entry = self.request(state, task), node.name, state.asked.entry(self.run.deck.entries)
+        if not node.is_star and not (state.phase == TO_SEND and medium.moved(node.number, entry)):
+            at = "the message is at %s" % self.run.name(medium.at)
+            if state.phase == TO_SEND and medium.closed:
                 return "%s waits for a SEND, behind the %s by which %s changes to star mode; %s" % (asked, self.turns(node), name, at)
             if state.phase == TO_SEND:
                 return "%s waits for a %s; %s" % (asked, self.turns(node, node.outbox.index(state.asked) // TURN_TAKES + 1), at)
             return "%s goes round with the message, and is answered at %s once it is back; %s" % (asked, self.turns(node), at)
+        way = Way(self.run, task)
         if state.phase == TO_SEND:
-            return "%s waits for %s SEND %s" % (asked, name, self.run.task_name(task).partition(".")[2])
-        inbox = self.run.medium.inbox
-        for other in self.run.nodes:
-            mail = inbox[other.number]
-            # what it settles, one after the other: the entry, whose system, the request
-            requests = [*other.held, *(it[1:] for it in mail if it[0] == "request")]
-            at = next((at for at, it in enumerate(requests) if it[2] is state.asked), None)
-            if at is not None:
-                takes = next((place + 1 for place, it in enumerate(mail) if it[0] == "request" and it[3] is state.asked), 0)
-                answers = len(inbox[node.number]) + sum(system == node.number for _, system, _ in requests[:at + 1])
-                where = "in the inbox of" if takes else "held by"
-                return "%s is %s %s: %s" % (asked, where, other.name, self.recipe(
-                    (other, "TAKE", takes), (other, "SETTLE", at + 1), (node, "TAKE", answers)))
-        place = next((place for place, it in enumerate(inbox[node.number]) if it[0] == "answer" and it[1] is state.asked), None)
-        if place is None:
-            return "%s was sent to a system that was removed; %s" % (
-                asked, self.moved(node, state.asked.entry(self.run.deck.entries), self.run.medium.moved(
-                    node.number, state.asked.entry(self.run.deck.entries))))
-        return "the answer to %s is in the inbox of %s: %s" % (asked, name, self.recipe((node, "TAKE", place + 1)))
+            why = self.no_lists(node, entry)
+            return "%s waits %s%s" % (asked, "to be sent; %s: " % why if why else "for ", way)
+        for other in (self.run.nodes[it] for it in medium.live()):
+            request = entry, node.number, state.asked
+            at = "in the inbox of" if medium.place(other.number, "request", *request) else "held by" if [*request] in other.held else None
+            if at:
+                why = self.no_lists(other, entry)
+                return "%s is %s %s%s: %s" % (asked, at, other.name, "; " + why if why else "", way)
+        if medium.place(node.number, "answer", state.asked):
+            return "the answer to %s is in the inbox of %s: %s" % (asked, name, way)
+        return "%s was sent to a manager that was removed; the mail that says so is in the inbox of %s: %s" % (asked, name, way)
 
     def unended(self, task):
         """Why a task hasn't ended."""
@@ -1029,6 +1056,121 @@ class Says:
         if state.phase == ENDING:
             return "it ends with %s, and was given no further event: %s" % (state.code, event)
         return self.held(task)
+
+
+# What brings a task on
+
+class Trial(Run):
+    """A run that goes on from where another one stands, without a history."""
+
+    def __init__(self, run):
+        self.deck, self.event, self.told, self.says = run.deck, run.event, [], Says(self)
+        self.medium = run.medium.copy()
+        self.nodes = [it.copy(self) for it in run.nodes]
+
+    def fix(self, *entry):
+        pass
+
+
+class Way:
+    """The events that bring a task on which waits for a SEND, for mail, or for lists that are gathered, by the last of them and not
+    before: they are made on a trial. Ahead of them some systems may have to change to star mode, by turns of the message; and by
+    these the task may have come on already (`is_home`)."""
+
+    def __init__(self, run, task, late=()):
+        self.task, self.late = task, {it for it in late if not run.nodes[it].is_star}
+        while (system := self.go(Trial(run))) is not None:
+            self.late.add(system)
+
+    def __str__(self):
+        late = sorted(self.run.name(it) for it in self.late)
+        said = [self.run.says.times(event, times, learns) for event, times, learns in self.events]
+        return "once %s changed to star mode, " % " and ".join(late) * bool(late) + ", ".join(said)
+
+    def stands(self):
+        state = self.run.nodes[self.task[0]].tasks[self.task[1]]
+        return state.phase, state.since, state.line
+
+    def go(self, trial):
+        """Goes on a trial until the task has come on; answers a system that has to change to star mode first, or None."""
+        self.run, self.events = trial, []
+        start = self.stands()
+        while not all(trial.nodes[it].is_star for it in self.late):
+            trial.step(trial.medium.at, "TURN", None)
+        self.is_home = self.stands() != start
+        while self.stands() == start:
+            system, verb, of, times = self.next()
+            if not trial.nodes[system].is_star:
+                return system
+            while times and self.stands() == start:
+                times = self.make(system, verb, of) and times - 1
+        # (by its last event the task comes on, whatever its system only learns by it)
+        if self.events and self.events[-1][1] == 1:
+            self.events[-1][2] = None
+        return None
+
+    def make(self, system, verb, of):
+        """Makes an event, and answers whether its system did by it what it was to do."""
+        node = self.run.nodes[system]
+        learns = node.learns()
+        what = self.run.task_name((system, of)).partition(".")[2] if verb == "SEND" else of
+        event = " ".join([node.name, verb] + ["%s" % what] * (what is not None))
+        if self.run.step(system, verb, of) and not learns:
+            raise LookupError("%s comes to nothing" % event)
+        if self.events and self.events[-1][0] == event:
+            self.events[-1][1] += 1
+        else:
+            self.events.append([event, 1, learns])
+        return not learns
+
+    def next(self):
+        """The next event, and how often in a row."""
+        node, state = self.run.nodes[self.task[0]], self.run.nodes[self.task[0]].tasks[self.task[1]]
+        if state.phase == TO_SEND:
+            return self.lists(node, state.asked.entry(self.run.deck.entries)) or (node.number, "SEND", self.task[1], 1)
+        return self.answer(node, state.asked) if state.phase == SENT else self.control(node, self.run.says.waits_for(state))
+
+    def take(self, node, place):
+        return node.number, "TAKE", None, place
+
+    def lists(self, node, entry):
+        """What is next for a system that has to gather the lists of an entry, or to learn who does; None where it has not."""
+        medium, notices = self.run.medium, self.run.medium.notices(node.number, entry)
+        if notices or entry not in node.gathers:
+            return self.take(node, notices[-1]) if notices else None
+        parts = [(it, medium.place(node.number, "part", entry, it)) for it in sorted(node.gathers[entry][0])]
+        for other in (self.run.nodes[it] for it, place in parts if place is None and it not in medium.removed):
+            if other.owes.get(entry) == node.number:
+                return other.number, "PART", entry, 1
+            return self.take(other, medium.notices(other.number, entry)[-1])
+        # (it learns by it that who owes it a part was removed)
+        return self.take(node, max([place for _, place in parts if place], default=1))
+
+    def answer(self, node, asked):
+        """What is next for a request that was sent."""
+        medium, entry = self.run.medium, asked.entry(self.run.deck.entries)
+        for other in (self.run.nodes[it] for it in medium.live()):
+            place = medium.place(other.number, "request", entry, node.number, asked)
+            if place:
+                return self.take(other, place)
+            if [entry, node.number, asked] in other.held:
+                before = other.held[:other.held.index([entry, node.number, asked])]
+                return self.lists(other, entry) or (other.number, "SETTLE", None, 1 + sum(it[0] not in other.gathers for it in before))
+        return self.take(node, medium.place(node.number, "answer", asked) or medium.notices(node.number, entry)[0])
+
+    def control(self, node, resource):
+        """What is next for a task that owns a resource, and wasn't told so."""
+        medium, entry = self.run.medium, node.entry(resource)
+        place = medium.place(node.number, "control", self.task, resource)
+        if place:
+            return self.take(node, place)
+        for other in (self.run.nodes[it] for it in medium.live()):
+            untold = list(other.all_untold(entry))
+            if (self.task, resource) in untold:
+                return other.number, "TELL", entry, untold.index((self.task, resource)) + 1
+        # (else its manager learns who was removed)
+        manager = self.run.nodes[medium.words[entry][1]]
+        return self.lists(manager, entry) or self.take(manager, 1)
 
 
 # A deadlock
