@@ -8,13 +8,10 @@ ghost use Rattle.grs_workers.specs.Stands.{is_leave, is_early};
 
 use grs_base::{List, NoMemory, SysId, TaskId};
 use grs_node::{Node, Prepared};
-use grs_wire::{Choice, Deck, Desk, JobDef, Order, Reply, StepDone, ToldLine};
+use grs_wire::{Act, Call, Choice, Deck, Desk, JobDef, Mail, Order, Reply, StepDone, ToldLine};
 use std::alloc::Global;
 use std::collections::VecDeque;
 use std::thread;
-
-/// Behind how many choices that have nothing to do it is asked whether any has.
-const SOME_TRIES: usize = 3;
 
 /// A command of the desk, and behind how many events of the system it is tried where there is something else to do.
 #[derive(Clone, Copy)]
@@ -58,6 +55,14 @@ pub(crate) struct Agenda {
     /// The tasks that may get on, in turn: all of them at first, and then those that just did, or were told something. They are tried
     /// ahead of the other choices.
     ready: VecDeque<TaskId>,
+    /// How many of its tasks have yet to end.
+    open: usize,
+    /// Requests of other systems were taken from the inbox since there was none to settle.
+    holds: bool,
+    /// The lock entry of the request that the last call took from the inbox, or sent to the system itself.
+    asked: Option<u32>,
+    /// The lock entries of these requests and those, in which there may be owners to tell.
+    served: VecDeque<u32>,
     /// Where it is among the tries, and how many of them are left since the system changed.
     next: usize,
     left: usize,
@@ -123,6 +128,19 @@ fn add_ready(ready: &mut VecDeque<TaskId>, task: TaskId) -> Result<(), NoMemory>
     match ready.push_back(task) {
         Ok(()) => Ok(()),
         Err(_) => Err(NoMemory),
+    }
+}
+
+/// The lock entry of a request that is to be sent.
+fn entry_asked(prepared: &Prepared) -> Option<u32> {
+    match prepared {
+        Prepared::Call(
+            Call {
+                known: _,
+                act: Act::Submit { entry, req: _ },
+            },
+        ) => Some(*entry),
+        _ => None,
     }
 }
 
@@ -211,12 +229,17 @@ impl Agenda {
         add_entries(&mut later, deck.entries)?;
         let ready = tasks_of(alloc, tries.as_slice())?;
         let left = tries.len();
+        let open = tries.len();
         Ok(Agenda {
             tries,
             later,
             desk,
             star: false,
             ready,
+            open,
+            holds: false,
+            asked: None,
+            served: VecDeque::new(alloc),
             next: 0,
             left,
             entries: deck.entries,
@@ -267,7 +290,8 @@ impl Agenda {
     fn changed(&mut self, got_on: bool) {
         match self.last {
             Last::Turn | Last::Rest => self.busy = self.busy || got_on || self.brought,
-            Last::Nothing | Last::Choice | Last::Leave | Last::Look => self.busy = true,
+            Last::Nothing | Last::Choice | Last::Look => self.busy = true,
+            Last::Leave => {}
         }
         self.at_rest = false;
         self.has_changed = true;
@@ -313,6 +337,9 @@ impl Agenda {
             add_ready(&mut self.ready, task)?;
         }
         for line in step.told.as_slice() {
+            if matches!(line, ToldLine::Ended { task: _, code: _ }) {
+                self.open = self.open.saturating_sub(1);
+            }
             match told_task(line) {
                 Some(task) if own != Some(task) => add_ready(&mut self.ready, task)?,
                 Some(_) | None => {}
@@ -321,11 +348,24 @@ impl Agenda {
         Ok(())
     }
 
+    /// In the lock entry of the last call's request there may be owners to tell.
+    fn keep_asked(&mut self) -> Result<(), NoMemory> {
+        let Some(entry) = self.asked else {
+            return Ok(());
+        };
+        self.asked = None;
+        match self.served.push_back(entry) {
+            Ok(()) => Ok(()),
+            Err(_) => Err(NoMemory),
+        }
+    }
+
     /// Sees whether the event that was picked last changed the system.
     fn look_back(&mut self, node: &Node<'_>) -> Result<(), NoMemory> {
         if !self.star && node.known_at_turn().is_none() {
             self.enter_star();
         }
+        self.keep_asked()?;
         let steps = node.log().steps.as_slice();
         match steps.last() {
             Some(step) if steps.len() != self.steps => {
@@ -360,6 +400,20 @@ impl Agenda {
             }
             Reply::Taken { mail: _ } => true,
             _ => false,
+        };
+        self.asked = match reply {
+            Reply::Taken {
+                mail: Mail::Request {
+                    entry,
+                    from: _,
+                    req: _,
+                },
+            } => {
+                self.holds = true;
+                Some(*entry)
+            }
+            Reply::Sole => self.asked,
+            _ => None,
         };
     }
 
@@ -428,16 +482,36 @@ impl Agenda {
         ensures addressed { IfOk result (λ o. IfSome o (λ x. is_addressed node.old.deck node.old.node.tasks.system x.1 ≡ true)) }
         ensures in_time { IfOk result (λ o. IfSome o (λ x. is_early node.old x.0 ≡ false)) }
     {
-        for tried in 0..self.left {
-            if tried == SOME_TRIES && !node.pending() {
-                self.left = 0;
-                return Ok(None);
-            }
+        if self.left == 0 || !node.pending() {
+            self.left = 0;
+            return Ok(None);
+        }
+        for _ in 0..self.left {
             if let Some(found) = self.try_here(node)? {
                 return Ok(Some(found));
             }
         }
         Ok(None)
+    }
+
+    /// That a task sends, if it has something to send. The lock entry of its request is kept.
+    fn try_send(
+        &mut self,
+        node: &mut Node<'_>,
+        task: TaskId,
+    ) -> Result<Option<(Choice, Prepared)>, NoMemory>
+        ensures same { node.new ≡ node.old }
+        ensures prepared { IfOk result (λ o. IfSome o (λ x. x.1 ≡ prepare node.old.deck node.old.node x.0)) }
+        ensures some { IfOk result (λ o. IfSome o (λ x. x.1 ≢ Nothing)) }
+        ensures addressed { IfOk result (λ o. IfSome o (λ x. is_addressed node.old.deck node.old.node.tasks.system x.1 ≡ true)) }
+        ensures in_time { IfOk result (λ o. IfSome o (λ x. is_early node.old x.0 ≡ false)) }
+    {
+        let found = self.try_choice(node, Choice::Send(task))?;
+        self.asked = match &found {
+            Some((_, prepared)) => entry_asked(prepared),
+            None => None,
+        };
+        Ok(found)
     }
 
     /// That a task goes on, or in star mode sends, if it has something to do.
@@ -453,7 +527,7 @@ impl Agenda {
         ensures in_time { IfOk result (λ o. IfSome o (λ x. is_early node.old x.0 ≡ false)) }
     {
         match self.try_choice(node, Choice::Task(task))? {
-            None if self.star => self.try_choice(node, Choice::Send(task)),
+            None if self.star => self.try_send(node, task),
             found => Ok(found),
         }
     }
@@ -473,6 +547,33 @@ impl Agenda {
             if let Some(found) = self.try_task(node, task)? {
                 return Ok(Some(found));
             }
+        }
+        Ok(None)
+    }
+
+    /// What a manager does: the first request that is held is settled, or else an owner is told in one of the lock entries that were asked
+    /// for, if there is something of that to do.
+    fn serve(&mut self, node: &mut Node<'_>) -> Result<Option<(Choice, Prepared)>, NoMemory>
+        ensures same { node.new ≡ node.old }
+        ensures prepared { IfOk result (λ o. IfSome o (λ x. x.1 ≡ prepare node.old.deck node.old.node x.0)) }
+        ensures some { IfOk result (λ o. IfSome o (λ x. x.1 ≢ Nothing)) }
+        ensures addressed { IfOk result (λ o. IfSome o (λ x. is_addressed node.old.deck node.old.node.tasks.system x.1 ≡ true)) }
+        ensures in_time { IfOk result (λ o. IfSome o (λ x. is_early node.old x.0 ≡ false)) }
+    {
+        if self.holds {
+            if let Some(found) = self.try_choice(node, Choice::Settle)? {
+                return Ok(Some(found));
+            }
+            self.holds = false;
+        }
+        for _ in 0..self.served.len() {
+            let Some(entry) = self.served.front().copied() else {
+                return Ok(None);
+            };
+            if let Some(found) = self.try_choice(node, Choice::Tell(entry))? {
+                return Ok(Some(found));
+            }
+            let _ = self.served.pop_front();
         }
         Ok(None)
     }
@@ -593,7 +694,13 @@ impl Agenda {
         }
     }
 
-    /// Interest in a lock entry is given up in star mode, where nothing is pending.
+    /// Whether it would rest behind a turn or a look: none of its tasks and requests got on, and the last turn or look was in vain.
+    fn would_rest(&self) -> bool {
+        !self.busy && (self.in_vain || self.at_rest)
+    }
+
+    /// Interest in a lock entry is given up in star mode, where nothing is pending, once all tasks have ended or the system would rest. As
+    /// long as they go on they are likely to want the entry again, and to see that they don't use it takes a look at each of them.
     fn leave_if(&mut self, node: &mut Node<'_>) -> Result<Option<(Choice, Prepared)>, NoMemory>
         ensures same { node.new ≡ node.old }
         ensures prepared { IfOk result (λ o. IfSome o (λ x. x.1 ≡ prepare node.old.deck node.old.node x.0)) }
@@ -601,15 +708,15 @@ impl Agenda {
         ensures addressed { IfOk result (λ o. IfSome o (λ x. is_addressed node.old.deck node.old.node.tasks.system x.1 ≡ true)) }
         ensures in_time { IfOk result (λ o. IfSome o (λ x. is_early node.old x.0 ≡ false)) }
     {
-        if !self.star || self.entry >= self.entries || node.pending() {
+        let is_due = self.open == 0 || self.would_rest();
+        if !is_due || !self.star || self.entry >= self.entries || node.pending() {
             return Ok(None);
         }
         self.leave(node)
     }
 
     /// Behind all other choices: a turn or a look into the inbox, and then what is left of the desk and a rest, each once until the
-    /// system changes or is woken. It rests where none of its tasks and requests got on, and the turn or look was in vain, or else it
-    /// would hear more.
+    /// system changes or is woken. Where it got on it doesn't rest, since it will hear more.
     fn turn_then_rest(
         &mut self,
         node: &mut Node<'_>,
@@ -622,7 +729,7 @@ impl Agenda {
     {
         match self.then {
             Then::Turn => Ok(Some(self.turn(node)?)),
-            Then::Rest if !self.busy && (self.in_vain || self.at_rest) => {
+            Then::Rest if self.would_rest() => {
                 match self.command_left(node)? {
                     None => self.rest(node),
                     found => Ok(found),
@@ -633,8 +740,8 @@ impl Agenda {
     }
 
     /// The next choice that has something to do, and what it comes to; none where there is nothing to do until the medium changes.
-    /// Mail is taken until the inbox is empty. Then come commands of the desk that are due, the tasks that may get on, and all choices,
-    /// as long as the system changes.
+    /// Mail is taken until the inbox is empty. Then come commands of the desk that are due, the tasks that may get on, what requests
+    /// want that were taken, and all choices, as long as the system changes.
     pub(crate) fn next(
         &mut self,
         node: &mut Node<'_>,
@@ -653,6 +760,9 @@ impl Agenda {
             return Ok(Some(found));
         }
         if let Some(found) = self.find_ready(node)? {
+            return Ok(Some(found));
+        }
+        if let Some(found) = self.serve(node)? {
             return Ok(Some(found));
         }
         if let Some(found) = self.find(node)? {

@@ -1,5 +1,5 @@
 use Rattle.std.proofs.Common.{◌≡◌}
 use Rattle.grs_workers.proofs.agenda.Agenda.find.Given as goal
 
-abbrev pub invariant-loop-tried : goal.invariant-loop-tried
-invariant-loop-tried l = record { node : l.node ≡ l.fn.node }
+abbrev pub invariant-loop : goal.invariant-loop
+invariant-loop l = record { node : l.node ≡ l.fn.node }
