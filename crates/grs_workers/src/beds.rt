@@ -1,6 +1,7 @@
 //! Where workers sleep that have nothing to do, and how they wake each other. Each has a bed of its own. Behind a call that is entered
 //! just those are called whom it concerns. No worker waits for a time: who sleeps was told that others are up, and the last one up
 //! calls those that have yet to come to rest. No clause rests on it.
+use crate::gate::Woken;
 use grs_base::{MOST_SYSTEMS, NoMemory, SysId};
 use grs_wire::masks::has_system;
 use std::alloc::Global;
@@ -31,17 +32,6 @@ const AT_REST: u64 = 3;
 
 /// It was called since all others sleep, and has yet to look.
 const ALONE: u64 = 4;
-
-/// How a sleep ended.
-#[derive(Clone, Copy, PartialEq, Eq)]
-pub(crate) enum Woken {
-    /// The worker was called.
-    Called,
-    /// It was called since all others sleep.
-    Alone,
-    /// Somebody gave up, or there are workers that have yet to begin, so it doesn't sleep.
-    Never,
-}
 
 /// The beds of all workers.
 #[derive(Drop)]
@@ -77,6 +67,11 @@ impl Beds {
             got_on: AtomicU64::new(0),
             patience,
         })
+    }
+
+    /// Whether nobody is to sleep any more.
+    fn was_left(&self) -> bool {
+        self.left.load(Ordering::SeqCst) != 0
     }
 
     /// Whether some worker made an event.
@@ -198,13 +193,17 @@ impl Beds {
 
     /// Sleeps in this bed until the worker is called.
     fn sleep<R: Wait>(&self, rt: &R, bed: &AtomicU64, at_rest: bool) -> Woken {
-        if self.left.load(Ordering::SeqCst) != 0 || !self.all_begin(bed) {
+        if self.was_left() {
             return Woken::Never;
+        }
+        if !self.all_begin(bed) {
+            return Woken::Late;
         }
         Beds::look(bed);
         self.lie(rt, bed, if at_rest { AT_REST } else { ASLEEP });
         match bed.swap(UP, Ordering::SeqCst) {
             ALONE => Woken::Alone,
+            _ if self.was_left() => Woken::Left,
             _ => Woken::Called,
         }
     }

@@ -12,7 +12,7 @@ mod stretch;
 mod worker;
 
 pub use crew::workers_of;
-pub use gate::{FreeGate, Gate};
+pub use gate::{FreeGate, Gate, Woken};
 pub use rounds::round;
 pub use run::{Ran, run_workers};
 pub use worker::Worker;

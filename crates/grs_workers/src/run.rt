@@ -118,7 +118,7 @@ fn apart<'d>(
 }
 
 /// Runs the systems of a deck beside each other, for which it waits, until each was answered that all have come to rest, or that
-/// it was removed. The gate is lent each worker ahead of its calls and behind them.
+/// it was removed. The gate is lent each worker ahead of its calls and behind them, and is told how its sleeps end.
 pub fn run_workers<'d, R: Threads + Wait + Sync, G: Gate + Sync>(
     rt: &R,
     alloc: Global,

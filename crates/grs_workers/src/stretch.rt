@@ -4,11 +4,11 @@ ghost use Rattle.grs_workers.specs.Stands.{stand, IsOn, Agrees};
 ghost use Rattle.grs_workers.specs.Rounds.{Grew, Each, HasMoved};
 
 use crate::agenda::Agenda;
-use crate::beds::{Beds, Sleeper, Woken};
-use crate::gate::Gate;
+use crate::beds::{Beds, Sleeper};
+use crate::gate::{Gate, Woken};
 use crate::rounds::{act, all_out};
 use crate::worker::Worker;
-use grs_base::{MOST_SYSTEMS, NoMemory};
+use grs_base::{MOST_SYSTEMS, NoMemory, SysId};
 use grs_bus::Bus;
 use grs_wire::Choice;
 use std::alloc::Global;
@@ -54,17 +54,25 @@ fn event_if<R: Wait, G: Gate>(
     }
 }
 
-/// There is nothing to do: the worker asks once more, where it has yet to sleep, and else it sleeps until it is called.
-fn rest<R: Wait>(rt: &R, agenda: &mut Agenda, sleeper: &mut Sleeper<'_>) -> Goes {
+/// There is nothing to do: the worker of this system asks once more, where it has yet to sleep, and else it sleeps until it is called.
+/// The gate is told how that ended.
+fn rest<R: Wait, G: Gate>(
+    rt: &R,
+    system: SysId,
+    agenda: &mut Agenda,
+    gate: &G,
+    sleeper: &mut Sleeper<'_>,
+) -> Goes {
     if sleeper.asks_again() {
         agenda.ask();
         return Goes::On;
     }
     let woken = sleeper.sleep(rt, agenda.at_rest());
+    gate.woken(system, woken);
     agenda.wake(woken == Woken::Alone);
     match woken {
-        Woken::Called | Woken::Alone => Goes::On,
-        Woken::Never => Goes::Away,
+        Woken::Called | Woken::Alone | Woken::Left => Goes::On,
+        Woken::Late | Woken::Never => Goes::Away,
     }
 }
 
@@ -83,6 +91,7 @@ fn step<R: Wait, G: Gate>(
     ensures agrees { OnOk result (Agrees (stand worker.new)) }
 {
     let steps = worker.node.log().steps.len();
+    let system = worker.seat.system();
     match event_if(rt, bus, worker, gate, sleeper)? {
         Some(goes) => {
             if worker.node.log().steps.len() != steps {
@@ -90,7 +99,7 @@ fn step<R: Wait, G: Gate>(
             }
             Ok(goes)
         }
-        None => Ok(rest(rt, &mut worker.agenda, sleeper)),
+        None => Ok(rest(rt, system, &mut worker.agenda, gate, sleeper)),
     }
 }
 

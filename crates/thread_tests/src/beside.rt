@@ -5,9 +5,9 @@
 //! events that look up nothing, and comes to its second call behind them, which the gate sees.
 use crate::long::{Long, add_long, add_patterns};
 use crate::runs::{NAMES, STAR, add_system, once, ran, reaches};
+use crate::sleeps::End;
 use crossbeam_utils::atomic::AtomicCell;
 use grs_base::{List, NoMemory, SysId};
-use grs_top::Status;
 use grs_workers::{Gate, Worker};
 use std::alloc::Global;
 use std::hint;
@@ -87,8 +87,8 @@ impl Beside {
     }
 
     /// Whether the one came so far while the other looked up.
-    fn is_right(&self, status: Status) -> bool {
-        status == Status::Done && self.long.meanwhile() >= CALLS && self.gave_up.load() == 0
+    fn is_right(&self) -> bool {
+        self.long.meanwhile() >= CALLS && self.gave_up.load() == 0
     }
 }
 
@@ -144,16 +144,16 @@ fn deck_of(alloc: Global, looks_up: u8, when: LooksUp) -> Result<List<u8>, NoMem
     Ok(deck)
 }
 
-/// Whether a run is right.
-fn is_right<R: Threads + Wait + Sync>(
+/// How a run ended, and whether it is right.
+fn one_run<R: Threads + Wait + Sync>(
     rt: &R,
     alloc: Global,
     looks_up: u8,
     when: LooksUp,
-) -> Result<bool, NoMemory> {
+) -> Result<(End, bool), NoMemory> {
     let gate = Beside::new(alloc, looks_up, when)?;
-    let (status, _) = ran(rt, alloc, deck_of(alloc, looks_up, when)?, &gate)?;
-    Ok(gate.is_right(status))
+    let (end, _) = ran(rt, alloc, deck_of(alloc, looks_up, when)?, &gate)?;
+    Ok((end, gate.is_right()))
 }
 
 /// Whether one of a few is, as the threads of both have to get on at the same time.
@@ -163,7 +163,7 @@ fn is_right_once<R: Threads + Wait + Sync>(
     looks_up: u8,
     when: LooksUp,
 ) -> Result<bool, NoMemory> {
-    once(&|| is_right(rt, alloc, looks_up, when))
+    once(&|| one_run(rt, alloc, looks_up, when))
 }
 
 #[test]

@@ -2,8 +2,8 @@
 //! and again whether there is something to do makes many that are none.
 use crate::progress::{Progress, keep, to_begin};
 use crate::runs::{MOST, NAMES, add_system, once, ran};
+use crate::sleeps::End;
 use grs_base::{List, NoMemory, SysId};
-use grs_top::Status;
 use grs_workers::{Gate, Worker};
 use std::alloc::Global;
 use std::sync::Wait;
@@ -45,46 +45,41 @@ fn deck_of(alloc: Global, head: &[u8], busy: usize) -> Result<List<u8>, NoMemory
     Ok(deck)
 }
 
-/// What a run came to: its status, how many calls were answered, and how many steps the logs have.
+/// What a run came to: how many calls were answered, and how many steps the logs have.
 #[derive(Clone, Copy)]
 struct Outcome {
-    status: Status,
     calls: u64,
     steps: u64,
 }
 
 impl Outcome {
-    fn of(status: Status, systems: &[Progress]) -> Outcome {
+    fn of(systems: &[Progress]) -> Outcome {
         let mut calls = 0u64;
         let mut steps = 0u64;
         for progress in systems {
             calls = calls.saturating_add(progress.calls.load());
             steps = steps.saturating_add(progress.steps.load());
         }
-        Outcome {
-            status,
-            calls,
-            steps,
-        }
+        Outcome { calls, steps }
     }
 
     fn is_right(&self) -> bool {
-        self.status == Status::Done && self.calls <= MOST_CALLS.saturating_mul(self.steps)
+        self.calls <= MOST_CALLS.saturating_mul(self.steps)
     }
 }
 
-/// Whether a run of eight systems is right, of which the first few have a task.
-fn is_right<R: Threads + Wait + Sync>(
+/// How a run of eight systems ended, of which the first few have a task, and whether it is right.
+fn one_run<R: Threads + Wait + Sync>(
     rt: &R,
     alloc: Global,
     head: &[u8],
     busy: usize,
-) -> Result<bool, NoMemory> {
+) -> Result<(End, bool), NoMemory> {
     let gate = Counted {
         systems: to_begin(alloc, MOST)?,
     };
-    let (status, _) = ran(rt, alloc, deck_of(alloc, head, busy)?, &gate)?;
-    Ok(Outcome::of(status, &gate.systems).is_right())
+    let (end, _) = ran(rt, alloc, deck_of(alloc, head, busy)?, &gate)?;
+    Ok((end, Outcome::of(&gate.systems).is_right()))
 }
 
 /// Whether one of a few is, as a thread that begins late is waited for by looks.
@@ -94,7 +89,7 @@ fn is_right_once<R: Threads + Wait + Sync>(
     head: &[u8],
     busy: usize,
 ) -> Result<bool, NoMemory> {
-    once(&|| is_right(rt, alloc, head, busy))
+    once(&|| one_run(rt, alloc, head, busy))
 }
 
 #[test]

@@ -3,9 +3,9 @@
 //! `mails` refuse a time down to a millisecond. And that the printed steps are those of the workers.
 use crate::progress::{Progress, keep};
 use crate::runs::{ran, reaches};
+use crate::sleeps::{End, RIGHT};
 use crossbeam_utils::atomic::AtomicCell;
 use grs_base::{List, SysId};
-use grs_top::Status;
 use grs_workers::{Gate, Worker};
 use std::test::Fail;
 
@@ -83,11 +83,11 @@ fn events_of(report: &[u8], front: &[u8]) -> u64 {
     count
 }
 
-/// What a run came to: its status, whether both calls that were held passed, and of each system whether the schedule has as many
+/// What a run came to: its end, whether both calls that were held passed, and of each system whether the schedule has as many
 /// steps as the log of its worker had, and at least one.
 #[derive(Clone, Copy, Debug, PartialEq, Eq)]
 struct Outcome {
-    status: Status,
+    end: End,
     passed: bool,
     steps: [bool; 2],
 }
@@ -97,9 +97,9 @@ fn is_counted(progress: &Progress, count: u64) -> bool {
 }
 
 impl Outcome {
-    fn of(status: Status, report: &[u8], gate: &Held) -> Outcome {
+    fn of(end: End, report: &[u8], gate: &Held) -> Outcome {
         Outcome {
-            status,
+            end,
             passed: gate.passed.load() && gate.met.load(),
             steps: [
                 is_counted(&gate.systems[0], events_of(report, b"SYA ")),
@@ -112,15 +112,15 @@ impl Outcome {
 #[test]
 fn a_system_that_is_held_lets_another_go_on(rt: HostRuntime) -> Result<(), Fail> {
     let right = Outcome {
-        status: Status::Done,
+        end: RIGHT,
         passed: true,
         steps: [true, true],
     };
     for (first, second) in [(0, 1), (1, 0)] {
         let gate = Held::new(first, second);
         let deck = List::from_bytes(rt.alloc(), RING)?;
-        let (status, report) = ran(&rt, rt.alloc(), deck, &gate)?;
-        assert_eq!(rt; Outcome::of(status, report.as_slice(), &gate), right);
+        let (end, report) = ran(&rt, rt.alloc(), deck, &gate)?;
+        assert_eq!(rt; Outcome::of(end, report.as_slice(), &gate), right);
     }
     Ok(())
 }

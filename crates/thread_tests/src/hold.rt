@@ -1,9 +1,9 @@
 //! A gate that holds some systems until others got on.
 use crate::progress::Progress;
 use crate::runs::reaches;
+use crate::sleeps::End;
 use crossbeam_utils::atomic::AtomicCell;
 use grs_base::{NoMemory, SysId};
-use grs_top::Status;
 use grs_workers::{Gate, Worker};
 use std::alloc::Global;
 
@@ -43,10 +43,10 @@ pub struct Hold {
     gave_up: AtomicCell<u64>,
 }
 
-/// What came of a run: its status, how many that were held saw the others get on, and how often a system waited and gave up.
+/// What came of a run: its end, how many that were held saw the others get on, and how often a system waited and gave up.
 #[derive(Clone, Copy, Debug, PartialEq, Eq)]
 pub struct Outcome {
-    pub status: Status,
+    pub end: End,
     pub passed: u64,
     pub gave_up: u64,
 }
@@ -84,9 +84,9 @@ impl Hold {
         })
     }
 
-    pub fn outcome(&self, status: Status) -> Outcome {
+    pub fn outcome(&self, end: End) -> Outcome {
         Outcome {
-            status,
+            end,
             passed: self.passed.load(),
             gave_up: self.gave_up.load(),
         }

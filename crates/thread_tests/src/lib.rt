@@ -21,6 +21,8 @@ mod ring;
 #[cfg(test)]
 mod runs;
 #[cfg(test)]
+mod sleeps;
+#[cfg(test)]
 mod star;
 #[cfg(test)]
 mod waking;

@@ -5,9 +5,9 @@
 //! has the token by then, and each mail of the two takes so long.
 use crate::long::{Long, add_long, add_patterns};
 use crate::runs::{NAMES, STAR, add_system, once, ran, reaches};
+use crate::sleeps::End;
 use crossbeam_utils::atomic::AtomicCell;
 use grs_base::{List, NoMemory, SysId};
-use grs_top::Status;
 use grs_workers::{Gate, Worker};
 use std::alloc::Global;
 use std::sync::Wait;
@@ -53,8 +53,8 @@ impl Mails {
     }
 
     /// Whether the two got so far while the third looked up.
-    fn is_right(&self, status: Status) -> bool {
-        status == Status::Done && self.long.meanwhile() >= CALLS && self.gave_up.load() == 0
+    fn is_right(&self) -> bool {
+        self.long.meanwhile() >= CALLS && self.gave_up.load() == 0
     }
 }
 
@@ -93,11 +93,15 @@ fn deck_of(alloc: Global, third: u8) -> Result<List<u8>, NoMemory> {
     Ok(deck)
 }
 
-/// Whether a run is right.
-fn is_right<R: Threads + Wait + Sync>(rt: &R, alloc: Global, third: u8) -> Result<bool, NoMemory> {
+/// How a run ended, and whether it is right.
+fn one_run<R: Threads + Wait + Sync>(
+    rt: &R,
+    alloc: Global,
+    third: u8,
+) -> Result<(End, bool), NoMemory> {
     let gate = Mails::new(alloc, third)?;
-    let (status, _) = ran(rt, alloc, deck_of(alloc, third)?, &gate)?;
-    Ok(gate.is_right(status))
+    let (end, _) = ran(rt, alloc, deck_of(alloc, third)?, &gate)?;
+    Ok((end, gate.is_right()))
 }
 
 /// Whether one of a few is, as the threads of all have to get on at the same time.
@@ -106,7 +110,7 @@ fn is_right_once<R: Threads + Wait + Sync>(
     alloc: Global,
     third: u8,
 ) -> Result<bool, NoMemory> {
-    once(&|| is_right(rt, alloc, third))
+    once(&|| one_run(rt, alloc, third))
 }
 
 #[test]

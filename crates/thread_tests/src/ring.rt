@@ -7,9 +7,9 @@
 //! system behind so many events.
 use crate::progress::{Progress, keep};
 use crate::runs::{NAMES, add_system, ran, reaches};
+use crate::sleeps::{End, RIGHT};
 use crossbeam_utils::atomic::AtomicCell;
 use grs_base::{List, NoMemory, SysId};
-use grs_top::Status;
 use grs_wire::Choice;
 use grs_workers::{Gate, Worker};
 use std::alloc::Global;
@@ -130,10 +130,10 @@ impl Gate for Held {
     }
 }
 
-/// What a run came to: its status, whether the one that was held passed, and how often a system waited and gave up.
+/// What a run came to: its end, whether the one that was held passed, and how often a system waited and gave up.
 #[derive(Clone, Copy, Debug, PartialEq, Eq)]
 struct Outcome {
-    status: Status,
+    end: End,
     passed: bool,
     gave_up: u64,
 }
@@ -160,9 +160,9 @@ fn outcome_of<R: Threads + Wait + Sync>(
     held: u8,
 ) -> Result<Outcome, NoMemory> {
     let gate = Held::new(held);
-    let (status, _) = ran(rt, alloc, deck_of(alloc, held)?, &gate)?;
+    let (end, _) = ran(rt, alloc, deck_of(alloc, held)?, &gate)?;
     Ok(Outcome {
-        status,
+        end,
         passed: gate.passed.load(),
         gave_up: gate.gave_up.load(),
     })
@@ -170,7 +170,7 @@ fn outcome_of<R: Threads + Wait + Sync>(
 
 fn right() -> Outcome {
     Outcome {
-        status: Status::Done,
+        end: RIGHT,
         passed: true,
         gave_up: 0,
     }

@@ -1,8 +1,9 @@
 //! Decks made from parts, and runs of their systems beside each other; and how a gate waits.
+use crate::sleeps::{End, Sleeps};
 use crossbeam_utils::atomic::AtomicCell;
 use grs_base::{List, NoMemory};
 use grs_io::{MemSink, MemSource};
-use grs_top::{Status, run_command};
+use grs_top::run_command;
 use grs_workers::Gate;
 use std::alloc::Global;
 use std::sync::Wait;
@@ -63,26 +64,32 @@ pub fn add_system(
     Ok(())
 }
 
-/// Runs a deck by threads under this gate: the status, and the report.
+/// Runs a deck by threads under this gate: how that ended, and the report.
 pub fn ran<R: Threads + Wait + Sync, G: Gate + Sync>(
     rt: &R,
     alloc: Global,
     deck: List<u8>,
     gate: &G,
-) -> Result<(Status, List<u8>), NoMemory> {
+) -> Result<(End, List<u8>), NoMemory> {
     let mut source = MemSource::new(deck, CHUNK, List::new(alloc));
     let mut sink = MemSink::new(alloc, CHUNK, List::new(alloc));
-    let status = run_command(rt, alloc, &mut source, &mut sink, gate);
+    let sleeps = Sleeps::new(alloc, gate)?;
+    let status = run_command(rt, alloc, &mut source, &mut sink, &sleeps);
     let report = List::from_bytes(alloc, sink.bytes())?;
-    Ok((status, report))
+    Ok((sleeps.end(status), report))
 }
 
-/// Whether one of a few runs is right, where other work of the machine may keep threads from getting on at the same time.
-pub fn once<F: Fn() -> Result<bool, NoMemory>>(run: &F) -> Result<bool, NoMemory>
+/// Whether one of a few runs is right, where other work of the machine may keep threads from getting on at the same time. Each ends as
+/// a run does that is right, in which a thread may begin late.
+pub fn once<F: Fn() -> Result<(End, bool), NoMemory>>(run: &F) -> Result<bool, NoMemory>
     requires { F.IsAlwaysCallable run.now }
 {
     for _ in 0..TRIES {
-        if run()? {
+        let (end, is_right) = run()?;
+        if !end.is_right_or_late() {
+            return Ok(false);
+        }
+        if is_right {
             return Ok(true);
         }
     }

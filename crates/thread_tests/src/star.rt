@@ -4,8 +4,8 @@
 //! task, or share a resource of another lock entry, so that nobody waits for one that is held.
 use crate::hold::{Hold, Outcome, Part};
 use crate::runs::{MOST, NAMES, STAR, add_system, ran};
+use crate::sleeps::RIGHT;
 use grs_base::{List, NoMemory};
-use grs_top::Status;
 use std::alloc::Global;
 use std::sync::Wait;
 use std::test::Fail;
@@ -31,7 +31,7 @@ const SOME_PAIRS: u32 = 100;
 
 fn right(passed: u64) -> Outcome {
     Outcome {
-        status: Status::Done,
+        end: RIGHT,
         passed,
         gave_up: 0,
     }
@@ -54,8 +54,8 @@ fn outcome_of<R: Threads + Wait + Sync>(
         }
     }
     let gate = Hold::new(alloc, parts, behind, CALLS, STEPS)?;
-    let (status, _) = ran(rt, alloc, deck, &gate)?;
-    Ok(gate.outcome(status))
+    let (end, _) = ran(rt, alloc, deck, &gate)?;
+    Ok(gate.outcome(end))
 }
 
 #[test]

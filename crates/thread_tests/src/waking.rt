@@ -1,18 +1,19 @@
 //! That who waits is woken: at the bus, and in a worker's bed. No time-out wakes anybody. Two seats call in bursts, so a wake that is
 //! lost in the last call of one isn't made up for by the next: whoever waits for the other gives up behind so many turns. Where nobody
-//! is woken at all a test doesn't end within its minute, which the gate counts as a failure.
+//! is woken at all a test doesn't end within its minute, which the gate counts as a failure. Of two workers it is counted whether one
+//! was woken by anything else than by the other's calls.
 ghost use Rattle.std.specs.Prelude.{◌≡◌, ◌<◌, All, IfOk};
 ghost use Rattle.grs_bus.specs.Seats.{IsSameSeat};
 ghost use Rattle.grs_medium.specs.Medium.{systems_of};
 
 use crate::runs::{add_system, ran, reaches};
+use crate::sleeps::RIGHT;
 use crossbeam_utils::atomic::AtomicCell;
-use grs_base::{List, NoMemory};
+use grs_base::{List, NoMemory, SysId};
 use grs_bus::{Bus, Seat};
 use grs_medium::Medium;
-use grs_top::Status;
 use grs_wire::{Act, Call, Reply};
-use grs_workers::FreeGate;
+use grs_workers::{Gate, Worker};
 use std::alloc::Global;
 use std::sync::Wait;
 use std::test::Fail;
@@ -100,6 +101,25 @@ fn two_seats(alloc: Global) -> Result<(Bus, Vec<Seat>), NoMemory>
     Ok((bus, seats))
 }
 
+/// Holds each of two workers ahead of its first call until both have come, so that none sleeps before the other has begun.
+#[derive(Drop)]
+struct Both {
+    came: AtomicCell<u64>,
+    /// How often one waited for the other and gave up.
+    gave_up: AtomicCell<u64>,
+}
+
+impl Gate for Both {
+    fn before(&self, _system: SysId, worker: &Worker<'_>) {
+        if worker.calls == 0 {
+            self.came.fetch_add(1);
+            self.gave_up.fetch_add(u64::from(!reaches(&self.came, 2)));
+        }
+    }
+
+    fn after(&self, _system: SysId, _worker: &Worker<'_>) {}
+}
+
 #[test]
 fn seats_that_wait_are_woken(rt: HostRuntime) -> Result<(), Fail> {
     let (bus, mut seats) = two_seats(rt.alloc())?;
@@ -126,7 +146,12 @@ fn workers_that_sleep_are_woken(rt: HostRuntime) -> Result<(), Fail> {
             PAIRS,
         )?;
     }
-    let (status, _) = ran(&rt, rt.alloc(), deck, &FreeGate)?;
-    assert_eq!(rt; status, Status::Done);
+    let gate = Both {
+        came: AtomicCell::new(0),
+        gave_up: AtomicCell::new(0),
+    };
+    let (end, _) = ran(&rt, rt.alloc(), deck, &gate)?;
+    assert_eq!(rt; end, RIGHT);
+    assert_eq!(rt; gate.gave_up.load(), 0);
     Ok(())
 }

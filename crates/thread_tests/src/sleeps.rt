@@ -1,0 +1,150 @@
+//! How the sleeps of a run's workers end, which a gate is told.
+//!
+//! Whoever gives a system something to do calls its worker. Where that is lost a run comes to its end all the same: the last worker that
+//! falls asleep calls those that have yet to come to rest, which find then what they weren't called for; and who is called so again and
+//! again, and has nothing to do, gives up, as do the others then. So a wake that is lost would show in time alone, and is counted here.
+use crate::progress::Progress;
+use crossbeam_utils::atomic::AtomicCell;
+use grs_base::{MOST_SYSTEMS, NoMemory, SysId};
+use grs_top::Status;
+use grs_workers::{Gate, Woken, Worker};
+use std::alloc::Global;
+
+/// How a run ended.
+#[derive(Clone, Copy, Debug, PartialEq, Eq)]
+pub struct End {
+    pub status: Status,
+    /// How often a worker gave up since some worker had yet to begin.
+    pub late: u64,
+    /// How often, as long as none had, one gave up else, or was called since one did, or since all had come to rest and weren't told so.
+    pub left: u64,
+    /// How many lines tasks were told behind a call of their system's worker since all others slept.
+    pub lost: u64,
+}
+
+/// The end of a run that is right, in which no worker falls asleep before all have begun.
+pub const RIGHT: End = End {
+    status: Status::Done,
+    late: 0,
+    left: 0,
+    lost: 0,
+};
+
+impl End {
+    /// Whether a run is right in which some worker may begin so late that another gives up.
+    pub fn is_right_or_late(&self) -> bool {
+        self.status == Status::Done && self.left == 0 && self.lost == 0
+    }
+}
+
+/// What a system's tasks are told behind a call of its worker since all others slept. Nobody had anything to do then but commands of
+/// a desk, of which none is left by then in these decks, so no task is told anything any more.
+#[derive(Drop)]
+struct Behind {
+    progress: Progress,
+    /// Its worker was called so.
+    alone: AtomicCell<bool>,
+    /// How many lines its tasks had been told when its worker was lent first behind that.
+    ahead: AtomicCell<u64>,
+}
+
+impl Behind {
+    fn new() -> Behind {
+        Behind {
+            progress: Progress::new(),
+            alone: AtomicCell::new(false),
+            ahead: AtomicCell::new(u64::MAX),
+        }
+    }
+
+    /// The system's worker is lent.
+    fn keep(&self, worker: &Worker<'_>) {
+        self.progress.keep(worker);
+        if self.alone.load() {
+            self.ahead.fetch_min(self.progress.told.load());
+        }
+    }
+
+    fn told(&self) -> u64 {
+        self.progress.told.load().saturating_sub(self.ahead.load())
+    }
+}
+
+/// A gate, and beside it how sleeps end.
+#[derive(Drop)]
+pub struct Sleeps<'g, G> {
+    gate: &'g G,
+    systems: Vec<Behind>,
+    late: AtomicCell<u64>,
+    left: AtomicCell<u64>,
+}
+
+impl<'g, G: Gate> Sleeps<'g, G> {
+    /// Ahead of a run.
+    pub fn new(alloc: Global, gate: &'g G) -> Result<Sleeps<'g, G>, NoMemory> {
+        let mut systems = Vec::new(alloc);
+        for _ in 0..MOST_SYSTEMS {
+            if systems.push(Behind::new()).is_err() {
+                return Err(NoMemory);
+            }
+        }
+        Ok(Sleeps {
+            gate,
+            systems,
+            late: AtomicCell::new(0),
+            left: AtomicCell::new(0),
+        })
+    }
+
+    /// How a run with this status ended.
+    pub fn end(&self, status: Status) -> End {
+        let mut lost = 0u64;
+        for system in &self.systems {
+            lost = lost.saturating_add(system.told());
+        }
+        End {
+            status,
+            late: self.late.load(),
+            left: self.left.load(),
+            lost,
+        }
+    }
+
+    fn keep(&self, system: SysId, worker: &Worker<'_>) {
+        if let Some(system) = self.systems.get(system.0 as usize) {
+            system.keep(worker);
+        }
+    }
+
+    /// The system's worker was called since all others slept.
+    fn was_alone(&self, system: SysId) {
+        if let Some(system) = self.systems.get(system.0 as usize) {
+            system.alone.store(true);
+        }
+    }
+}
+
+impl<'g, G: Gate> Gate for Sleeps<'g, G> {
+    fn before(&self, system: SysId, worker: &Worker<'_>) {
+        self.keep(system, worker);
+        self.gate.before(system, worker);
+    }
+
+    fn after(&self, system: SysId, worker: &Worker<'_>) {
+        self.keep(system, worker);
+        self.gate.after(system, worker);
+    }
+
+    fn woken(&self, system: SysId, how: Woken) {
+        match how {
+            Woken::Called => {}
+            Woken::Alone => self.was_alone(system),
+            Woken::Late => {
+                self.late.fetch_add(1);
+            }
+            Woken::Left | Woken::Never => {
+                self.left.fetch_add(u64::from(self.late.load() == 0));
+            }
+        }
+    }
+}
