@@ -52,8 +52,8 @@ pub fn kept_are_places()
 
 /// Once a run of a deck is in star mode, and as long as it has removed no system there, the live systems show together what is
 /// kept: once each has changed and taken the mail of its inbox, what their tasks have on record of a Systems resource is, by
-/// its ranks, the list that the history leads to. So the ranks of records, of answers under way and of what managers keep are
-/// one. The deck needs the bounds of a deck that was read: an answer with a rank past the last number has no effect.
+/// its ranks, the list that the history leads to. The deck needs the bounds of a deck that was read: an answer with a rank past
+/// the last number has no effect.
 pub fn shown_are_places()
     ensures { (deck : Deck) → IsBounded deck → (events : List Event) → NoneInStar deck events → (run deck events).medium.star ≡ true → ShownArePlaces deck events }
 {}

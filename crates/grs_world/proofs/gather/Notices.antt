@@ -1,6 +1,6 @@
 -- In a complex that begins in star mode the notices in a live system's inbox name the managers of lock entries,
 -- whichever systems are removed: of those that name an entry the last one names its manager, each other one a system
--- that was removed since; and whose inbox it is has interest in the entry.
+-- that was removed; and whose inbox it is has interest in the entry.
 use Rattle.grs_world.proofs.Common.{[], ◌++◌, ◌<◌, ◌==◌, ◌∙◌, ◌∷◌, ◌≡◌, ◌≢◌, ◌≤◌, All, and_parts, answer_for, ap, arith}
 use Rattle.grs_world.proofs.Common.{Asked, awake, Bool, by_test, Choice, cond, Deck, entries_some, eqb-false, eqb-true}
 use Rattle.grs_world.proofs.Common.{Event, false, first_world, FitsStar, has, has-with_other, has-with_same}
