@@ -6,5 +6,9 @@ pub mod OnRecord
 pub mod Rising
 pub mod CaughtUp
 pub mod Together
+pub mod Mail
 pub mod Lists
+pub mod Behind
+pub mod Removal
 pub mod Run
+pub mod FirstRemoval

@@ -133,6 +133,10 @@ KeptArePlaces deck es =
     (s : SysId) (r : Res) → is_live (run deck es) s ≡ true → is_systems r ≡ true
     → kept deck (run deck es) s r ≡ places deck es r
 
+-- So it is behind one event more.
+abbrev pub KeptArePlacesThen : Deck → List Event → Event → Type 0
+KeptArePlacesThen deck es e = KeptArePlaces deck (es ++ e ∷ [])
+
 -- After these events what the live systems show together of each resource of the whole complex is the history's list.
 abbrev pub ShownArePlaces : Deck → List Event → Type 0
 ShownArePlaces deck es =

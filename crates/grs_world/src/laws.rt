@@ -11,7 +11,7 @@ ghost use Rattle.grs_world.specs.Fixing.{EventFixes};
 ghost use Rattle.grs_world.specs.Gone.{KnownAreGone, ActsWithoutGone};
 ghost use Rattle.grs_world.specs.InStar.{NoneInStar};
 ghost use Rattle.grs_world.specs.Interest.{WordsAreManaged, WordsGoWithSystems};
-ghost use Rattle.grs_world.specs.Kept.{KeptArePlaces, ManagersKeepWell, ShownArePlaces};
+ghost use Rattle.grs_world.specs.Kept.{KeptArePlaces, KeptArePlacesThen, ManagersKeepWell, ShownArePlaces};
 ghost use Rattle.grs_world.specs.Laps.{ComesBackLast, ProcessedLast, AnsweredLast};
 ghost use Rattle.grs_world.specs.Noticed.{NoticesName};
 ghost use Rattle.grs_world.specs.Passed.{PassedIsTold};
@@ -45,7 +45,8 @@ pub fn decks_without_removals_are_spared()
 /// the history leads to. In ring mode each live system keeps it: its table has that list once the entries that it hasn't
 /// seen are processed. In star mode the manager of the resource's lock entry does, in its table as long as it hasn't
 /// changed; where there is none, the history has nothing on the resource. What is kept behind the removal of a manager, as
-/// long as the lists of its entries have still to be gathered, `kept` says too; so far that is shown by worked runs.
+/// long as the lists of its entries have still to be gathered, `kept` says too; behind more than the first such removal that is
+/// so far shown by worked runs.
 pub fn kept_are_places()
     ensures { (deck : Deck) → (may_be_star deck ≡ true → FitsStar deck) → (events : List Event) → NoneInStar deck events → KeptArePlaces deck events }
 {}
@@ -56,6 +57,14 @@ pub fn kept_are_places()
 /// the last number has no effect.
 pub fn shown_are_places()
     ensures { (deck : Deck) → IsBounded deck → (events : List Event) → NoneInStar deck events → (run deck events).medium.star ≡ true → ShownArePlaces deck events }
+{}
+
+/// Nor does the first removal of a system in star mode take anything else from what is kept than that system's elements, once
+/// all systems have changed: what is kept behind it of each Systems resource is the list that the history leads to. Where the
+/// removed system managed the resource's lock entry, that is what the live systems show together, as long as the next manager
+/// has still to gather it.
+pub fn first_removal_keeps_places()
+    ensures { (deck : Deck) → IsBounded deck → (events : List Event) → NoneInStar deck events → (run deck events).medium.message.still ≡ 0 → (next : Event) → KeptArePlacesThen deck events next }
 {}
 
 /// The change to star mode fixes nothing: neither does a Switch, nor an event by which its system changes. So no owner's and no

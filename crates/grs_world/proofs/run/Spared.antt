@@ -42,6 +42,20 @@ module _ (deck : Deck) where
         last = more.last;
       }
 
+  from-push : (w : World) (es : List Event) (e : Event) → removals_from deck w es ≡ []
+      → removes_in_star deck (run_from deck w es) e ≡ false → removals_from deck w (es ++ e ∷ []) ≡ []
+  from-push w [] e none last = ap (λ b. cond b (w.medium ∷ []) [] ++ []) last
+  from-push w (x ∷ es) e none last =
+      let here : List MediumState = cond (removes_in_star deck w x) (w.medium ∷ []) [] in
+      ap (λ ms. ms ++ removals_from deck (happens deck w x) (es ++ e ∷ []))
+      (no-front here (removals_from deck (happens deck w x) es) none)
+      ∙ from-push (happens deck w x) es e (no-back here (removals_from deck (happens deck w x) es) none) last
+
+  -- a run that removes none, and an event that doesn't
+  pub none_push : (es : List Event) (e : Event) → NoneInStar deck es → removes_in_star deck (run deck es) e ≡ false
+      → NoneInStar deck (es ++ e ∷ [])
+  none_push es e none last = from-push (first_world deck) es e none last
+
   pub none_before : (es : List Event) (e : Event) → NoneInStar deck (es ++ e ∷ []) → NoneInStar deck es
   none_before es e none = (from-both (first_world deck) es e none).before
 

@@ -47,7 +47,7 @@ module _ (deck : Deck) (known : ℕ) (v : TasksView) (p : StarPart) where
   by-deck true x = refl
   by-deck false x = refl
 
-  request-tasks : (e : ℕ) (from : SysId) (q : Req) → (take_mail deck known v p (Request e from q)).tasks ≡ v
+  pub request-tasks : (e : ℕ) (from : SysId) (q : Req) → (take_mail deck known v p (Request e from q)).tasks ≡ v
   unfolding took_mail
   request-tasks e from q = go (is_for_deck deck (Request e from q))
     where
@@ -55,12 +55,12 @@ module _ (deck : Deck) (known : ℕ) (v : TasksView) (p : StarPart) where
       go true = refl
       go false = refl
 
-  control-tasks : (t : TaskId) (r : Res)
+  pub control-tasks : (t : TaskId) (r : Res)
       → (take_mail deck known v p (Granted t r)).tasks ≡ cond (is_of_deck deck t) (tell_control v r t) v
   unfolding took_mail after_mail
   control-tasks t r = by-deck (is_of_deck deck t) (fixing_none (tell_control v r t) p)
 
-  answer-tasks : (t : TaskId) (answer : Answer) (rank : ℕ)
+  pub answer-tasks : (t : TaskId) (answer : Answer) (rank : ℕ)
       → (take_mail deck known v p (Answered t answer rank)).tasks
       ≡ cond (is_for_deck deck (Answered t answer rank)) (after_mail v (Answered t answer rank)) v
   unfolding took_mail

@@ -25,10 +25,11 @@ use Rattle.grs_legal.specs.Asks.{Script, scripts_of}
 use Rattle.grs_node.proofs.Orderly.{all-at}
 use Rattle.lock_structure.specs.RankedRows.{rises}
 use Rattle.system_purge.specs.Gather.{by_rank}
-use Rattle.grs_world.proofs.shown.ByTask.{by-tasks, of_tasks}
+use Rattle.grs_world.proofs.shown.ByTask.{by-tasks, of_task, of_tasks}
 use Rattle.grs_world.proofs.shown.CaughtUp.{Caught}
 use Rattle.grs_world.proofs.shown.Names.{home-named, live-apart, live-named, live_names, named-home, task_at, zero_plus}
-use Rattle.grs_world.proofs.shown.OnRecord.{HasOwn, HaveThese, keys-listed, recs-ranked, shown-have, system-has}
+use Rattle.grs_world.proofs.shown.OnRecord.{HasOwn, HaveThese, keys-listed, own_recs, recs-ranked, shown-have}
+use Rattle.grs_world.proofs.shown.OnRecord.{system-has}
 use Rattle.grs_world.proofs.shown.Rising.{each-on, rises-on}
 use Rattle.grs_world.proofs.shown.Sorted.{by_rank-is}
 use Rattle.grs_world.proofs.shown.Together.{caught, its-record}
@@ -76,7 +77,7 @@ module _ (deck : Deck) (words : List ℕ) (T : List RunItem) (right : IsHistory 
       ∙ (sym (has-known deck T right t (past_of t k.known T) speaks r) ∙ none)
 
 -- ---- lists
-each-task : (p : TaskId → Bool) (xs : List Elem) → ((t : TaskId) → has_task xs t ≡ true → p t ≡ true)
+pub each-task : (p : TaskId → Bool) (xs : List Elem) → ((t : TaskId) → has_task xs t ≡ true → p t ≡ true)
     → list_all (λ x. p x.task) xs ≡ true
 each-task p [] h = refl
 each-task p (x ∷ xs) h =
@@ -91,19 +92,19 @@ module _ (deck : Deck) (w : World) (g : IsWhole deck w) (sent : ℕ → TaskId �
     → sent s t ≡ true)
     (r : Res)
     (wide : is_systems r ≡ true) where
-  abbrev listed : List Elem
+  abbrev pub listed : List Elem
   listed = list_of (all_lists w) r
 
-  abbrev later_of : ℕ → NodeState → NodeState
+  abbrev pub later_of : ℕ → NodeState → NodeState
   later_of s n = taking deck n (inbox w.medium s)
 
   -- the rank that a task shows
-  abbrev rank_in : ℕ → TaskId → Option NodeState → ℕ
+  abbrev pub rank_in : ℕ → TaskId → Option NodeState → ℕ
   rank_in s t None = 0
   rank_in s t (Some n) =
       option_map_or (λ (y : Rec). y.rank) (record_of (state_of (later_of s n).tasks t).records r) 0
 
-  abbrev rank_of : TaskId → ℕ
+  abbrev pub rank_of : TaskId → ℕ
   rank_of t = rank_in t.system.0 t (slice_get w.nodes t.system.0)
 
   -- ---- one system
@@ -114,7 +115,7 @@ module _ (deck : Deck) (w : World) (g : IsWhole deck w) (sent : ℕ → TaskId �
     was-sent : (t : TaskId) → is_home_at deck s t ≡ true → sent_by n t ≡ true → sent s t ≡ true
     was-sent t home e = is s n t at home e
 
-    all-taken : Caught deck w.medium.words (items w.fixed) g.right s (later_of s n)
+    pub all-taken : Caught deck w.medium.words (items w.fixed) g.right s (later_of s n)
     all-taken = (caught deck w g sent had h s n at was-sent me.part me.star).0
 
     rank-is : (t : TaskId) (home : is_home_at deck s t ≡ true) (stands : has_task listed t ≡ true)
@@ -127,15 +128,15 @@ module _ (deck : Deck) (w : World) (g : IsWhole deck w) (sent : ℕ → TaskId �
         ∙ (ap (rank_in s t) at.at
         ∙ (ap (λ (o : Option Rec). option_map_or (λ (y : Rec). y.rank) o 0) z.1 ∙ z.2))
 
-    own : (t : TaskId) → is_home_at deck s t ≡ true
-        → HasOwn r rank_of listed t (state_of (later_of s n).tasks t).records
-    own t home = record {
-      elems =
-          keys-listed r t (all_lists w) (state_of (later_of s n).tasks t).records
-          (own-keys deck w.medium.words (items w.fixed) g.right s (later_of s n) all-taken t home);
-      ranked =
-          recs-ranked r rank_of t (state_of (later_of s n).tasks t).records (go (has_task listed t) refl);
-    }
+    pub own-elems : (t : TaskId) → is_home_at deck s t ≡ true →
+        map elem_of (own_recs r t (state_of (later_of s n).tasks t).records) ≡ of_task t listed
+    own-elems t home =
+        keys-listed r t (all_lists w) (state_of (later_of s n).tasks t).records
+        (own-keys deck w.medium.words (items w.fixed) g.right s (later_of s n) all-taken t home)
+
+    pub own-rank : (t : TaskId) → is_home_at deck s t ≡ true
+        → HaveRank r (rank_of t) (state_of (later_of s n).tasks t).records
+    own-rank t home = go (has_task listed t) refl
       where
         go : (b : Bool) → has_task listed t ≡ b
             → HaveRank r (rank_of t) (state_of (later_of s n).tasks t).records
@@ -146,6 +147,13 @@ module _ (deck : Deck) (w : World) (g : IsWhole deck w) (sent : ℕ → TaskId �
         go false none =
             rank-none r (rank_of t) (state_of (later_of s n).tasks t).records
             (none-recorded deck w.medium.words (items w.fixed) g.right s (later_of s n) all-taken t home r none)
+
+    own : (t : TaskId) → is_home_at deck s t ≡ true
+        → HasOwn r rank_of listed t (state_of (later_of s n).tasks t).records
+    own t home = record {
+      elems = own-elems t home;
+      ranked = recs-ranked r rank_of t (state_of (later_of s n).tasks t).records (own-rank t home);
+    }
 
     -- it shows just what its tasks have in the list
     has-these : HaveThese r rank_of listed (names_of deck s) (on_record deck (later_of s n) r)
@@ -173,16 +181,16 @@ module _ (deck : Deck) (w : World) (g : IsWhole deck w) (sent : ℕ → TaskId �
             )
 
   -- ---- who has an element
-  entry : (e : ℕ) × (entry_of_res deck.entries r ≡ Some e)
+  pub entry : (e : ℕ) × (entry_of_res deck.entries r ≡ Some e)
   entry = wide-entry deck.entries r wide
 
   -- is of a live system, and at home there
-  interested : (t : TaskId) → has_task listed t ≡ true → is_interested w.medium.words entry.0 t.system.0 ≡ true
+  pub interested : (t : TaskId) → has_task listed t ≡ true → is_interested w.medium.words entry.0 t.system.0 ≡ true
   interested t stands =
       ap (near_at w.medium.words t.system.0) (sym entry.1)
       ∙ near-has deck w.medium.words (all_lists w) r t g.near stands
 
-  element-live : (t : TaskId) → has_task listed t ≡ true → are_live w t.system.0 ≡ true
+  pub element-live : (t : TaskId) → has_task listed t ≡ true → are_live w t.system.0 ≡ true
   element-live t stands = go (are_live w t.system.0) refl
     where
       go : (b : Bool) → are_live w t.system.0 ≡ b → b ≡ true
@@ -191,7 +199,7 @@ module _ (deck : Deck) (w : World) (g : IsWhole deck w) (sent : ℕ → TaskId �
           no_truth (is_interested w.medium.words entry.0 t.system.0) (interested t stands)
           (g.roles.nobody entry.0 t.system.0 e).0
 
-  element-home : (t : TaskId) → has_task listed t ≡ true → is_home_at deck t.system.0 t ≡ true
+  pub element-home : (t : TaskId) → has_task listed t ≡ true → is_home_at deck t.system.0 t ≡ true
   element-home t stands =
       and_from (t.system.0 == t.system.0) (is_some (lines_of deck t)) (eq-eqb t.system.0 t.system.0 refl)
       (and_parts (is_some (lines_of deck t)) (is_systems r || is_res_of t.system.0 r)
@@ -211,10 +219,10 @@ module _ (deck : Deck) (w : World) (g : IsWhole deck w) (sent : ℕ → TaskId �
   of_entry : in_entry deck.entries entry.0 r ≡ true
   of_entry = entry-same entry.0 (entry_of_res deck.entries r) entry.1
 
-  same-under : list_of (under deck.entries entry.0 (all_lists w)) r ≡ listed
+  pub same-under : list_of (under deck.entries entry.0 (all_lists w)) r ≡ listed
   same-under = list-under deck.entries entry.0 (all_lists w) r of_entry
 
-  rising : rises (map (λ (x : Elem). rank_of x.task) listed) ≡ true
+  pub rising : rises (map (λ (x : Elem). rank_of x.task) listed) ≡ true
   rising = by-word (manager_at w.medium.words entry.0) refl
     where
       by-items : (p : StarPart) → ((t : TaskId) → has_task listed t ≡ true → CarriesRank r t (rank_of t) p.manager)

@@ -65,7 +65,7 @@ module _ (deck : Deck) (w : World) (g : IsChanging deck w) (rest : IsRestful dec
           ∙ sym (ap (λ (o : Option StarPart). once_changed deck shown (record { 0 = s }) n o) star)
 
   -- and has sent what it sent before
-  as-sent : (s : ℕ) (n : NodeState) (t : TaskId) → Site shown s n → is_home_at deck s t ≡ true → sent_by n t ≡ true
+  pub as-sent : (s : ℕ) (n : NodeState) (t : TaskId) → Site shown s n → is_home_at deck s t ≡ true → sent_by n t ≡ true
       → sent_of w.nodes s t ≡ true
   as-sent s k t at home e =
       let found = node-of deck w g s k at.at at.live in by-star found.0 found.1 found.2 (found.0).star refl

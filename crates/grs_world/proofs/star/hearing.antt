@@ -3,6 +3,7 @@ pub mod Mails
 pub mod Passing
 pub mod Elements
 pub mod Ranks
+pub mod Faces
 pub mod Gentle
 pub mod Answering
 pub mod ByItself
