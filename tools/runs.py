@@ -1065,6 +1065,7 @@ class Trial(Run):
 
     def __init__(self, run):
         self.deck, self.event, self.told, self.says = run.deck, run.event, [], Says(self)
+        self.says.is_brief = True
         self.medium = run.medium.copy()
         self.nodes = [it.copy(self) for it in run.nodes]
 
@@ -1075,14 +1076,19 @@ class Trial(Run):
 class Way:
     """The events that bring a task on which waits for a SEND, for mail, or for lists that are gathered, by the last of them and not
     before: they are made on a trial. Ahead of them some systems may have to change to star mode, by turns of the message; and by
-    these the task may have come on already (`is_home`)."""
+    these the task may have come on already (`is_home`). In a run that no events come to there may be none."""
 
     def __init__(self, run, task, late=()):
-        self.task, self.late = task, {it for it in late if not run.nodes[it].is_star}
-        while (system := self.go(Trial(run))) is not None:
-            self.late.add(system)
+        self.task, self.late, self.is_home = task, {it for it in late if not run.nodes[it].is_star}, False
+        try:
+            while (system := self.go(Trial(run))) is not None:
+                self.late.add(system)
+        except (LookupError, TypeError):
+            self.events = None
 
     def __str__(self):
+        if self.events is None:
+            return "events that the model of the run doesn't find"
         late = sorted(self.run.name(it) for it in self.late)
         said = [self.run.says.times(event, times, learns) for event, times, learns in self.events]
         return "once %s changed to star mode, " % " and ".join(late) * bool(late) + ", ".join(said)
