@@ -6,7 +6,7 @@ ghost use Rattle.grs_base.specs.Names.{trim_blanks};
 ghost use Rattle.rnl_match.specs.Index.{most_compared, is_under, is_pattern};
 
 use grs_base::{
-    Lists, NameFault, NoMemory, Qname, Res, Rname, RnlEntry, RnlList, RnlType, Scope, Steps, SysId,
+    Form, Lists, NameFault, NoMemory, Qname, Res, Rname, RnlEntry, RnlList, Scope, Steps, SysId,
     Which,
 };
 use grs_deck::read_deck;
@@ -20,12 +20,12 @@ use std::test::Fail;
 /// An entry of the exclusion list.
 fn entry(
     alloc: Global,
-    rnl_type: RnlType,
+    form: Form,
     qname: &[u8],
     rname: Option<&[u8]>,
 ) -> Result<RnlEntry, NameFault>
     ensures which { IfOk result (λ e. e.which ≡ Excl) }
-    ensures rnl_type { IfOk result (λ e. e.rnl_type ≡ rnl_type) }
+    ensures form { IfOk result (λ e. e.form ≡ form) }
     ensures qname { IfOk result (λ e. e.q ≡ trim_blanks qname.now) }
 {
     let q = Qname::new(alloc, qname)?;
@@ -35,7 +35,7 @@ fn entry(
     };
     Ok(RnlEntry {
         which: Which::Excl,
-        rnl_type,
+        form,
         q,
         r,
     })
@@ -49,13 +49,13 @@ fn entry_at(alloc: Global, place: u16) -> Result<RnlEntry, NameFault>
     ensures pattern { IfOk result (λ e. is_pattern e ≡ (place == 2 || place == 2000 || place == 4095)) }
 {
     match place {
-        7 | 4000 => entry(alloc, RnlType::Generic, b"A", None),
-        2 => entry(alloc, RnlType::Pattern, b"A?", None),
-        2000 => entry(alloc, RnlType::Pattern, b"*", Some(b"C*")),
-        4095 => entry(alloc, RnlType::Pattern, b"*B", Some(b"B")),
+        7 | 4000 => entry(alloc, Form::Generic, b"A", None),
+        2 => entry(alloc, Form::Pattern, b"A?", None),
+        2000 => entry(alloc, Form::Pattern, b"*", Some(b"C*")),
+        4095 => entry(alloc, Form::Pattern, b"*B", Some(b"B")),
         _ => {
             let qname = [b'O', (place / 256) as u8, (place % 256) as u8, b'.'];
-            entry(alloc, RnlType::Specific, &qname, Some(b"B"))
+            entry(alloc, Form::Specific, &qname, Some(b"B"))
         }
     }
 }

@@ -5,12 +5,12 @@ use Rattle.grs_base.specs.Names.{are_bytes, IsQname, IsMaybeRname}
 use Rattle.grs_base.specs.Rnl.{RnlView}
 use Rattle.grs_base.specs.declared.rnl.Which.{Which}
 use Rattle.grs_base.specs.declared.rnl.Which.TheVariants.{Incl, Excl, Con}
-use Rattle.grs_base.specs.declared.rnl.RnlType.{RnlType}
-use Rattle.grs_base.specs.declared.rnl.RnlType.TheVariants.{Specific, Generic, Pattern}
+use Rattle.grs_base.specs.declared.rnl.Form.{Form}
+use Rattle.grs_base.specs.declared.rnl.Form.TheVariants.{Specific, Generic, Pattern}
 use Rattle.grs_base.specs.declared.rnl.RnlEntry.{RnlEntry}
 use Rattle.grs_base.specs.declared.rnl.Lists.{Lists}
 
-abbrev pub is_specific : RnlType → Bool
+abbrev pub is_specific : Form → Bool
 is_specific Specific = true
 is_specific Generic = false
 is_specific Pattern = false
@@ -20,7 +20,7 @@ pub record IsEntry (e : RnlEntry) : Type 0 where
   pub q : IsQname e.q
   pub q_bytes : are_bytes e.q ≡ true
   pub r : IsMaybeRname e.r
-  pub needed : (is_specific e.rnl_type && is_none e.r) ≡ false
+  pub needed : (is_specific e.form && is_none e.r) ≡ false
 
 -- a name list with entries of its own alone, and at most 4,096 of them
 pub record IsListOf (which : Which) (list : RnlView) : Type 0 where

@@ -31,6 +31,6 @@ pub use name::{Qname, Rname, is_qname, is_rname};
 pub use print::{ctl_word, is_plain_byte, is_printable, print_name, unit_digits};
 pub use queues::Queues;
 pub use resource::{Ctl, Elem, Res, Ret, Row, SysId, TaskId, is_same_res, is_same_task};
-pub use rnl::{Lists, RnlEntry, RnlList, RnlType, Which};
+pub use rnl::{Form, Lists, RnlEntry, RnlList, Which};
 pub use slice::{SLICES, entry_of, slice_of};
 pub use steps::Steps;

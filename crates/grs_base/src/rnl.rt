@@ -22,7 +22,7 @@ pub enum Which {
 
 /// How the names of an entry are compared with those of a request.
 #[derive(Clone, Copy, Debug, PartialEq, Eq)]
-pub enum RnlType {
+pub enum Form {
     /// Both names are equal.
     Specific,
     /// The qname is equal, and the rname begins with the entry's.
@@ -36,7 +36,7 @@ pub enum RnlType {
 #[derive(Drop)]
 pub struct RnlEntry {
     pub which: Which,
-    pub rnl_type: RnlType,
+    pub form: Form,
     pub q: Qname,
     pub r: Option<Rname>,
 }
@@ -50,7 +50,7 @@ impl RnlEntry {
         let r = copy_rname(alloc, &self.r)?;
         Ok(RnlEntry {
             which: self.which,
-            rnl_type: self.rnl_type,
+            form: self.form,
             q,
             r,
         })

@@ -184,7 +184,6 @@ pub rnldef_bytes : (ts : List Token) (d : Rnldef) → IsRnldef ts d → list_all
 rnldef_bytes ts d h all =
     let said = subst (λ (x : List Token). list_all says_bytes x ≡ true) h.spelled all in
     let k =
-    operands_bytes h.given no_operands
-    (record { which = Some d.which; rnl_type = Some d.rnl_type; q = Some d.q; r = d.r })
+    operands_bytes h.given no_operands (record { which = Some d.which; form = Some d.form; q = Some d.q; r = d.r })
     h.operands said (record { q = tt; r = tt }) in
     (k.q, k.r)

@@ -11,8 +11,7 @@ use Rattle.deck_scan.specs.declared.token.Token.{Token}
 use Rattle.deck_scan.specs.declared.token.Token.TheVariants.{Word, Open, Close}
 use Rattle.deck_scan.specs.declared.token.TokenLine.{TokenLine}
 use Rattle.rnl_syntax.specs.Lines.{begins_rnldef, begins_operand, is_open, goes_on, with_line, first_from, left_from}
-use Rattle.rnl_syntax.specs.Spelled.{Operand, WithRnl, WithType, WithQname, WithRname, operand, which_word}
-use Rattle.rnl_syntax.specs.Spelled.{rnl_type_word}
+use Rattle.rnl_syntax.specs.Spelled.{Operand, WithRnl, WithType, WithQname, WithRname, operand, which_word, form_word}
 use Rattle.rnl_syntax.specs.Spelled.{IsRnldef}
 use Rattle.deck_form.specs.declared.form.Stmt.{Stmt}
 use Rattle.deck_form.specs.declared.form.Stmt.TheVariants as stmts
@@ -39,7 +38,7 @@ two_words v w rest = Word v ∷ Word w ∷ rest
 -- an operand is four tokens, of which the second and the last are no words
 operand_parts : (x : Operand) → (w : List ℕ) × (t : Token) × (operand x ≡ Word w ∷ Open ∷ t ∷ Close ∷ [])
 operand_parts (WithRnl which) = (codes "RNL", Word (which_word which), refl)
-operand_parts (WithType form) = (codes "TYPE", Word (rnl_type_word form), refl)
+operand_parts (WithType form) = (codes "TYPE", Word (form_word form), refl)
 operand_parts (WithQname t q) = (codes "QNAME", t, refl)
 operand_parts (WithRname t r) = (codes "RNAME", t, refl)
 

@@ -9,7 +9,7 @@ use Rattle.grs_base.specs.declared.fault.Kind.TheVariants.{OutOfPlace, TooMany, 
 use Rattle.grs_base.specs.declared.resource.Ctl.TheVariants.{E, S}
 use Rattle.grs_base.specs.declared.resource.Ret.TheVariants.{RetNone, RetUse}
 use Rattle.grs_base.specs.declared.rnl.Which.TheVariants.{Excl}
-use Rattle.grs_base.specs.declared.rnl.RnlType.TheVariants.{Pattern}
+use Rattle.grs_base.specs.declared.rnl.Form.TheVariants.{Pattern}
 use Rattle.grs_base.specs.declared.look.Filter.TheVariants as filters
 use Rattle.grs_base.specs.declared.line.Scope.TheVariants as scopes
 use Rattle.grs_base.specs.declared.line.Line.{Line}
@@ -31,7 +31,7 @@ use Rattle.job_syntax.specs.Ask.{ctl_at, scope_at, names_at, place_at, controlle
 use Rattle.job_syntax.specs.Ask.{reserve_at, deq_at, wait_at}
 use Rattle.job_syntax.specs.Display.{reach_of, want_of, want_at, scan_at, resource_at, shown_at, display_at}
 use Rattle.job_syntax.specs.LineAsk.{line_word, line_ask_at}
-use Rattle.rnl_syntax.specs.Operands.{which_of, rnl_type_of, value_of, operand_at as rnl_operand_at, whole as whole_rnl}
+use Rattle.rnl_syntax.specs.Operands.{which_of, form_of, value_of, operand_at as rnl_operand_at, whole as whole_rnl}
 use Rattle.rnl_syntax.specs.Operands.{rnldef_at}
 use Rattle.deck_form.specs.Statements.{statements_from, statements}
 use Rattle.deck_form.specs.SystemNames.{name_given, begins_schedule, names_to_schedule, system_names}
@@ -79,7 +79,7 @@ bytes :
 unfolding is_word is_hex digit is_allowed bad_line put put_word put_open end_line break_off begin_word begin step_in
     step scan_from finish_in lines_of lines_or_fault is_name_byte all_name is_name short_at dotted_at digits
     written_number unit_of ret_of rnl_of chosen option_at options_at ctl_at scope_at names_at place_at controlled_at
-    uncontrolled_at enq_at reserve_at deq_at wait_at line_ask_at line_word which_of rnl_type_of value_of rnl_operand_at
+    uncontrolled_at enq_at reserve_at deq_at wait_at line_ask_at line_word which_of form_of value_of rnl_operand_at
     whole_rnl rnldef_at mode_of entries_of limit_of with_operand operand_at complex_at event_word pair_at entry_at
     act_at event_at setgrs_at vary_at order_at command_at named_at key plain_form first_form event_form form
     statements_from statements name_given begins_schedule names_to_schedule system_names name_place system_place
@@ -107,7 +107,7 @@ words_and_forms :
 unfolding is_word is_hex digit is_allowed bad_line put put_word put_open end_line break_off begin_word begin step_in
     step scan_from finish_in lines_of lines_or_fault is_name_byte all_name is_name short_at dotted_at digits
     written_number unit_of ret_of rnl_of chosen option_at options_at ctl_at scope_at names_at place_at controlled_at
-    uncontrolled_at enq_at reserve_at deq_at wait_at line_ask_at line_word which_of rnl_type_of value_of rnl_operand_at
+    uncontrolled_at enq_at reserve_at deq_at wait_at line_ask_at line_word which_of form_of value_of rnl_operand_at
     whole_rnl rnldef_at mode_of entries_of limit_of with_operand operand_at complex_at event_word pair_at entry_at
     act_at event_at setgrs_at vary_at order_at command_at named_at key plain_form first_form event_form form
     statements_from statements name_given begins_schedule names_to_schedule system_names name_place system_place
@@ -134,7 +134,7 @@ task_lines :
 unfolding is_word is_hex digit is_allowed bad_line put put_word put_open end_line break_off begin_word begin step_in
     step scan_from finish_in lines_of lines_or_fault is_name_byte all_name is_name short_at dotted_at digits
     written_number unit_of ret_of rnl_of chosen option_at options_at ctl_at scope_at names_at place_at controlled_at
-    uncontrolled_at enq_at reserve_at deq_at wait_at line_ask_at line_word which_of rnl_type_of value_of rnl_operand_at
+    uncontrolled_at enq_at reserve_at deq_at wait_at line_ask_at line_word which_of form_of value_of rnl_operand_at
     whole_rnl rnldef_at mode_of entries_of limit_of with_operand operand_at complex_at event_word pair_at entry_at
     act_at event_at setgrs_at vary_at order_at command_at named_at key plain_form first_form event_form form
     statements_from statements name_given begins_schedule names_to_schedule system_names name_place system_place
@@ -150,7 +150,7 @@ reserves :
 unfolding is_word is_hex digit is_allowed bad_line put put_word put_open end_line break_off begin_word begin step_in
     step scan_from finish_in lines_of lines_or_fault is_name_byte all_name is_name short_at dotted_at digits
     written_number unit_of ret_of rnl_of chosen option_at options_at ctl_at scope_at names_at place_at controlled_at
-    uncontrolled_at enq_at reserve_at deq_at wait_at line_ask_at line_word which_of rnl_type_of value_of rnl_operand_at
+    uncontrolled_at enq_at reserve_at deq_at wait_at line_ask_at line_word which_of form_of value_of rnl_operand_at
     whole_rnl rnldef_at mode_of entries_of limit_of with_operand operand_at complex_at event_word pair_at entry_at
     act_at event_at setgrs_at vary_at order_at command_at named_at key plain_form first_form event_form form
     statements_from statements name_given begins_schedule names_to_schedule system_names name_place system_place
@@ -180,7 +180,7 @@ name_lists :
 unfolding is_word is_hex digit is_allowed bad_line put put_word put_open end_line break_off begin_word begin step_in
     step scan_from finish_in lines_of lines_or_fault is_name_byte all_name is_name short_at dotted_at digits
     written_number unit_of ret_of rnl_of chosen option_at options_at ctl_at scope_at names_at place_at controlled_at
-    uncontrolled_at enq_at reserve_at deq_at wait_at line_ask_at line_word which_of rnl_type_of value_of rnl_operand_at
+    uncontrolled_at enq_at reserve_at deq_at wait_at line_ask_at line_word which_of form_of value_of rnl_operand_at
     whole_rnl rnldef_at mode_of entries_of limit_of with_operand operand_at complex_at event_word pair_at entry_at
     act_at event_at setgrs_at vary_at order_at command_at named_at key plain_form first_form event_form form
     statements_from statements name_given begins_schedule names_to_schedule system_names name_place system_place
@@ -207,7 +207,7 @@ unfolding is_word is_hex digit is_allowed bad_line put put_word put_open end_lin
     step scan_from finish_in lines_of lines_or_fault is_name_byte all_name is_name short_at dotted_at digits
     written_number unit_of ret_of rnl_of chosen option_at options_at ctl_at scope_at names_at place_at controlled_at
     uncontrolled_at enq_at reserve_at deq_at wait_at reach_of want_of want_at scan_at resource_at shown_at display_at
-    line_ask_at line_word which_of rnl_type_of value_of rnl_operand_at whole_rnl rnldef_at mode_of entries_of limit_of
+    line_ask_at line_word which_of form_of value_of rnl_operand_at whole_rnl rnldef_at mode_of entries_of limit_of
     with_operand operand_at complex_at event_word pair_at entry_at act_at event_at setgrs_at vary_at order_at command_at
     named_at key plain_form first_form event_form form statements_from statements name_given begins_schedule
     names_to_schedule system_names name_place system_place job_place task_place judge judge_all reading fault
@@ -231,7 +231,7 @@ commands :
 unfolding is_word is_hex digit is_allowed bad_line put put_word put_open end_line break_off begin_word begin step_in
     step scan_from finish_in lines_of lines_or_fault is_name_byte all_name is_name short_at dotted_at digits
     written_number unit_of ret_of rnl_of chosen option_at options_at ctl_at scope_at names_at place_at controlled_at
-    uncontrolled_at enq_at reserve_at deq_at wait_at line_ask_at line_word which_of rnl_type_of value_of rnl_operand_at
+    uncontrolled_at enq_at reserve_at deq_at wait_at line_ask_at line_word which_of form_of value_of rnl_operand_at
     whole_rnl rnldef_at mode_of entries_of limit_of with_operand operand_at complex_at event_word pair_at entry_at
     act_at event_at setgrs_at vary_at order_at command_at named_at key plain_form first_form event_form form
     statements_from statements name_given begins_schedule names_to_schedule system_names name_place system_place
@@ -264,7 +264,7 @@ removals :
 unfolding is_word is_hex digit is_allowed bad_line put put_word put_open end_line break_off begin_word begin step_in
     step scan_from finish_in lines_of lines_or_fault is_name_byte all_name is_name short_at dotted_at digits
     written_number unit_of ret_of rnl_of chosen option_at options_at ctl_at scope_at names_at place_at controlled_at
-    uncontrolled_at enq_at reserve_at deq_at wait_at line_ask_at line_word which_of rnl_type_of value_of rnl_operand_at
+    uncontrolled_at enq_at reserve_at deq_at wait_at line_ask_at line_word which_of form_of value_of rnl_operand_at
     whole_rnl rnldef_at mode_of entries_of limit_of with_operand operand_at complex_at event_word pair_at entry_at
     act_at event_at setgrs_at vary_at order_at command_at named_at key plain_form first_form event_form form
     statements_from statements name_given begins_schedule names_to_schedule system_names name_place system_place
@@ -289,7 +289,7 @@ named_behind :
 unfolding is_word is_hex digit is_allowed bad_line put put_word put_open end_line break_off begin_word begin step_in
     step scan_from finish_in lines_of lines_or_fault is_name_byte all_name is_name short_at dotted_at digits
     written_number unit_of ret_of rnl_of chosen option_at options_at ctl_at scope_at names_at place_at controlled_at
-    uncontrolled_at enq_at reserve_at deq_at wait_at line_ask_at line_word which_of rnl_type_of value_of rnl_operand_at
+    uncontrolled_at enq_at reserve_at deq_at wait_at line_ask_at line_word which_of form_of value_of rnl_operand_at
     whole_rnl rnldef_at mode_of entries_of limit_of with_operand operand_at complex_at event_word pair_at entry_at
     act_at event_at setgrs_at vary_at order_at command_at named_at key plain_form first_form event_form form
     statements_from statements name_given begins_schedule names_to_schedule system_names name_place system_place
@@ -317,7 +317,7 @@ events :
 unfolding is_word is_hex digit is_allowed bad_line put put_word put_open end_line break_off begin_word begin step_in
     step scan_from finish_in lines_of lines_or_fault is_name_byte all_name is_name short_at dotted_at digits
     written_number unit_of ret_of rnl_of chosen option_at options_at ctl_at scope_at names_at place_at controlled_at
-    uncontrolled_at enq_at reserve_at deq_at wait_at line_ask_at line_word which_of rnl_type_of value_of rnl_operand_at
+    uncontrolled_at enq_at reserve_at deq_at wait_at line_ask_at line_word which_of form_of value_of rnl_operand_at
     whole_rnl rnldef_at mode_of entries_of limit_of with_operand operand_at complex_at event_word pair_at entry_at
     act_at event_at setgrs_at vary_at order_at command_at named_at key plain_form first_form event_form form
     statements_from statements name_given begins_schedule names_to_schedule system_names name_place system_place
@@ -342,7 +342,7 @@ removes : reading removing ≡ Ok removed
 unfolding is_word is_hex digit is_allowed bad_line put put_word put_open end_line break_off begin_word begin step_in
     step scan_from finish_in lines_of lines_or_fault is_name_byte all_name is_name short_at dotted_at digits
     written_number unit_of ret_of rnl_of chosen option_at options_at ctl_at scope_at names_at place_at controlled_at
-    uncontrolled_at enq_at reserve_at deq_at wait_at line_ask_at line_word which_of rnl_type_of value_of rnl_operand_at
+    uncontrolled_at enq_at reserve_at deq_at wait_at line_ask_at line_word which_of form_of value_of rnl_operand_at
     whole_rnl rnldef_at mode_of entries_of limit_of with_operand operand_at complex_at event_word pair_at entry_at
     act_at event_at setgrs_at vary_at order_at command_at named_at key plain_form first_form event_form form
     statements_from statements name_given begins_schedule names_to_schedule system_names name_place system_place
@@ -368,7 +368,7 @@ systems :
 unfolding is_word is_hex digit is_allowed bad_line put put_word put_open end_line break_off begin_word begin step_in
     step scan_from finish_in lines_of lines_or_fault is_name_byte all_name is_name short_at dotted_at digits
     written_number unit_of ret_of rnl_of chosen option_at options_at ctl_at scope_at names_at place_at controlled_at
-    uncontrolled_at enq_at reserve_at deq_at wait_at line_ask_at line_word which_of rnl_type_of value_of rnl_operand_at
+    uncontrolled_at enq_at reserve_at deq_at wait_at line_ask_at line_word which_of form_of value_of rnl_operand_at
     whole_rnl rnldef_at mode_of entries_of limit_of with_operand operand_at complex_at event_word pair_at entry_at
     act_at event_at setgrs_at vary_at order_at command_at named_at key plain_form first_form event_form form
     statements_from statements name_given begins_schedule names_to_schedule system_names name_place system_place
@@ -391,7 +391,7 @@ deck = record {
       record no_lists {
         excl = record {
           which = Excl;
-          entries = record { which = Excl; rnl_type = Pattern; q = codes "AP*"; r = Some (65 ∷ 0 ∷ []) } ∷ [];
+          entries = record { which = Excl; form = Pattern; q = codes "AP*"; r = Some (65 ∷ 0 ∷ []) } ∷ [];
         };
       };
   systems = record {
@@ -432,7 +432,7 @@ read : reading whole ≡ Ok deck
 unfolding is_word is_hex digit is_allowed bad_line put put_word put_open end_line break_off begin_word begin step_in
     step scan_from finish_in lines_of lines_or_fault is_name_byte all_name is_name short_at dotted_at digits
     written_number unit_of ret_of rnl_of chosen option_at options_at ctl_at scope_at names_at place_at controlled_at
-    uncontrolled_at enq_at reserve_at deq_at wait_at line_ask_at line_word which_of rnl_type_of value_of rnl_operand_at
+    uncontrolled_at enq_at reserve_at deq_at wait_at line_ask_at line_word which_of form_of value_of rnl_operand_at
     whole_rnl rnldef_at mode_of entries_of limit_of with_operand operand_at complex_at event_word pair_at entry_at
     act_at event_at setgrs_at vary_at order_at command_at named_at key plain_form first_form event_form form
     statements_from statements name_given begins_schedule names_to_schedule system_names name_place system_place
@@ -480,7 +480,7 @@ ring_deck : reading ring ≡ Ok (record no_deck {
 unfolding is_word is_hex digit is_allowed bad_line put put_word put_open end_line break_off begin_word begin step_in
     step scan_from finish_in lines_of lines_or_fault is_name_byte all_name is_name short_at dotted_at digits
     written_number unit_of ret_of rnl_of chosen option_at options_at ctl_at scope_at names_at place_at controlled_at
-    uncontrolled_at enq_at reserve_at deq_at wait_at line_ask_at line_word which_of rnl_type_of value_of rnl_operand_at
+    uncontrolled_at enq_at reserve_at deq_at wait_at line_ask_at line_word which_of form_of value_of rnl_operand_at
     whole_rnl rnldef_at mode_of entries_of limit_of with_operand operand_at complex_at event_word pair_at entry_at
     act_at event_at setgrs_at vary_at order_at command_at named_at key plain_form first_form event_form form
     statements_from statements name_given begins_schedule names_to_schedule system_names name_place system_place
@@ -516,7 +516,7 @@ star_deck : reading star ≡ Ok (record no_deck {
 unfolding is_word is_hex digit is_allowed bad_line put put_word put_open end_line break_off begin_word begin step_in
     step scan_from finish_in lines_of lines_or_fault is_name_byte all_name is_name short_at dotted_at digits
     written_number unit_of ret_of rnl_of chosen option_at options_at ctl_at scope_at names_at place_at controlled_at
-    uncontrolled_at enq_at reserve_at deq_at wait_at line_ask_at line_word which_of rnl_type_of value_of rnl_operand_at
+    uncontrolled_at enq_at reserve_at deq_at wait_at line_ask_at line_word which_of form_of value_of rnl_operand_at
     whole_rnl rnldef_at mode_of entries_of limit_of with_operand operand_at complex_at event_word pair_at entry_at
     act_at event_at setgrs_at vary_at order_at command_at named_at key plain_form first_form event_form form
     statements_from statements name_given begins_schedule names_to_schedule system_names name_place system_place
@@ -540,7 +540,7 @@ move_deck : reading move ≡ Ok (record no_deck {
 unfolding is_word is_hex digit is_allowed bad_line put put_word put_open end_line break_off begin_word begin step_in
     step scan_from finish_in lines_of lines_or_fault is_name_byte all_name is_name short_at dotted_at digits
     written_number unit_of ret_of rnl_of chosen option_at options_at ctl_at scope_at names_at place_at controlled_at
-    uncontrolled_at enq_at reserve_at deq_at wait_at line_ask_at line_word which_of rnl_type_of value_of rnl_operand_at
+    uncontrolled_at enq_at reserve_at deq_at wait_at line_ask_at line_word which_of form_of value_of rnl_operand_at
     whole_rnl rnldef_at mode_of entries_of limit_of with_operand operand_at complex_at event_word pair_at entry_at
     act_at event_at setgrs_at vary_at order_at command_at named_at key plain_form first_form event_form form
     statements_from statements name_given begins_schedule names_to_schedule system_names name_place system_place

@@ -1,6 +1,6 @@
 -- Worked entries: what they match and what they don't.
 use Rattle.std.proofs.Common.{◌≡◌, true, false, [], ◌∷◌, Some, None, refl, codes}
-use Rattle.grs_base.specs.declared.rnl.RnlType.TheVariants.{Specific, Generic, Pattern}
+use Rattle.grs_base.specs.declared.rnl.Form.TheVariants.{Specific, Generic, Pattern}
 use Rattle.grs_base.specs.declared.rnl.Which.TheVariants.{Incl}
 use Rattle.grs_base.specs.Rnl.{RnlView}
 use Rattle.rnl_match.specs.Matches.{matches_pattern, matches, find}
@@ -43,38 +43,35 @@ all = refl
 
 -- a generic entry wants the rname to begin with its own
 longer :
-    matches (record { which = Incl; rnl_type = Generic; q = codes "A"; r = Some (codes "AB") }) (codes "A")
-    (codes "ABC")
+    matches (record { which = Incl; form = Generic; q = codes "A"; r = Some (codes "AB") }) (codes "A") (codes "ABC")
     ≡ true
 longer = refl
 
 shorter :
-    matches (record { which = Incl; rnl_type = Generic; q = codes "A"; r = Some (codes "AB") }) (codes "A") (codes "A")
+    matches (record { which = Incl; form = Generic; q = codes "A"; r = Some (codes "AB") }) (codes "A") (codes "A")
     ≡ false
 shorter = refl
 
-other_qname : matches (record { which = Incl; rnl_type = Generic; q = codes "A"; r = None }) (codes "AB") (codes "X")
+other_qname : matches (record { which = Incl; form = Generic; q = codes "A"; r = None }) (codes "AB") (codes "X")
     ≡ false
 other_qname = refl
 
 -- a specific one wants it equal, and has to have one
 equal :
-    matches (record { which = Incl; rnl_type = Specific; q = codes "A"; r = Some (codes "AB") }) (codes "A")
-    (codes "ABC")
+    matches (record { which = Incl; form = Specific; q = codes "A"; r = Some (codes "AB") }) (codes "A") (codes "ABC")
     ≡ false
 equal = refl
 
-without : matches (record { which = Incl; rnl_type = Specific; q = codes "A"; r = None }) (codes "A") (codes "A")
-    ≡ false
+without : matches (record { which = Incl; form = Specific; q = codes "A"; r = None }) (codes "A") (codes "A") ≡ false
 without = refl
 
 -- the first entry that matches counts
 first : find (record {
   which = Incl;
   entries =
-      record { which = Incl; rnl_type = Specific; q = codes "A"; r = Some (codes "X") }
-      ∷ record { which = Incl; rnl_type = Generic; q = codes "A"; r = None }
-      ∷ record { which = Incl; rnl_type = Pattern; q = codes "*"; r = None } ∷ [];
+      record { which = Incl; form = Specific; q = codes "A"; r = Some (codes "X") }
+      ∷ record { which = Incl; form = Generic; q = codes "A"; r = None }
+      ∷ record { which = Incl; form = Pattern; q = codes "*"; r = None } ∷ [];
 }) (codes "A") (codes "Y") ≡ Some 1
 first = refl
 
@@ -83,10 +80,10 @@ abbrev some_list : RnlView
 some_list = record {
   which = Incl;
   entries =
-      record { which = Incl; rnl_type = Specific; q = codes "A"; r = Some (codes "X") }
-      ∷ record { which = Incl; rnl_type = Generic; q = codes "B"; r = None }
-      ∷ record { which = Incl; rnl_type = Pattern; q = codes "A*"; r = None }
-      ∷ record { which = Incl; rnl_type = Generic; q = codes "A"; r = None } ∷ [];
+      record { which = Incl; form = Specific; q = codes "A"; r = Some (codes "X") }
+      ∷ record { which = Incl; form = Generic; q = codes "B"; r = None }
+      ∷ record { which = Incl; form = Pattern; q = codes "A*"; r = None }
+      ∷ record { which = Incl; form = Generic; q = codes "A"; r = None } ∷ [];
 }
 
 -- a name is compared with the entries of its qname, and with the pattern

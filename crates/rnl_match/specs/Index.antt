@@ -5,19 +5,19 @@ use Rattle.std.specs.Option.{option_map_or}
 use Rattle.std.specs.Map.{lookup}
 use Rattle.std.specs.Str.{bytes_eq}
 use Rattle.grs_base.specs.Rnl.{RnlView}
-use Rattle.grs_base.specs.declared.rnl.RnlType.{RnlType}
-use Rattle.grs_base.specs.declared.rnl.RnlType.TheVariants.{Specific, Generic, Pattern}
+use Rattle.grs_base.specs.declared.rnl.Form.{Form}
+use Rattle.grs_base.specs.declared.rnl.Form.TheVariants.{Specific, Generic, Pattern}
 use Rattle.grs_base.specs.declared.rnl.RnlEntry.{RnlEntry}
 
--- whether entries of this type are patterns
-abbrev pub is_pattern_type : RnlType → Bool
-is_pattern_type Specific = false
-is_pattern_type Generic = false
-is_pattern_type Pattern = true
+-- whether entries of this form are patterns
+abbrev pub is_pattern_form : Form → Bool
+is_pattern_form Specific = false
+is_pattern_form Generic = false
+is_pattern_form Pattern = true
 
 -- whether an entry is a pattern
 abbrev pub is_pattern : RnlEntry → Bool
-is_pattern e = is_pattern_type e.rnl_type
+is_pattern e = is_pattern_form e.form
 
 -- whether an entry is of a qname, and no pattern
 abbrev pub is_under : List ℕ → RnlEntry → Bool

@@ -4,7 +4,7 @@ ghost use Rattle.std.specs.Str.{bytes_eq};
 ghost use Rattle.rnl_match.specs.Matches.{matches_qname, matches_rname, matches_every, matches_some_rname, matches, find};
 
 use super::pattern::matches_pattern;
-use grs_base::{Qname, Rname, RnlEntry, RnlList, RnlType, Steps};
+use grs_base::{Form, Qname, Rname, RnlEntry, RnlList, Steps};
 use std::sync::ledger::Ledger;
 
 /// Whether two names are the same bytes. It is asked of each entry of a list, where std's test of two slices would be a
@@ -24,43 +24,43 @@ fn is_same(wanted: &[u8], name: &[u8]) -> bool
 }
 
 /// Whether a qname is matched.
-fn matches_qname(rnl_type: RnlType, wanted: &Qname, q: &Qname) -> bool
-    ensures { result ≡ matches_qname rnl_type wanted.now q.now }
+fn matches_qname(form: Form, wanted: &Qname, q: &Qname) -> bool
+    ensures { result ≡ matches_qname form wanted.now q.now }
 {
-    match rnl_type {
-        RnlType::Specific | RnlType::Generic => is_same(wanted.bytes(), q.bytes()),
-        RnlType::Pattern => matches_pattern(wanted.bytes(), q.bytes()),
+    match form {
+        Form::Specific | Form::Generic => is_same(wanted.bytes(), q.bytes()),
+        Form::Pattern => matches_pattern(wanted.bytes(), q.bytes()),
     }
 }
 
 /// Whether an rname is matched by an entry that has one.
-fn matches_rname(rnl_type: RnlType, wanted: &Rname, r: &Rname) -> bool
-    ensures { result ≡ matches_rname rnl_type wanted.now r.now }
+fn matches_rname(form: Form, wanted: &Rname, r: &Rname) -> bool
+    ensures { result ≡ matches_rname form wanted.now r.now }
 {
-    match rnl_type {
-        RnlType::Specific => is_same(wanted.bytes(), r.bytes()),
-        RnlType::Generic => r.bytes().starts_with(wanted.bytes()),
-        RnlType::Pattern => matches_pattern(wanted.bytes(), r.bytes()),
+    match form {
+        Form::Specific => is_same(wanted.bytes(), r.bytes()),
+        Form::Generic => r.bytes().starts_with(wanted.bytes()),
+        Form::Pattern => matches_pattern(wanted.bytes(), r.bytes()),
     }
 }
 
 /// Whether an entry without an rname matches every rname.
-fn matches_every(rnl_type: RnlType) -> bool
-    ensures { result ≡ matches_every rnl_type }
+fn matches_every(form: Form) -> bool
+    ensures { result ≡ matches_every form }
 {
-    match rnl_type {
-        RnlType::Specific => false,
-        RnlType::Generic | RnlType::Pattern => true,
+    match form {
+        Form::Specific => false,
+        Form::Generic | Form::Pattern => true,
     }
 }
 
 /// Whether an rname is matched by an entry that may have none.
-fn matches_some_rname(rnl_type: RnlType, wanted: &Option<Rname>, r: &Rname) -> bool
-    ensures { result ≡ matches_some_rname rnl_type wanted.now r.now }
+fn matches_some_rname(form: Form, wanted: &Option<Rname>, r: &Rname) -> bool
+    ensures { result ≡ matches_some_rname form wanted.now r.now }
 {
     match wanted {
-        None => matches_every(rnl_type),
-        Some(wanted) => matches_rname(rnl_type, wanted, r),
+        None => matches_every(form),
+        Some(wanted) => matches_rname(form, wanted, r),
     }
 }
 
@@ -70,7 +70,7 @@ fn matches_some_rname(rnl_type: RnlType, wanted: &Option<Rname>, r: &Rname) -> b
 pub fn matches(entry: &RnlEntry, q: &Qname, r: &Rname) -> bool
     ensures { result ≡ matches entry.now q.now r.now }
 {
-    matches_qname(entry.rnl_type, &entry.q, q) && matches_some_rname(entry.rnl_type, &entry.r, r)
+    matches_qname(entry.form, &entry.q, q) && matches_some_rname(entry.form, &entry.r, r)
 }
 
 /// The same, counted as one step.

@@ -8,7 +8,7 @@ ghost use Rattle.rnl_match.specs.Matches.{matches, find};
 ghost use Rattle.rnl_match.specs.Index.{most_compared, places, is_under, is_pattern, bucket_at, first_place};
 
 use super::entry::matches_counted;
-use grs_base::{List, NoMemory, Qname, Rname, RnlEntry, RnlList, RnlType, Steps};
+use grs_base::{Form, List, NoMemory, Qname, Rname, RnlEntry, RnlList, Steps};
 use indexmap::IndexMap;
 use indexmap::map::Entry;
 use std::alloc::Global;
@@ -151,9 +151,9 @@ fn add_entry(
     ensures under { OnOk result ((q : List ℕ) → bucket_at buckets.new.entries q ≡ (if is_under q entry.now then bucket_at buckets.old.entries q ++ place ∷ [] else bucket_at buckets.old.entries q)) }
     ensures apart { OnOk result (patterns.new ≡ (if is_pattern entry.now then patterns.old ++ place ∷ [] else patterns.old)) }
 {
-    match entry.rnl_type {
-        RnlType::Pattern => patterns.push(place),
-        RnlType::Specific | RnlType::Generic => add_place(alloc, buckets, &entry.q, place),
+    match entry.form {
+        Form::Pattern => patterns.push(place),
+        Form::Specific | Form::Generic => add_place(alloc, buckets, &entry.q, place),
     }
 }
 

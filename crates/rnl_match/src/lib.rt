@@ -1,5 +1,5 @@
 //! Which entry of a name list matches a resource's names, and an index over a list that finds it. An entry is
-//! compared by its own type alone; what a match does to a request is not known here. (z/OS MVS Planning: Global
+//! compared by its own form alone; what a match does to a request is not known here. (z/OS MVS Planning: Global
 //! Resource Serialization, "Resource name lists".)
 #![tactic(auto)]
 

@@ -98,7 +98,7 @@ some None = 0
 some (Some x) = 1
 
 filled : Operands → ℕ
-filled o = some o.which + some o.rnl_type + some o.q + some o.r
+filled o = some o.which + some o.form + some o.q + some o.r
 
 named_weight : (t : Token) (n : List ℕ) → Names t n → weight t ≡ 0
 named_weight (Word w) n h = refl
@@ -111,8 +111,8 @@ unfolding filled
 given_closes [] o p h = rw h (omega arith)
 given_closes (WithRnl which ∷ xs) o p h =
     let k = given_closes xs (set (WithRnl which) o) p h.1 in let f = ap some h.0 in omega (arith, k, f)
-given_closes (WithType rnl_type ∷ xs) o p h =
-    let k = given_closes xs (set (WithType rnl_type) o) p h.1 in let f = ap some h.0 in omega (arith, k, f)
+given_closes (WithType form ∷ xs) o p h =
+    let k = given_closes xs (set (WithType form) o) p h.1 in let f = ap some h.0 in omega (arith, k, f)
 given_closes (WithQname t q ∷ xs) o p h =
     let k = given_closes xs (set (WithQname t q) o) p h.1 in
     let f = ap some h.0.0 in
@@ -129,8 +129,7 @@ pub rnldef_closes : (ts : List Token) (d : Rnldef) → IsRnldef ts d → closes 
 unfolding filled
 rnldef_closes ts d h =
     let k =
-    given_closes h.given no_operands
-    (record { which = Some d.which; rnl_type = Some d.rnl_type; q = Some d.q; r = d.r })
+    given_closes h.given no_operands (record { which = Some d.which; form = Some d.form; q = Some d.q; r = d.r })
     h.operands in
     let e = ap closes h.spelled in
     omega (arith, k, e)

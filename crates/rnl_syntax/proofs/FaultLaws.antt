@@ -66,15 +66,15 @@ word_bad s w ts f apart is h = go (is_rnldef_word w) refl h
     word e (inl joined) = let k : true ≡ false = sym joined ∙ apart in cc
     word e (inr other) = let k : true ≡ false = sym e ∙ subst BeginsOtherwise is other in cc
 
-    rnl_type : (o : Option Rnldef) → is_rnldef_word w ≡ true → rnldef_at ts ≡ o → or_bad s.at o ≡ fault_of f → IsBad s f
-    rnl_type (Some d) e there k = absurd cc
-    rnl_type None e there k =
+    form : (o : Option Rnldef) → is_rnldef_word w ≡ true → rnldef_at ts ≡ o → or_bad s.at o ≡ fault_of f → IsBad s f
+    form (Some d) e there k = absurd cc
+    form None e there k =
         told s (made s.at BadOperand) f k
         (refl, word e, λ d says. no_statement w ts there d (subst (λ (x : List Token). IsStatement x d) is says))
 
     go : (b : Bool) → is_rnldef_word w ≡ b
         → cond b (or_bad s.at (rnldef_at ts)) (refused s.at UnknownStatement) ≡ fault_of f → IsBad s f
-    go true e k = rnl_type (rnldef_at ts) e refl k
+    go true e k = form (rnldef_at ts) e refl k
     go false e k = told s (made s.at UnknownStatement) f k (refl, inr (subst BeginsOtherwise (sym is) e))
 
 open_bad : (s : TokenLine) (ts : List Token) → s.joined ≡ false → s.tokens ≡ Unclosed ∷ ts
@@ -133,21 +133,20 @@ other_first at (_ ∷ ts) h = refl
 
 formless_first : (at : ℕ) (ts : List Token) → (BeginsOtherwise ts → ⊥) → ((d : Rnldef) → IsStatement ts d → ⊥)
     → by_first at ts ≡ refused at BadOperand
-formless_first at (Word w ∷ ts) word rnl_type = go (is_rnldef_word w) refl
+formless_first at (Word w ∷ ts) word form = go (is_rnldef_word w) refl
   where
     by : (o : Option Rnldef) → is_rnldef_word w ≡ true → rnldef_at ts ≡ o → or_bad at o ≡ refused at BadOperand
     by None e is = refl
     by (Some d) e is =
-        absurd (rnl_type d
-        (ts, ap (λ (x : List ℕ). Word x ∷ ts) (same_bytes w (codes "RNLDEF") e), rnldef_taken ts d is))
+        absurd (form d (ts, ap (λ (x : List ℕ). Word x ∷ ts) (same_bytes w (codes "RNLDEF") e), rnldef_taken ts d is))
 
     go : (b : Bool) → is_rnldef_word w ≡ b
         → cond b (or_bad at (rnldef_at ts)) (refused at UnknownStatement) ≡ refused at BadOperand
     go true e = by (rnldef_at ts) e refl
     go false e = absurd (word e)
-formless_first at (Unclosed ∷ ts) word rnl_type = refl
-formless_first at [] word rnl_type = absurd (word tt)
-formless_first at (_ ∷ ts) word rnl_type = absurd (word tt)
+formless_first at (Unclosed ∷ ts) word form = refl
+formless_first at [] word form = absurd (word tt)
+formless_first at (_ ∷ ts) word form = absurd (word tt)
 
 no_word_on : (s : TokenLine) → NoWord s → rnldef_on s ≡ refused s.at UnknownStatement
 unfolding rnldef_on
@@ -161,12 +160,12 @@ no_word_on s (inr other) = go s.joined
 no_form_on : (s : TokenLine) → (NoWord s → ⊥) → ((d : Rnldef) → IsStatement s.tokens d → ⊥)
     → rnldef_on s ≡ refused s.at BadOperand
 unfolding rnldef_on
-no_form_on s word rnl_type = go s.joined refl
+no_form_on s word form = go s.joined refl
   where
     go : (b : Bool) → s.joined ≡ b
         → cond b (refused s.at UnknownStatement) (by_first s.at s.tokens) ≡ refused s.at BadOperand
     go true is = absurd (word (inl is))
-    go false is = formless_first s.at s.tokens (λ other. word (inr other)) rnl_type
+    go false is = formless_first s.at s.tokens (λ other. word (inr other)) form
 
 -- A fault of the statement is told.
 there_fault : (k : Kind) (at : ℕ) (o : Option TokenLine) → IsWrong k at o → entry_on o ≡ fault_as (made at k)

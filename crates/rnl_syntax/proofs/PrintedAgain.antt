@@ -14,8 +14,8 @@ use Rattle.std.proofs.lemmas.List.Folds.{list_all-append}
 use Rattle.grs_base.specs.Printed.{is_printable, printed_name}
 use Rattle.grs_base.specs.declared.rnl.Which.{Which}
 use Rattle.grs_base.specs.declared.rnl.Which.TheVariants.{Incl, Excl, Con}
-use Rattle.grs_base.specs.declared.rnl.RnlType.{RnlType}
-use Rattle.grs_base.specs.declared.rnl.RnlType.TheVariants.{Specific, Generic, Pattern}
+use Rattle.grs_base.specs.declared.rnl.Form.{Form}
+use Rattle.grs_base.specs.declared.rnl.Form.TheVariants.{Specific, Generic, Pattern}
 use Rattle.grs_base.specs.declared.rnl.RnlEntry.{RnlEntry}
 use Rattle.grs_base.specs.Names.{IsMaybeRname, are_bytes}
 use Rattle.grs_base.specs.NameLists.{is_specific, IsEntry}
@@ -35,7 +35,7 @@ use Rattle.deck_scan.proofs.Names.{piece-spelling, piece-is, printed-printable, 
 use Rattle.deck_scan.proofs.Print.{printable-before, printable-kept, piece_on, name_followed, name_past, name_names}
 use Rattle.rnl_syntax.specs.declared.operands.Rnldef.{Rnldef}
 use Rattle.rnl_syntax.specs.Lines.{is_open, first_from, begins_operands}
-use Rattle.rnl_syntax.specs.Spelled.{which_word, rnl_type_word, WithRnl, WithType, WithQname, WithRname, IsRnldef}
+use Rattle.rnl_syntax.specs.Spelled.{which_word, form_word, WithRnl, WithType, WithQname, WithRname, IsRnldef}
 use Rattle.rnl_syntax.specs.Printed.{printed_rname, printed_rnldef}
 use Rattle.rnl_syntax.specs.Reading.{MakesEntry, ends_closed, SpellsEntry}
 use Rattle.rnl_syntax.specs.Laws.{IsLineEnd, IsNextLine, MayFollow}
@@ -50,7 +50,7 @@ rname_pieces (Some r) rest = Blank ∷ Plain (codes "RNAME") ∷ Sign Open ∷ n
 entry_pieces : RnlEntry → List Piece → List Piece
 entry_pieces e rest =
     Plain (codes "RNLDEF") ∷ Blank ∷ Plain (codes "RNL") ∷ Sign Open ∷ Plain (which_word e.which) ∷ Sign Close ∷ Blank
-    ∷ Plain (codes "TYPE") ∷ Sign Open ∷ Plain (rnl_type_word e.rnl_type) ∷ Sign Close ∷ Blank ∷ Plain (codes "QNAME")
+    ∷ Plain (codes "TYPE") ∷ Sign Open ∷ Plain (form_word e.form) ∷ Sign Close ∷ Blank ∷ Plain (codes "QNAME")
     ∷ Sign Open ∷ name_piece e.q ∷ Sign Close ∷ rname_pieces e.r rest
 
 abbrev rname_tokens : Option (List ℕ) → List Token
@@ -59,8 +59,7 @@ rname_tokens (Some r) = Word (codes "RNAME") ∷ Open ∷ name_token r ∷ Close
 
 abbrev entry_tokens : RnlEntry → List Token
 entry_tokens e =
-    Word (codes "RNL") ∷ Open ∷ Word (which_word e.which) ∷ Close ∷ Word (codes "TYPE") ∷ Open
-    ∷ Word (rnl_type_word e.rnl_type)
+    Word (codes "RNL") ∷ Open ∷ Word (which_word e.which) ∷ Close ∷ Word (codes "TYPE") ∷ Open ∷ Word (form_word e.form)
     ∷ Close ∷ Word (codes "QNAME") ∷ Open ∷ name_token e.q ∷ Close ∷ rname_tokens e.r
 
 abbrev entry_line : RnlEntry → TokenLine
@@ -79,9 +78,9 @@ rname_spelled (Some r) rest =
 tail_is : (q r rest : List ℕ) → ((q ++ 41 ∷ []) ++ r) ++ rest ≡ q ++ 41 ∷ (r ++ rest)
 tail_is q r rest = append_assoc (q ++ 41 ∷ []) r rest ∙ append_assoc q (41 ∷ []) (r ++ rest)
 
-parts_spelled : (which : Which) (rnl_type : RnlType) (q : List ℕ) (r : Option (List ℕ)) (rest : List Piece)
-    → spelled (entry_pieces (record { which = which; rnl_type = rnl_type; q = q; r = r }) rest)
-    ≡ printed_rnldef (record { which = which; rnl_type = rnl_type; q = q; r = r }) ++ spelled rest
+parts_spelled : (which : Which) (form : Form) (q : List ℕ) (r : Option (List ℕ)) (rest : List Piece)
+    → spelled (entry_pieces (record { which = which; form = form; q = q; r = r }) rest)
+    ≡ printed_rnldef (record { which = which; form = form; q = q; r = r }) ++ spelled rest
 unfolding entry_pieces
 parts_spelled Incl Specific q r rest =
     rw (piece-spelling q, rname_spelled r rest, tail_is (printed_name q) (printed_rname r) (spelled rest)) refl
@@ -103,16 +102,15 @@ parts_spelled Con Pattern q r rest =
     rw (piece-spelling q, rname_spelled r rest, tail_is (printed_name q) (printed_rname r) (spelled rest)) refl
 
 entry_spelled : (e : RnlEntry) (rest : List Piece) → spelled (entry_pieces e rest) ≡ printed_rnldef e ++ spelled rest
-entry_spelled e rest = parts_spelled e.which e.rnl_type e.q e.r rest
+entry_spelled e rest = parts_spelled e.which e.form e.q e.r rest
 
 rname_printable : (r : Option (List ℕ)) → IsMaybeRname r → list_all is_printable (printed_rname r) ≡ true
 rname_printable None h = refl
 rname_printable (Some r) h =
     rw (list_all-append is_printable (codes " RNAME(" ++ printed_name r) (codes ")"), printed-printable r h.1) refl
 
-parts_printable : (which : Which) (rnl_type : RnlType) (q : List ℕ) (r : Option (List ℕ)) → are_bytes q ≡ true
-    → IsMaybeRname r
-    → list_all is_printable (printed_rnldef (record { which = which; rnl_type = rnl_type; q = q; r = r })) ≡ true
+parts_printable : (which : Which) (form : Form) (q : List ℕ) (r : Option (List ℕ)) → are_bytes q ≡ true → IsMaybeRname r
+    → list_all is_printable (printed_rnldef (record { which = which; form = form; q = q; r = r })) ≡ true
 parts_printable Incl Specific q r hq hr =
     rw (
       list_all-append is_printable (printed_name q ++ codes ")") (printed_rname r),
@@ -187,7 +185,7 @@ parts_printable Con Pattern q r hq hr =
     refl
 
 entry_printable : (e : RnlEntry) → IsEntry e → list_all is_printable (printed_rnldef e) ≡ true
-entry_printable e h = parts_printable e.which e.rnl_type e.q e.r h.q_bytes h.r
+entry_printable e h = parts_printable e.which e.form e.q e.r h.q_bytes h.r
 
 -- ---- they are pieces
 
@@ -197,11 +195,11 @@ word_piece Incl = refl
 word_piece Excl = refl
 word_piece Con = refl
 
-rnl_type_piece : (rnl_type : RnlType) → is_piece (Plain (rnl_type_word rnl_type)) ≡ true
+form_piece : (form : Form) → is_piece (Plain (form_word form)) ≡ true
 unfolding is_word
-rnl_type_piece Specific = refl
-rnl_type_piece Generic = refl
-rnl_type_piece Pattern = refl
+form_piece Specific = refl
+form_piece Generic = refl
+form_piece Pattern = refl
 
 close_followed : (xs : List ℕ) → followed_by (Sign Close) xs ≡ true
 close_followed [] = refl
@@ -270,15 +268,14 @@ entry_are e rest h all =
     let names : List Piece =
     Blank ∷ Plain (codes "QNAME") ∷ Sign Open ∷ name_piece e.q ∷ Sign Close ∷ rname_pieces e.r rest in
     let second =
-    operand_on (codes "TYPE") (Plain (rnl_type_word e.rnl_type)) names literal.2
-    (value_on (rnl_type_word e.rnl_type) names (rnl_type_piece e.rnl_type) third) in
-    let rnl_type : List Piece =
-    Blank ∷ Plain (codes "TYPE") ∷ Sign Open ∷ Plain (rnl_type_word e.rnl_type) ∷ Sign Close ∷ names in
+    operand_on (codes "TYPE") (Plain (form_word e.form)) names literal.2
+    (value_on (form_word e.form) names (form_piece e.form) third) in
+    let form : List Piece = Blank ∷ Plain (codes "TYPE") ∷ Sign Open ∷ Plain (form_word e.form) ∷ Sign Close ∷ names in
     let first =
-    operand_on (codes "RNL") (Plain (which_word e.which)) rnl_type literal.1
-    (value_on (which_word e.which) rnl_type (word_piece e.which) second) in
+    operand_on (codes "RNL") (Plain (which_word e.which)) form literal.1
+    (value_on (which_word e.which) form (word_piece e.which) second) in
     piece_on (Plain (codes "RNLDEF"))
-    (Blank ∷ Plain (codes "RNL") ∷ Sign Open ∷ Plain (which_word e.which) ∷ Sign Close ∷ rnl_type) literal.0 refl first
+    (Blank ∷ Plain (codes "RNL") ∷ Sign Open ∷ Plain (which_word e.which) ∷ Sign Close ∷ form) literal.0 refl first
 
 -- ---- what they say
 
@@ -291,50 +288,48 @@ entry_place e = record {
   lines = [];
 }
 
-abbrev at_name : Which → RnlType → List Token → Place
-at_name which rnl_type more = record {
+abbrev at_name : Which → Form → List Token → Place
+at_name which form more = record {
   line = 1;
   tokens =
       Word (codes "RNLDEF") ∷ Word (codes "RNL") ∷ Open ∷ Word (which_word which) ∷ Close ∷ Word (codes "TYPE") ∷ Open
-      ∷ Word (rnl_type_word rnl_type) ∷ Close ∷ Word (codes "QNAME") ∷ Open ∷ more;
+      ∷ Word (form_word form) ∷ Close ∷ Word (codes "QNAME") ∷ Open ∷ more;
   near = false;
   joined = false;
   lines = [];
 }
 
-parts_past : (which : Which) (rnl_type : RnlType) (q : List ℕ) (r : Option (List ℕ)) (rest : List Piece)
-    → are_bytes q ≡ true
+parts_past : (which : Which) (form : Form) (q : List ℕ) (r : Option (List ℕ)) (rest : List Piece) → are_bytes q ≡ true
     → IsMaybeRname r
-    → past_all (entry_pieces (record { which = which; rnl_type = rnl_type; q = q; r = r }) rest) first_place
-    ≡ past_all rest (entry_place (record { which = which; rnl_type = rnl_type; q = q; r = r }))
+    → past_all (entry_pieces (record { which = which; form = form; q = q; r = r }) rest) first_place
+    ≡ past_all rest (entry_place (record { which = which; form = form; q = q; r = r }))
 unfolding entry_pieces rname_pieces
-parts_past which rnl_type q None rest hq hr =
-    ap (past_all (Sign Close ∷ rest)) (name_past q hq (at_name which rnl_type []) refl)
-parts_past which rnl_type q (Some r) rest hq hr =
+parts_past which form q None rest hq hr =
+    ap (past_all (Sign Close ∷ rest)) (name_past q hq (at_name which form []) refl)
+parts_past which form q (Some r) rest hq hr =
     ap (past_all (Sign Close ∷ Blank ∷ Plain (codes "RNAME") ∷ Sign Open ∷ name_piece r ∷ Sign Close ∷ rest))
-    (name_past q hq (at_name which rnl_type []) refl)
+    (name_past q hq (at_name which form []) refl)
     ∙ ap (past_all (Sign Close ∷ rest))
-    (name_past r hr.1 (at_name which rnl_type (name_token q ∷ Close ∷ Word (codes "RNAME") ∷ Open ∷ [])) refl)
+    (name_past r hr.1 (at_name which form (name_token q ∷ Close ∷ Word (codes "RNAME") ∷ Open ∷ [])) refl)
 
 entry_past : (e : RnlEntry) (rest : List Piece) → IsEntry e
     → past_all (entry_pieces e rest) first_place ≡ past_all rest (entry_place e)
-entry_past e rest h = parts_past e.which e.rnl_type e.q e.r rest h.q_bytes h.r
+entry_past e rest h = parts_past e.which e.form e.q e.r rest h.q_bytes h.r
 
 abbrev rnldef_of : RnlEntry → Rnldef
-rnldef_of e = record { which = e.which; rnl_type = e.rnl_type; q = e.q; r = e.r }
+rnldef_of e = record { which = e.which; form = e.form; q = e.q; r = e.r }
 
-parts_say : (which : Which) (rnl_type : RnlType) (q : List ℕ) (r : Option (List ℕ))
-    → (is_specific rnl_type && is_none r) ≡ false
-    → IsRnldef (entry_tokens (record { which = which; rnl_type = rnl_type; q = q; r = r }))
-    (record { which = which; rnl_type = rnl_type; q = q; r = r })
-parts_say which rnl_type q None needed = record {
-  given = WithRnl which ∷ WithType rnl_type ∷ WithQname (name_token q) q ∷ [];
+parts_say : (which : Which) (form : Form) (q : List ℕ) (r : Option (List ℕ)) → (is_specific form && is_none r) ≡ false
+    → IsRnldef (entry_tokens (record { which = which; form = form; q = q; r = r }))
+    (record { which = which; form = form; q = q; r = r })
+parts_say which form q None needed = record {
+  given = WithRnl which ∷ WithType form ∷ WithQname (name_token q) q ∷ [];
   spelled = refl;
   operands = (refl, (refl, ((refl, name_names q), refl)));
   needed = needed;
 }
-parts_say which rnl_type q (Some r) needed = record {
-  given = WithRnl which ∷ WithType rnl_type ∷ WithQname (name_token q) q ∷ WithRname (name_token r) r ∷ [];
+parts_say which form q (Some r) needed = record {
+  given = WithRnl which ∷ WithType form ∷ WithQname (name_token q) q ∷ WithRname (name_token r) r ∷ [];
   spelled = refl;
   operands = (refl, (refl, ((refl, name_names q), ((refl, name_names r), refl))));
   needed = needed;
@@ -344,37 +339,36 @@ rname_good : (r : Option (List ℕ)) → IsMaybeRname r → is_bad_rname r ≡ f
 rname_good None h = refl
 rname_good (Some r) h = rw h.0 refl
 
-parts_end : (which : Which) (rnl_type : RnlType) (q : List ℕ) (r : Option (List ℕ))
-    → next_line (entry_place (record { which = which; rnl_type = rnl_type; q = q; r = r }))
+parts_end : (which : Which) (form : Form) (q : List ℕ) (r : Option (List ℕ))
+    → next_line (entry_place (record { which = which; form = form; q = q; r = r }))
     ≡ record {
       line = 2;
       tokens = [];
       near = false;
       joined = false;
-      lines = entry_line (record { which = which; rnl_type = rnl_type; q = q; r = r }) ∷ [];
+      lines = entry_line (record { which = which; form = form; q = q; r = r }) ∷ [];
     }
-parts_end which rnl_type q None = refl
-parts_end which rnl_type q (Some r) = refl
+parts_end which form q None = refl
+parts_end which form q (Some r) = refl
 
 entry_end : (e : RnlEntry)
     → next_line (entry_place e)
     ≡ record { line = 2; tokens = []; near = false; joined = false; lines = entry_line e ∷ [] }
-entry_end e = parts_end e.which e.rnl_type e.q e.r
+entry_end e = parts_end e.which e.form e.q e.r
 
 -- ---- the statement
 
-closed_tokens : (which : Which) (rnl_type : RnlType) (q : List ℕ) (r : Option (List ℕ))
-    → is_open (Word (codes "RNLDEF") ∷ entry_tokens (record { which = which; rnl_type = rnl_type; q = q; r = r }))
-    ≡ false
-closed_tokens which rnl_type q None = refl
-closed_tokens which rnl_type q (Some r) = refl
+closed_tokens : (which : Which) (form : Form) (q : List ℕ) (r : Option (List ℕ))
+    → is_open (Word (codes "RNLDEF") ∷ entry_tokens (record { which = which; form = form; q = q; r = r })) ≡ false
+closed_tokens which form q None = refl
+closed_tokens which form q (Some r) = refl
 
 -- it doesn't go on
 stays : (e : RnlEntry) (more : List TokenLine) → begins_operands more ≡ false
     → first_from (entry_line e) more ≡ entry_line e
 unfolding first_from
 stays e [] h = refl
-stays e (m ∷ ms) h = rw (closed_tokens e.which e.rnl_type e.q e.r, h) refl
+stays e (m ∷ ms) h = rw (closed_tokens e.which e.form e.q e.r, h) refl
 
 made_by : (e : RnlEntry) (text : List ℕ) (more : List TokenLine) → IsEntry e
     → SpellsLines (readable text) (entry_line e ∷ more) → begins_operands more ≡ false → MakesEntry text e
@@ -387,7 +381,7 @@ made_by e text more h spelled other = record {
   behind = entry_tokens e;
   parts = refl;
   rnldef = rnldef_of e;
-  says = parts_say e.which e.rnl_type e.q e.r h.needed;
+  says = parts_say e.which e.form e.q e.r h.needed;
   names = rw (h.q.made, rname_good e.r h.r) refl;
   makes = rw h.q.trimmed refl;
 }
@@ -495,21 +489,19 @@ last_byte text (Some r) = (
 ending : (e : RnlEntry) → Ending e
 ending e =
     let l =
-    last_byte (codes "RNLDEF RNL(" ++ which_word e.which ++ codes ") TYPE(" ++ rnl_type_word e.rnl_type
-    ++ codes ") QNAME("
+    last_byte (codes "RNLDEF RNL(" ++ which_word e.which ++ codes ") TYPE(" ++ form_word e.form ++ codes ") QNAME("
     ++ printed_name e.q)
     e.r in
     record { init = l.0; parts = l.1 }
 
-line_ends : (which : Which) (rnl_type : RnlType) (q : List ℕ) (r : Option (List ℕ))
-    → line_closes (entry_line (record { which = which; rnl_type = rnl_type; q = q; r = r }) ∷ []) ≡ true
-line_ends which rnl_type q None = refl
-line_ends which rnl_type q (Some r) = refl
+line_ends : (which : Which) (form : Form) (q : List ℕ) (r : Option (List ℕ))
+    → line_closes (entry_line (record { which = which; form = form; q = q; r = r }) ∷ []) ≡ true
+line_ends which form q None = refl
+line_ends which form q (Some r) = refl
 
 line_count : (e : RnlEntry) → IsEntry e → all_closes (entry_line e ∷ []) ≡ 3 + some e.r
 line_count e h =
-    let k = rnldef_closes (entry_tokens e) (rnldef_of e) (parts_say e.which e.rnl_type e.q e.r h.needed) in
-    omega (arith, k)
+    let k = rnldef_closes (entry_tokens e) (rnldef_of e) (parts_say e.which e.form e.q e.r h.needed) in omega (arith, k)
 
 -- What is printed of an entry is read as that entry, and used to its end.
 used_all : (e : RnlEntry) (behind : List ℕ) → IsEntry e → MakesEntry (printed_rnldef e ++ behind) e
@@ -530,7 +522,7 @@ used_all e behind h made =
       front = (omega (arith, long), ap ends_closed cut ∙ closed, subst (λ (x : List ℕ). MakesEntry x e) (sym cut) own);
       fewest = λ n lt f.
           no_shorter (printed_rnldef e) end.init behind e (entry_line e ∷ []) end.parts spelled
-          (line_ends e.which e.rnl_type e.q e.r) (line_count e h) n lt f.1 f.2;
+          (line_ends e.which e.form e.q e.r) (line_count e h) n lt f.1 f.2;
     }
 
 pub entry_again : (e : RnlEntry) (behind : List ℕ) → IsEntry e → MayFollow behind

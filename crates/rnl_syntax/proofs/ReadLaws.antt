@@ -226,17 +226,16 @@ head_of (l ∷ ls) s h = go (goes_on s l) refl h (λ k. head_of ls (with_line s 
 close_all : (xs : List Operand) (t : Token) → is_close t ≡ true → last_closes (t ∷ flat_map operand xs) ≡ true
 close_all [] t h = h
 close_all (WithRnl which ∷ xs) t h = close_all xs Close refl
-close_all (WithType rnl_type ∷ xs) t h = close_all xs Close refl
+close_all (WithType form ∷ xs) t h = close_all xs Close refl
 close_all (WithQname u q ∷ xs) t h = close_all xs Close refl
 close_all (WithRname u r ∷ xs) t h = close_all xs Close refl
 
 given_close : (xs : List Operand) (t : Token) (d : Rnldef)
-    → Sets IsFree set no_operands xs
-    (record { which = Some d.which; rnl_type = Some d.rnl_type; q = Some d.q; r = d.r })
+    → Sets IsFree set no_operands xs (record { which = Some d.which; form = Some d.form; q = Some d.q; r = d.r })
     → last_closes (t ∷ flat_map operand xs) ≡ true
 given_close [] t d h = absurd (let z : Some d.which ≡ None = ap (λ (o : Operands). o.which) h in cc)
 given_close (WithRnl which ∷ xs) t d h = close_all xs Close refl
-given_close (WithType rnl_type ∷ xs) t d h = close_all xs Close refl
+given_close (WithType form ∷ xs) t d h = close_all xs Close refl
 given_close (WithQname u q ∷ xs) t d h = close_all xs Close refl
 given_close (WithRname u r ∷ xs) t d h = close_all xs Close refl
 

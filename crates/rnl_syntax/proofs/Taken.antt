@@ -4,8 +4,8 @@ use Rattle.std.specs.Prelude.{codes, ◌&&◌, is_none}
 use Rattle.std.specs.Str.{bytes_eq}
 use Rattle.grs_base.specs.declared.rnl.Which.{Which}
 use Rattle.grs_base.specs.declared.rnl.Which.TheVariants.{Incl, Excl, Con}
-use Rattle.grs_base.specs.declared.rnl.RnlType.{RnlType}
-use Rattle.grs_base.specs.declared.rnl.RnlType.TheVariants.{Specific, Generic, Pattern}
+use Rattle.grs_base.specs.declared.rnl.Form.{Form}
+use Rattle.grs_base.specs.declared.rnl.Form.TheVariants.{Specific, Generic, Pattern}
 use Rattle.grs_base.specs.NameLists.{is_specific}
 use Rattle.deck_scan.specs.declared.token.Token.{Token}
 use Rattle.deck_scan.specs.declared.token.Token.TheVariants.{Word, Open, Close}
@@ -14,11 +14,9 @@ use Rattle.deck_scan.proofs.Taking.{bind_some, some_is, same_bytes, IsWordOf, ro
 use Rattle.deck_scan.proofs.Taking.{any_word_taken, name_taken, TookOne, all_taken}
 use Rattle.rnl_syntax.specs.declared.operands.Operands.{Operands}
 use Rattle.rnl_syntax.specs.declared.operands.Rnldef.{Rnldef}
-use Rattle.rnl_syntax.specs.Operands.{no_operands, which_of, rnl_type_of, with_which, with_rnl_type, with_q, with_r}
-use Rattle.rnl_syntax.specs.Operands.{value_of}
+use Rattle.rnl_syntax.specs.Operands.{no_operands, which_of, form_of, with_which, with_form, with_q, with_r, value_of}
 use Rattle.rnl_syntax.specs.Operands.{operand_at, whole, rnldef_at}
-use Rattle.rnl_syntax.specs.Spelled.{which_word, rnl_type_word, Operand, WithRnl, WithType, WithQname, WithRname}
-use Rattle.rnl_syntax.specs.Spelled.{enclosed}
+use Rattle.rnl_syntax.specs.Spelled.{which_word, form_word, Operand, WithRnl, WithType, WithQname, WithRname, enclosed}
 use Rattle.rnl_syntax.specs.Spelled.{operand, IsFree, set, IsRnldef}
 
 -- ---- words
@@ -28,11 +26,11 @@ unfolding which_of
 which_taken w x e =
     subst (IsWordOf which_word w) e (row which_word w Incl _ (row which_word w Excl _ (row which_word w Con None tt)))
 
-rnl_type_taken : (w : List ℕ) (x : RnlType) → rnl_type_of w ≡ Some x → w ≡ rnl_type_word x
-unfolding rnl_type_of
-rnl_type_taken w x e =
-    subst (IsWordOf rnl_type_word w) e
-    (row rnl_type_word w Specific _ (row rnl_type_word w Generic _ (row rnl_type_word w Pattern None tt)))
+form_taken : (w : List ℕ) (x : Form) → form_of w ≡ Some x → w ≡ form_word x
+unfolding form_of
+form_taken w x e =
+    subst (IsWordOf form_word w) e
+    (row form_word w Specific _ (row form_word w Generic _ (row form_word w Pattern None tt)))
 
 enclosed_is : (word v w : List ℕ) (x : List ℕ) → w ≡ word → v ≡ x → enclosed w (Word v) ≡ enclosed word (Word x)
 enclosed_is word v w x h k = rw (h, k) refl
@@ -69,16 +67,16 @@ which_value o w ts x is e =
     } in
     subst (λ (z : Operands × List Token). Valued o w ts z.0 z.1) (some_is (p.0, v.0.1) x p.2) made
 
-rnl_type_value : (o : Operands) (w : List ℕ) (ts : List Token) (x : Operands × List Token) → w ≡ codes "TYPE"
-    → (any_word_at ts >>= λ v. rnl_type_of v.0 >>= λ y. with_rnl_type o y >>= λ p. Some (p, v.1)) ≡ Some x
+form_value : (o : Operands) (w : List ℕ) (ts : List Token) (x : Operands × List Token) → w ≡ codes "TYPE"
+    → (any_word_at ts >>= λ v. form_of v.0 >>= λ y. with_form o y >>= λ p. Some (p, v.1)) ≡ Some x
     → Valued o w ts x.0 x.1
-rnl_type_value o w ts x is e =
-    let v = bind_some (any_word_at ts) (λ v. rnl_type_of v.0 >>= λ y. with_rnl_type o y >>= λ p. Some (p, v.1)) x e in
-    let y = bind_some (rnl_type_of v.0.0) (λ y. with_rnl_type o y >>= λ p. Some (p, v.0.1)) x v.2 in
-    let p = bind_some (with_rnl_type o y.0) (λ p. Some (p, v.0.1)) x y.2 in
-    let k = once_some o.rnl_type (record o { rnl_type = Some y.0 }) p.0 p.1 in
+form_value o w ts x is e =
+    let v = bind_some (any_word_at ts) (λ v. form_of v.0 >>= λ y. with_form o y >>= λ p. Some (p, v.1)) x e in
+    let y = bind_some (form_of v.0.0) (λ y. with_form o y >>= λ p. Some (p, v.0.1)) x v.2 in
+    let p = bind_some (with_form o y.0) (λ p. Some (p, v.0.1)) x y.2 in
+    let k = once_some o.form (record o { form = Some y.0 }) p.0 p.1 in
     let word : enclosed w (Word v.0.0) ≡ operand (WithType y.0) =
-    enclosed_is (codes "TYPE") v.0.0 w (rnl_type_word y.0) is (rnl_type_taken v.0.0 y.0 y.1) in
+    enclosed_is (codes "TYPE") v.0.0 w (form_word y.0) is (form_taken v.0.0 y.0 y.1) in
     let made :
     Valued o w ts p.0 v.0.1 = record {
       given = WithType y.0;
@@ -136,13 +134,13 @@ value_taken o w ts x e =
     which : (a b c d : Bool) → bytes_eq w (codes "RNL") ≡ a → bytes_eq w (codes "TYPE") ≡ b
         → bytes_eq w (codes "QNAME") ≡ c → bytes_eq w (codes "RNAME") ≡ d
         → cond a (any_word_at ts >>= λ v. which_of v.0 >>= λ y. with_which o y >>= λ p. Some (p, v.1))
-        (cond b (any_word_at ts >>= λ v. rnl_type_of v.0 >>= λ y. with_rnl_type o y >>= λ p. Some (p, v.1))
+        (cond b (any_word_at ts >>= λ v. form_of v.0 >>= λ y. with_form o y >>= λ p. Some (p, v.1))
         (cond c (name_at ts >>= λ v. with_q o v.0 >>= λ p. Some (p, v.1))
         (cond d (name_at ts >>= λ v. with_r o v.0 >>= λ p. Some (p, v.1)) None)))
         ≡ Some x
         → Valued o w ts x.0 x.1
     which true b c d p q r s h = which_value o w ts x (same_bytes w _ p) h
-    which false true c d p q r s h = rnl_type_value o w ts x (same_bytes w _ q) h
+    which false true c d p q r s h = form_value o w ts x (same_bytes w _ q) h
     which false false true d p q r s h = first_value o w ts x (same_bytes w _ r) h
     which false false false true p q r s h = second_value o w ts x (same_bytes w _ s) h
     which false false false false p q r s h = absurd cc
@@ -176,45 +174,40 @@ operand_taken o ts x e =
 
 -- the operands that must stand do
 pub record Whole (o : Operands) (d : Rnldef) : Type 0 where
-  pub all : o ≡ record { which = Some d.which; rnl_type = Some d.rnl_type; q = Some d.q; r = d.r }
-  pub needed : (is_specific d.rnl_type && is_none d.r) ≡ false
+  pub all : o ≡ record { which = Some d.which; form = Some d.form; q = Some d.q; r = d.r }
+  pub needed : (is_specific d.form && is_none d.r) ≡ false
 
 unless_some : {A : Type 0} (b : Bool) (x y : A) → cond b None (Some x) ≡ Some y → (b ≡ false) × (x ≡ y)
 unless_some true x y e = absurd cc
 unless_some false x y e = (refl, cc)
 
-all_three : (o : Operands) (which : Which) (rnl_type : RnlType) (q : List ℕ) → o.which ≡ Some which
-    → o.rnl_type ≡ Some rnl_type
-    → o.q ≡ Some q → o ≡ record { which = Some which; rnl_type = Some rnl_type; q = Some q; r = o.r }
-all_three o which rnl_type q a b c = rw⁻¹ (a, b, c) refl
+all_three : (o : Operands) (which : Which) (form : Form) (q : List ℕ) → o.which ≡ Some which → o.form ≡ Some form
+    → o.q ≡ Some q → o ≡ record { which = Some which; form = Some form; q = Some q; r = o.r }
+all_three o which form q a b c = rw⁻¹ (a, b, c) refl
 
 whole_taken : (o : Operands) (d : Rnldef) → whole o ≡ Some d → Whole o d
 unfolding whole
 whole_taken o d e =
     let which =
     bind_some o.which (λ which.
-    o.rnl_type
-    >>= λ rnl_type.
+    o.form
+    >>= λ form.
     o.q
-    >>= λ q.
-    cond (is_specific rnl_type && is_none o.r) None
-    (Some (record { which = which; rnl_type = rnl_type; q = q; r = o.r })))
+    >>= λ q. cond (is_specific form && is_none o.r) None (Some (record { which = which; form = form; q = q; r = o.r })))
     d e in
-    let rnl_type =
-    bind_some o.rnl_type (λ rnl_type.
+    let form =
+    bind_some o.form (λ form.
     o.q
     >>= λ q.
-    cond (is_specific rnl_type && is_none o.r) None
-    (Some (record { which = which.0; rnl_type = rnl_type; q = q; r = o.r })))
+    cond (is_specific form && is_none o.r) None (Some (record { which = which.0; form = form; q = q; r = o.r })))
     d which.2 in
     let q =
     bind_some o.q (λ q.
-    cond (is_specific rnl_type.0 && is_none o.r) None
-    (Some (record { which = which.0; rnl_type = rnl_type.0; q = q; r = o.r })))
-    d rnl_type.2 in
-    let made : Rnldef = record { which = which.0; rnl_type = rnl_type.0; q = q.0; r = o.r } in
-    let u = unless_some (is_specific rnl_type.0 && is_none o.r) made d q.2 in
-    subst (Whole o) u.1 (record { all = all_three o which.0 rnl_type.0 q.0 which.1 rnl_type.1 q.1; needed = u.0 })
+    cond (is_specific form.0 && is_none o.r) None (Some (record { which = which.0; form = form.0; q = q; r = o.r })))
+    d form.2 in
+    let made : Rnldef = record { which = which.0; form = form.0; q = q.0; r = o.r } in
+    let u = unless_some (is_specific form.0 && is_none o.r) made d q.2 in
+    subst (Whole o) u.1 (record { all = all_three o which.0 form.0 q.0 which.1 form.1 q.1; needed = u.0 })
 
 pub rnldef_taken : (ts : List Token) (d : Rnldef) → rnldef_at ts ≡ Some d → IsRnldef ts d
 unfolding rnldef_at

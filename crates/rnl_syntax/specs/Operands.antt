@@ -4,8 +4,8 @@ use Rattle.std.specs.Str.{bytes_eq}
 use Rattle.grs_base.specs.Names.{trim_blanks, is_qname}
 use Rattle.grs_base.specs.declared.rnl.Which.{Which}
 use Rattle.grs_base.specs.declared.rnl.Which.TheVariants.{Incl, Excl, Con}
-use Rattle.grs_base.specs.declared.rnl.RnlType.{RnlType}
-use Rattle.grs_base.specs.declared.rnl.RnlType.TheVariants.{Specific, Generic, Pattern}
+use Rattle.grs_base.specs.declared.rnl.Form.{Form}
+use Rattle.grs_base.specs.declared.rnl.Form.TheVariants.{Specific, Generic, Pattern}
 use Rattle.grs_base.specs.declared.rnl.RnlEntry.{RnlEntry}
 use Rattle.grs_base.specs.NameLists.{is_specific}
 use Rattle.deck_scan.specs.declared.token.Token.{Token}
@@ -15,7 +15,7 @@ use Rattle.rnl_syntax.specs.declared.operands.Operands.{Operands}
 use Rattle.rnl_syntax.specs.declared.operands.Rnldef.{Rnldef}
 
 abbrev pub no_operands : Operands
-no_operands = record { which = None; rnl_type = None; q = None; r = None }
+no_operands = record { which = None; form = None; q = None; r = None }
 
 unfoldable pub which_of : List ℕ → Option Which
 which_of w =
@@ -24,8 +24,8 @@ which_of w =
     else if bytes_eq w (codes "CON") then Some Con
     else None
 
-unfoldable pub rnl_type_of : List ℕ → Option RnlType
-rnl_type_of w =
+unfoldable pub form_of : List ℕ → Option Form
+form_of w =
     if bytes_eq w (codes "SPECIFIC") then Some Specific
     else if bytes_eq w (codes "GENERIC") then Some Generic
     else if bytes_eq w (codes "PATTERN") then Some Pattern
@@ -36,8 +36,8 @@ abbrev pub with_which : Operands → Which → Option Operands
 with_which o which = once o.which (record o { which = Some which })
 
 -- TYPE stands once.
-abbrev pub with_rnl_type : Operands → RnlType → Option Operands
-with_rnl_type o rnl_type = once o.rnl_type (record o { rnl_type = Some rnl_type })
+abbrev pub with_form : Operands → Form → Option Operands
+with_form o form = once o.form (record o { form = Some form })
 
 -- QNAME stands once.
 abbrev pub with_q : Operands → List ℕ → Option Operands
@@ -53,7 +53,7 @@ value_of o w ts =
     if bytes_eq w (codes "RNL")
     then (any_word_at ts >>= λ v. which_of v.0 >>= λ x. with_which o x >>= λ p. Some (p, v.1))
     else if bytes_eq w (codes "TYPE")
-    then (any_word_at ts >>= λ v. rnl_type_of v.0 >>= λ x. with_rnl_type o x >>= λ p. Some (p, v.1))
+    then (any_word_at ts >>= λ v. form_of v.0 >>= λ x. with_form o x >>= λ p. Some (p, v.1))
     else if bytes_eq w (codes "QNAME") then (name_at ts >>= λ v. with_q o v.0 >>= λ p. Some (p, v.1))
     else if bytes_eq w (codes "RNAME") then (name_at ts >>= λ v. with_r o v.0 >>= λ p. Some (p, v.1))
     else None
@@ -71,11 +71,9 @@ operand_at o ts = do
 unfoldable pub whole : Operands → Option Rnldef
 whole o = do
   which ← o.which
-  rnl_type ← o.rnl_type
+  form ← o.form
   q ← o.q
-  if is_specific rnl_type && is_none o.r
-      then None
-      else Some (record { which = which; rnl_type = rnl_type; q = q; r = o.r })
+  if is_specific form && is_none o.r then None else Some (record { which = which; form = form; q = q; r = o.r })
 
 -- What stands behind the word RNLDEF.
 unfoldable pub rnldef_at : List Token → Option Rnldef
@@ -87,4 +85,4 @@ has_bad_name d = not (is_qname d.q) || is_bad_rname d.r
 
 -- The entry that a statement makes; a qname loses its trailing blanks.
 abbrev pub entry_of : Rnldef → RnlEntry
-entry_of d = record { which = d.which; rnl_type = d.rnl_type; q = trim_blanks d.q; r = d.r }
+entry_of d = record { which = d.which; form = d.form; q = trim_blanks d.q; r = d.r }

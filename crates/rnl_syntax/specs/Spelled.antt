@@ -3,8 +3,8 @@ use Rattle.std.specs.Prelude.{◌≡◌, ℕ, false, ◌&&◌, List, [], ◌∷�
 use Rattle.std.specs.List.{flat_map}
 use Rattle.grs_base.specs.declared.rnl.Which.{Which}
 use Rattle.grs_base.specs.declared.rnl.Which.TheVariants.{Incl, Excl, Con}
-use Rattle.grs_base.specs.declared.rnl.RnlType.{RnlType}
-use Rattle.grs_base.specs.declared.rnl.RnlType.TheVariants.{Specific, Generic, Pattern}
+use Rattle.grs_base.specs.declared.rnl.Form.{Form}
+use Rattle.grs_base.specs.declared.rnl.Form.TheVariants.{Specific, Generic, Pattern}
 use Rattle.grs_base.specs.NameLists.{is_specific}
 use Rattle.deck_scan.specs.declared.token.Token.{Token}
 use Rattle.deck_scan.specs.declared.token.Token.TheVariants.{Word, Open, Close}
@@ -19,15 +19,15 @@ which_word Incl = codes "INCL"
 which_word Excl = codes "EXCL"
 which_word Con = codes "CON"
 
-abbrev pub rnl_type_word : RnlType → List ℕ
-rnl_type_word Specific = codes "SPECIFIC"
-rnl_type_word Generic = codes "GENERIC"
-rnl_type_word Pattern = codes "PATTERN"
+abbrev pub form_word : Form → List ℕ
+form_word Specific = codes "SPECIFIC"
+form_word Generic = codes "GENERIC"
+form_word Pattern = codes "PATTERN"
 
 -- An operand: RNL; TYPE; QNAME and RNAME with the tokens and the bytes that these name.
 pub data Operand : Type 0 where
   WithRnl : Which → Operand
-  WithType : RnlType → Operand
+  WithType : Form → Operand
   WithQname : Token → List ℕ → Operand
   WithRname : Token → List ℕ → Operand
 
@@ -36,20 +36,20 @@ enclosed word value = Word word ∷ Open ∷ value ∷ Close ∷ []
 
 abbrev pub operand : Operand → List Token
 operand (WithRnl which) = enclosed (codes "RNL") (Word (which_word which))
-operand (WithType rnl_type) = enclosed (codes "TYPE") (Word (rnl_type_word rnl_type))
+operand (WithType form) = enclosed (codes "TYPE") (Word (form_word form))
 operand (WithQname t q) = enclosed (codes "QNAME") t
 operand (WithRname t r) = enclosed (codes "RNAME") t
 
 -- None of its kind stands yet, and its token names its bytes.
 abbrev pub IsFree : Operand → Operands → Type 0
 IsFree (WithRnl which) o = o.which ≡ None
-IsFree (WithType rnl_type) o = o.rnl_type ≡ None
+IsFree (WithType form) o = o.form ≡ None
 IsFree (WithQname t q) o = (o.q ≡ None) × Names t q
 IsFree (WithRname t r) o = (o.r ≡ None) × Names t r
 
 abbrev pub set : Operand → Operands → Operands
 set (WithRnl which) o = record o { which = Some which }
-set (WithType rnl_type) o = record o { rnl_type = Some rnl_type }
+set (WithType form) o = record o { form = Some form }
 set (WithQname t q) o = record o { q = Some q }
 set (WithRname t r) o = record o { r = Some r }
 
@@ -59,9 +59,8 @@ pub record IsRnldef (ts : List Token) (d : Rnldef) : Type 0 where
   pub given : List Operand
   pub spelled : ts ≡ flat_map operand given
   pub operands :
-      Sets IsFree set no_operands given
-      (record { which = Some d.which; rnl_type = Some d.rnl_type; q = Some d.q; r = d.r })
-  pub needed : (is_specific d.rnl_type && is_none d.r) ≡ false
+      Sets IsFree set no_operands given (record { which = Some d.which; form = Some d.form; q = Some d.q; r = d.r })
+  pub needed : (is_specific d.form && is_none d.r) ≡ false
 
 -- What is answered of the tokens behind the word RNLDEF: what they spell, or that they spell nothing.
 abbrev pub Answers : Result Rnldef Miss → List Token → Type 0

@@ -3,20 +3,20 @@ ghost use Rattle.std.specs.Prelude.{◌≡◌, true, false, IfOk};
 ghost use Rattle.grs_base.specs.NameLists.{is_specific};
 ghost use Rattle.deck_scan.specs.Next.{Reads, maybe};
 ghost use Rattle.rnl_syntax.specs.Spelled.{Answers};
-ghost use Rattle.rnl_syntax.specs.Operands.{which_of, rnl_type_of, with_which, with_rnl_type, with_q, with_r, value_of, operand_at, whole, rnldef_at, has_bad_name, entry_of};
+ghost use Rattle.rnl_syntax.specs.Operands.{which_of, form_of, with_which, with_form, with_q, with_r, value_of, operand_at, whole, rnldef_at, has_bad_name, entry_of};
 
 use deck_scan::{
     GivenName, Miss, Token, any_word_at, close_at, end_at, is_bad_rname, maybe_rname, name_at,
     open_at, qname_of,
 };
-use grs_base::{NoMemory, RnlEntry, RnlType, Which, is_qname};
+use grs_base::{Form, NoMemory, RnlEntry, Which, is_qname};
 use std::alloc::Global;
 
 /// The operands that stand in an RNLDEF: RNL, TYPE, QNAME and RNAME, with names of any length.
 #[derive(Drop)]
 pub struct Operands<'t> {
     pub which: Option<Which>,
-    pub rnl_type: Option<RnlType>,
+    pub form: Option<Form>,
     pub q: Option<GivenName<'t>>,
     pub r: Option<GivenName<'t>>,
 }
@@ -25,7 +25,7 @@ pub struct Operands<'t> {
 #[derive(Drop)]
 pub struct Rnldef<'t> {
     pub which: Which,
-    pub rnl_type: RnlType,
+    pub form: Form,
     pub q: GivenName<'t>,
     pub r: Option<GivenName<'t>>,
 }
@@ -45,16 +45,16 @@ fn which_of(w: &[u8]) -> Result<Which, Miss>
     }
 }
 
-#[tactic(auto, unfolding(crate::specs::Operands::rnl_type_of))]
-fn rnl_type_of(w: &[u8]) -> Result<RnlType, Miss>
-    ensures { Reads (λ x. x) result (rnl_type_of w.now) }
+#[tactic(auto, unfolding(crate::specs::Operands::form_of))]
+fn form_of(w: &[u8]) -> Result<Form, Miss>
+    ensures { Reads (λ x. x) result (form_of w.now) }
 {
     if w == b"SPECIFIC".as_slice() {
-        Ok(RnlType::Specific)
+        Ok(Form::Specific)
     } else if w == b"GENERIC".as_slice() {
-        Ok(RnlType::Generic)
+        Ok(Form::Generic)
     } else if w == b"PATTERN".as_slice() {
-        Ok(RnlType::Pattern)
+        Ok(Form::Pattern)
     } else {
         Err(Miss)
     }
@@ -67,21 +67,21 @@ fn with_which<'a>(o: Operands<'a>, which: Which) -> Result<Operands<'a>, Miss>
         Some(_) => Err(Miss),
         None => Ok(Operands {
             which: Some(which),
-            rnl_type: o.rnl_type,
+            form: o.form,
             q: o.q,
             r: o.r,
         }),
     }
 }
 
-fn with_rnl_type<'a>(o: Operands<'a>, rnl_type: RnlType) -> Result<Operands<'a>, Miss>
-    ensures { Reads (λ x. x) result (with_rnl_type o.entry rnl_type) }
+fn with_form<'a>(o: Operands<'a>, form: Form) -> Result<Operands<'a>, Miss>
+    ensures { Reads (λ x. x) result (with_form o.entry form) }
 {
-    match o.rnl_type {
+    match o.form {
         Some(_) => Err(Miss),
         None => Ok(Operands {
             which: o.which,
-            rnl_type: Some(rnl_type),
+            form: Some(form),
             q: o.q,
             r: o.r,
         }),
@@ -95,7 +95,7 @@ fn with_q<'a>(o: Operands<'a>, q: GivenName<'a>) -> Result<Operands<'a>, Miss>
         Some(_) => Err(Miss),
         None => Ok(Operands {
             which: o.which,
-            rnl_type: o.rnl_type,
+            form: o.form,
             q: Some(q),
             r: o.r,
         }),
@@ -109,7 +109,7 @@ fn with_r<'a>(o: Operands<'a>, r: GivenName<'a>) -> Result<Operands<'a>, Miss>
         Some(_) => Err(Miss),
         None => Ok(Operands {
             which: o.which,
-            rnl_type: o.rnl_type,
+            form: o.form,
             q: o.q,
             r: Some(r),
         }),
@@ -131,8 +131,8 @@ fn value_of<'a, 't>(
         Ok((with_which(o, which)?, ts))
     } else if w == b"TYPE".as_slice() {
         let (v, ts) = any_word_at(ts)?;
-        let rnl_type = rnl_type_of(v)?;
-        Ok((with_rnl_type(o, rnl_type)?, ts))
+        let form = form_of(v)?;
+        Ok((with_form(o, form)?, ts))
     } else if w == b"QNAME".as_slice() {
         let (q, ts) = name_at(ts)?;
         Ok((with_q(o, q)?, ts))
@@ -171,13 +171,13 @@ fn maybe_operand<'a, 't>(
     operand_at(o, ts)
 }
 
-fn is_specific(rnl_type: RnlType) -> bool
-    ensures { result ≡ is_specific rnl_type }
+fn is_specific(form: Form) -> bool
+    ensures { result ≡ is_specific form }
 {
-    match rnl_type {
-        RnlType::Specific => true,
-        RnlType::Generic => false,
-        RnlType::Pattern => false,
+    match form {
+        Form::Specific => true,
+        Form::Generic => false,
+        Form::Pattern => false,
     }
 }
 
@@ -187,14 +187,14 @@ fn whole<'a>(o: Operands<'a>) -> Result<Rnldef<'a>, Miss>
     ensures { Reads (λ x. x) result (whole o.entry) }
 {
     let which = o.which.ok_or(Miss)?;
-    let rnl_type = o.rnl_type.ok_or(Miss)?;
+    let form = o.form.ok_or(Miss)?;
     let q = o.q.ok_or(Miss)?;
-    if is_specific(rnl_type) && o.r.is_none() {
+    if is_specific(form) && o.r.is_none() {
         return Err(Miss);
     }
     Ok(Rnldef {
         which,
-        rnl_type,
+        form,
         q,
         r: o.r,
     })
@@ -207,7 +207,7 @@ fn operands_at<'a, 't>(ts: &'a [Token<'t>]) -> Result<Rnldef<'a>, Miss>
 {
     let none = Operands {
         which: None,
-        rnl_type: None,
+        form: None,
         q: None,
         r: None,
     };
@@ -244,7 +244,7 @@ pub fn entry_of(alloc: Global, d: &Rnldef<'_>) -> Result<RnlEntry, NoMemory>
     let r = maybe_rname(alloc, &d.r)?;
     Ok(RnlEntry {
         which: d.which,
-        rnl_type: d.rnl_type,
+        form: d.form,
         q,
         r,
     })

@@ -1,9 +1,9 @@
 //! Prints an entry of a name list as an RNLDEF.
 ghost use Rattle.std.specs.Prelude.{◌≡◌, ◌++◌, OnOk, OnErr, IfOk};
-ghost use Rattle.rnl_syntax.specs.Spelled.{which_word, rnl_type_word};
+ghost use Rattle.rnl_syntax.specs.Spelled.{which_word, form_word};
 ghost use Rattle.rnl_syntax.specs.Printed.{printed_rname, printed_rnldef};
 
-use grs_base::{List, NoMemory, Rname, RnlEntry, RnlType, Which, print_name};
+use grs_base::{Form, List, NoMemory, Rname, RnlEntry, Which, print_name};
 use std::alloc::Global;
 
 fn which_word(which: Which) -> &'static [u8]
@@ -16,13 +16,13 @@ fn which_word(which: Which) -> &'static [u8]
     }
 }
 
-fn rnl_type_word(rnl_type: RnlType) -> &'static [u8]
-    ensures { result.now ≡ rnl_type_word rnl_type }
+fn form_word(form: Form) -> &'static [u8]
+    ensures { result.now ≡ form_word form }
 {
-    match rnl_type {
-        RnlType::Specific => b"SPECIFIC",
-        RnlType::Generic => b"GENERIC",
-        RnlType::Pattern => b"PATTERN",
+    match form {
+        Form::Specific => b"SPECIFIC",
+        Form::Generic => b"GENERIC",
+        Form::Pattern => b"PATTERN",
     }
 }
 
@@ -46,7 +46,7 @@ fn rnldef_text(alloc: Global, entry: &RnlEntry) -> Result<List<u8>, NoMemory>
     let mut text = List::from_bytes(alloc, b"RNLDEF RNL(")?;
     text.append(which_word(entry.which))?;
     text.append(b") TYPE(")?;
-    text.append(rnl_type_word(entry.rnl_type))?;
+    text.append(form_word(entry.form))?;
     text.append(b") QNAME(")?;
     print_name(alloc, entry.q.bytes(), &mut text)?;
     text.append(b")")?;

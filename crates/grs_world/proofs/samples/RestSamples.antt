@@ -24,7 +24,7 @@ use Rattle.grs_world.specs.AtRest.{DisplaysAreTold, first_uncoded, goes_on_with,
 use Rattle.grs_base.specs.Rnl.{no_entries}
 use Rattle.grs_base.specs.declared.look.Filter.TheVariants.{Named}
 use Rattle.grs_base.specs.declared.line.Scope.TheVariants.{System}
-use Rattle.grs_base.specs.declared.rnl.RnlType.TheVariants.{Specific}
+use Rattle.grs_base.specs.declared.rnl.Form.TheVariants.{Specific}
 use Rattle.grs_base.specs.declared.rnl.RnlEntry.{RnlEntry}
 use Rattle.grs_wire.specs.declared.history.HistEntry.TheVariants.{Enq}
 use Rattle.grs_wire.specs.declared.seen.TaskEnd.TheVariants.{Waits}
@@ -44,7 +44,7 @@ abbrev volume : ℕ → Res
 volume r = kinds.System (system 0) (86 ∷ []) (r ∷ [])
 
 abbrev excluded : ℕ → RnlEntry
-excluded r = record { which = which.Excl; rnl_type = Specific; q = 86 ∷ []; r = Some (r ∷ []) }
+excluded r = record { which = which.Excl; form = Specific; q = 86 ∷ []; r = Some (r ∷ []) }
 
 abbrev crossed : Deck
 crossed =

@@ -19,7 +19,7 @@ use Rattle.grs_base.specs.declared.resource.Ret.TheVariants.{RetUse, RetHave}
 use Rattle.grs_base.specs.declared.line.Scope.TheVariants.{System}
 use Rattle.grs_base.specs.declared.line.Scope.{Scope}
 use Rattle.grs_base.specs.declared.rnl.Which.{Which}
-use Rattle.grs_base.specs.declared.rnl.RnlType.TheVariants.{Specific}
+use Rattle.grs_base.specs.declared.rnl.Form.TheVariants.{Specific}
 use Rattle.grs_base.specs.declared.rnl.RnlEntry.{RnlEntry}
 use Rattle.grs_base.specs.Rnl.{no_entries}
 use Rattle.grs_wire.specs.declared.history.HistEntry.TheVariants.{Enq, Deq, Release}
@@ -157,7 +157,7 @@ reserve r unit = lines.Reserve (86 ∷ []) (r ∷ []) E unit RetNone true
 
 -- an entry of a name list for (V, r)
 abbrev specific : Which → ℕ → RnlEntry
-specific w r = record { which = w; rnl_type = Specific; q = 86 ∷ []; r = Some (r ∷ []) }
+specific w r = record { which = w; form = Specific; q = 86 ∷ []; r = Some (r ∷ []) }
 
 -- a task that reserves three volumes, of which the first is excluded and the second converted
 abbrev volumes : Deck
