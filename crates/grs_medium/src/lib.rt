@@ -6,6 +6,7 @@
 mod inboxes;
 pub mod laws;
 mod medium;
+mod notices;
 mod sets;
 pub mod threads;
 

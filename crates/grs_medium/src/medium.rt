@@ -1,5 +1,5 @@
 //! The medium and its calls.
-ghost use Rattle.std.specs.Prelude.{◌≡◌, ◌<◌, ◌≤◌, ◌^◌, ◌&&◌, ℕ, true, false, not, is_none, length, List as ListSpec, None, Some, IfOk, OnOk};
+ghost use Rattle.std.specs.Prelude.{◌≡◌, ◌<◌, ◌≤◌, ◌&&◌, ℕ, true, false, not, is_none, length, List as ListSpec, None, Some, IfOk, OnOk};
 ghost use Rattle.grs_base.specs.Limits.{most_additions, most_systems};
 ghost use Rattle.grs_wire.specs.LockWords.{leave_changes};
 ghost use Rattle.grs_wire.specs.declared.request.Req.{Req as ReqSpec};
@@ -21,10 +21,11 @@ ghost use Rattle.rsa_message.specs.Room.{HasRoom};
 ghost use Rattle.std.specs.Option.{option_map};
 
 use crate::inboxes::Inboxes;
+use crate::notices::moved_by;
 use crate::sets::{all_at_rest, live_of, woken};
 use grs_base::{List, NoMemory, SysId};
 use grs_wire::masks::{has_system, with_system, without_system};
-use grs_wire::{Act, Call, Mail, Moved, Reply, Req, RingEntry};
+use grs_wire::{Act, Call, Mail, Reply, Req, RingEntry};
 use lock_structure::{Route, Words};
 use rsa_message::Rsa;
 use std::alloc::Global;
@@ -88,29 +89,6 @@ fn request_to(route: Route, entry: u32, from: SysId, req: Req) -> Option<(SysId,
         Route::Sole => None,
         Route::To(manager) => Some((manager, Mail::Request { entry, from, req })),
     }
-}
-
-/// What each of so many systems gets to know by the removal of one in star mode, by number.
-#[tactic(auto, using(lock_structure::proofs::Ranges::ranges))]
-fn moved_by(
-    alloc: Global,
-    words: &Words,
-    systems: u32,
-    target: SysId,
-) -> Result<Vec<List<Moved>>, NoMemory>
-    requires target { target.0 < most_systems }
-    requires systems { systems ≤ most_systems }
-    requires entries { length words.now < 2 ^ 32 }
-    ensures { IfOk result (λ lists. lists.items ≡ moved_by words.now systems target) }
-{
-    let mut lists = Vec::new(alloc);
-    for s in 0..systems {
-        let items = words.moved_for(target, SysId(s as u8))?;
-        if lists.push(items).is_err() {
-            return Err(NoMemory);
-        }
-    }
-    Ok(lists)
 }
 
 impl Medium {

@@ -290,7 +290,7 @@ impl<'d> Node<'d> {
     /// Finishes a choice: without a reply what was prepared to be done without a call, else with the reply to
     /// the call that was prepared, and whether the call has an entry in the journal. An event goes into the
     /// log where it made no call, or where its call has such an entry; a call without one leaves all as it was, and
-    /// takes no memory. After NoMemory the system is to be given up.
+    /// is never answered NoMemory. After NoMemory the system is to be given up.
     #[tactic(auto, using(crate::proofs::Finish::leaving))]
     pub fn finish(&mut self, choice: &Choice, reply: Option<(Reply, bool)>) -> Result<(), NoMemory>
         requires { MayFinish self.old choice.now reply }

@@ -1,7 +1,7 @@
 //! Decks made from parts, and runs of their systems beside each other; and how a gate waits.
 use crate::sleeps::{End, Sleeps};
 use crossbeam_utils::atomic::AtomicCell;
-use grs_base::{List, NoMemory};
+use grs_base::{List, MOST_SYSTEMS, NoMemory};
 use grs_io::{MemSink, MemSource};
 use grs_top::run_command;
 use grs_workers::Gate;
@@ -11,7 +11,7 @@ use std::thread;
 use std::thread::Threads;
 
 /// How many systems these decks have at most, and their names.
-pub const MOST: usize = 8;
+pub const MOST: usize = MOST_SYSTEMS;
 
 pub const NAMES: [&[u8]; MOST] = [
     b"SYA", b"SYB", b"SYC", b"SYD", b"SYE", b"SYF", b"SYG", b"SYH",
