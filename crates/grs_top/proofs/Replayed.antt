@@ -1,7 +1,8 @@
 -- What `run` did, `replay` does again by the schedule that was printed.
-use Rattle.std.proofs.Common.{◌≡◌, ℕ, List, [], ◌∷◌, ◌++◌, length, ap, sym, ◌∙◌, append_assoc, append-nil}
+use Rattle.std.proofs.Common.{◌≡◌, ◌≤◌, ℕ, List, [], ◌∷◌, ◌++◌, length, ap, sym, ◌∙◌, append_assoc, append-nil}
 use Rattle.std.specs.Prelude.{All, codes}
 use Rattle.std.specs.Fmt.{decimal}
+use Rattle.deck_scan.specs.Reading.{most_text_bytes}
 use Rattle.grs_wire.specs.Decks.{IsDeck, IsEventOf}
 use Rattle.grs_wire.specs.declared.deck.Deck.{Deck}
 use Rattle.grs_wire.specs.declared.deck.Event.{Event}
@@ -16,8 +17,10 @@ use Rattle.grs_report.specs.Report.{head_line, end_line, report}
 use Rattle.grs_report.specs.Schedule.{schedule_text}
 use Rattle.grs_report.specs.State.{queues_text, units_text, words_text, mode_line}
 use Rattle.grs_report.specs.Told.{told_text}
+use Rattle.grs_top.specs.declared.words.Command.TheVariants.{Replay}
+use Rattle.grs_top.specs.Due.{IsAnswered}
 use Rattle.grs_top.specs.Replayed.{HasSchedule, RunsAreReplayed}
-use Rattle.grs_top.specs.Schedules.{DoersAreOfDeck, SchedulesReadBack, printed, unscheduled}
+use Rattle.grs_top.specs.Schedules.{IsFront, DoersAreOfDeck, SchedulesReadBack, printed, unscheduled}
 use Rattle.grs_top.specs.Seen.{report_of, seen_of_run}
 
 -- parts put behind a text, one behind the other
@@ -66,16 +69,18 @@ stands deck es =
 
 pub runs_are_replayed :
     ((text : List ℕ) (d : Deck) → SpellsDeck text d → IsDeck d) → DoersAreOfDeck → SchedulesReadBack → RunsAreReplayed
-runs_are_replayed whole doers back text out front status a at short =
-    let deck : Deck = a.input in
-    let bare : IsDeck (unscheduled deck) = whole front (unscheduled deck) at.spelled in
-    let own : All (IsEventOf deck.systems deck.entries) a.is_text.events =
-    doers (unscheduled deck) a.is_text.events bare a.is_text.all_do in
-    let shown = stands deck a.is_text.events in (
-      (shown.0, a.is_text.reported.whole ∙ shown.1),
-      record {
-        input = record deck { events = a.is_text.events };
-        spelled = back front deck a.is_text.events at own short;
-        is_text = a.is_text.reported;
-      },
-    )
+runs_are_replayed whole doers back text out status a =
+    let shown = stands a.input a.is_text.events in ((shown.0, a.is_text.reported.whole ∙ shown.1), again)
+  where
+    again : (front : List ℕ) → IsFront front a.input
+        → length (front ++ printed a.input a.is_text.events) ≤ most_text_bytes
+        → IsAnswered Replay (front ++ printed a.input a.is_text.events) out status
+    again front at short =
+        let bare : IsDeck (unscheduled a.input) = whole front (unscheduled a.input) at.spelled in
+        let own : All (IsEventOf a.input.systems a.input.entries) a.is_text.events =
+        doers (unscheduled a.input) a.is_text.events bare a.is_text.all_do in
+        record {
+          input = record a.input { events = a.is_text.events };
+          spelled = back front a.input a.is_text.events at own short;
+          is_text = a.is_text.reported;
+        }

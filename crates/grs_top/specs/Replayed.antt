@@ -22,7 +22,7 @@ HasSchedule deck es text =
 -- where its text isn't too long, `replay` answers by the same bytes and the same status.
 abbrev pub RunsAreReplayed : Type 0
 RunsAreReplayed =
-    (text out front : List ℕ) (status : Status) (a : IsAnswered Run text out status) → IsFront front a.input
-    → length (front ++ printed a.input a.is_text.events) ≤ most_text_bytes
+    (text out : List ℕ) (status : Status) (a : IsAnswered Run text out status)
     → HasSchedule a.input a.is_text.events out
-    × IsAnswered Replay (front ++ printed a.input a.is_text.events) out status
+    × ((front : List ℕ) → IsFront front a.input → length (front ++ printed a.input a.is_text.events) ≤ most_text_bytes
+    → IsAnswered Replay (front ++ printed a.input a.is_text.events) out status)

@@ -45,8 +45,8 @@ pub fn decks_without_removals_are_spared()
 /// the history leads to. In ring mode each live system keeps it: its table has that list once the entries that it hasn't
 /// seen are processed. In star mode the manager of the resource's lock entry does, in its table as long as it hasn't
 /// changed; where there is none, the history has nothing on the resource. What is kept behind the removal of a manager, as
-/// long as the lists of its entries have still to be gathered, `kept` says too; behind more than the first such removal that is
-/// so far shown by worked runs.
+/// long as the lists of its entries have still to be gathered, `kept` says too; that it is the history's list is a law right
+/// behind the event of the first such removal, and so far shown by worked runs behind any other event.
 pub fn kept_are_places()
     ensures { (deck : Deck) → (may_be_star deck ≡ true → FitsStar deck) → (events : List Event) → NoneInStar deck events → KeptArePlaces deck events }
 {}
@@ -59,10 +59,10 @@ pub fn shown_are_places()
     ensures { (deck : Deck) → IsBounded deck → (events : List Event) → NoneInStar deck events → (run deck events).medium.star ≡ true → ShownArePlaces deck events }
 {}
 
-/// Nor does the first removal of a system in star mode take anything else from what is kept than that system's elements, once
-/// all systems have changed: what is kept behind it of each Systems resource is the list that the history leads to. Where the
-/// removed system managed the resource's lock entry, that is what the live systems show together, as long as the next manager
-/// has still to gather it.
+/// Nor does the event of the first removal of a system in star mode take anything else from what is kept than that system's
+/// elements, where all live systems had changed: right behind it what is kept of each Systems resource is the list that the
+/// history leads to, and where the removed system managed the resource's lock entry, that is what the live systems show
+/// together. Of the events behind it nothing is said. The deck needs the bounds of a deck that was read.
 pub fn first_removal_keeps_places()
     ensures { (deck : Deck) → IsBounded deck → (events : List Event) → NoneInStar deck events → (run deck events).medium.message.still ≡ 0 → (next : Event) → KeptArePlacesThen deck events next }
 {}

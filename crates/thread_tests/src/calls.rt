@@ -1,9 +1,9 @@
 //! That workers sleep while there is nothing for them to do. A call that comes to something is a step of its system's log; who asks again
 //! and again whether there is something to do makes many that are none.
 use crate::progress::{Progress, keep, to_begin};
-use crate::runs::{MOST, NAMES, add_system, once, ran};
+use crate::runs::{NAMES, add_system, once, ran};
 use crate::sleeps::End;
-use grs_base::{List, NoMemory, SysId};
+use grs_base::{List, MOST_SYSTEMS, NoMemory, SysId};
 use grs_workers::{Gate, Worker};
 use std::alloc::Global;
 use std::sync::Wait;
@@ -76,7 +76,7 @@ fn one_run<R: Threads + Wait + Sync>(
     busy: usize,
 ) -> Result<(End, bool), NoMemory> {
     let gate = Counted {
-        systems: to_begin(alloc, MOST)?,
+        systems: to_begin(alloc, MOST_SYSTEMS)?,
     };
     let (end, _) = ran(rt, alloc, deck_of(alloc, head, busy)?, &gate)?;
     Ok((end, Outcome::of(&gate.systems).is_right()))
@@ -94,7 +94,7 @@ fn is_right_once<R: Threads + Wait + Sync>(
 
 #[test]
 fn workers_of_a_ring_make_few_calls_beside_their_steps(rt: HostRuntime) -> Result<(), Fail> {
-    assert!(rt; is_right_once(&rt, rt.alloc(), b"", MOST)?);
+    assert!(rt; is_right_once(&rt, rt.alloc(), b"", MOST_SYSTEMS)?);
     Ok(())
 }
 

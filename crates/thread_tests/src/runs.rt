@@ -10,10 +10,8 @@ use std::sync::Wait;
 use std::thread;
 use std::thread::Threads;
 
-/// How many systems these decks have at most, and their names.
-pub const MOST: usize = MOST_SYSTEMS;
-
-pub const NAMES: [&[u8]; MOST] = [
+/// The names of the systems of these decks.
+pub const NAMES: [&[u8]; MOST_SYSTEMS] = [
     b"SYA", b"SYB", b"SYC", b"SYD", b"SYE", b"SYF", b"SYG", b"SYH",
 ];
 

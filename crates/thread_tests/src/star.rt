@@ -3,9 +3,9 @@
 //! Those that go on mail to and fro, since they ask for one resource again and again, and one of them manages it. The others have no
 //! task, or share a resource of another lock entry, so that nobody waits for one that is held.
 use crate::hold::{Hold, Outcome, Part};
-use crate::runs::{MOST, NAMES, STAR, add_system, ran};
+use crate::runs::{NAMES, STAR, add_system, ran};
 use crate::sleeps::RIGHT;
-use grs_base::{List, NoMemory};
+use grs_base::{List, MOST_SYSTEMS, NoMemory};
 use std::alloc::Global;
 use std::sync::Wait;
 use std::test::Fail;
@@ -117,7 +117,7 @@ fn two_of_four_mail_while_the_fourth_is_held_behind_some_calls(
 
 #[test]
 fn the_first_two_of_eight_mail_while_six_are_held(rt: HostRuntime) -> Result<(), Fail> {
-    let mut parts = [Part::Held; MOST];
+    let mut parts = [Part::Held; MOST_SYSTEMS];
     parts[0] = Part::GoesOn;
     parts[1] = Part::GoesOn;
     assert_eq!(rt; outcome_of(&rt, rt.alloc(), &parts, 0, 0)?, right(6));
@@ -126,7 +126,7 @@ fn the_first_two_of_eight_mail_while_six_are_held(rt: HostRuntime) -> Result<(),
 
 #[test]
 fn the_last_two_of_eight_mail_while_six_are_held(rt: HostRuntime) -> Result<(), Fail> {
-    let mut parts = [Part::Held; MOST];
+    let mut parts = [Part::Held; MOST_SYSTEMS];
     parts[6] = Part::GoesOn;
     parts[7] = Part::GoesOn;
     assert_eq!(rt; outcome_of(&rt, rt.alloc(), &parts, 0, 0)?, right(6));
