@@ -12,7 +12,7 @@ ghost use Rattle.contention_mgr.specs.Installs.{installed, places_apart, ranks_o
 ghost use Rattle.lock_structure.specs.RankedRows.{rows_apart, all_apart, ranks_of};
 ghost use Rattle.contention_mgr.specs.Marks.{mark_in, ranked_all, entry_of_parts, is_gone, AreMarked};
 
-use crate::install::{add_lists, add_marks, greatest_of, owners_in};
+use crate::install::{greatest_of, lists_of, marks_of, owners_in};
 use crate::load::{add_rows, greatest_rank};
 use crate::lose::freed_rows;
 use crate::marks::{Mark, Marks};
@@ -243,10 +243,8 @@ impl Entry {
         requires small { list_all (λ n. nat_le n last_number) (ranks_on recs.now) ≡ true }
         ensures { IfOk result (λ entry. entry ≡ installed system.0 recs.now) }
     {
-        let mut table = Table::new(alloc, LinkedQueues::new(alloc));
-        let mut marks = Marks::new(alloc);
-        add_lists(alloc, &mut table, recs)?;
-        add_marks(alloc, &mut marks, system, &table, recs)?;
+        let table = lists_of(alloc, recs)?;
+        let marks = marks_of(alloc, system, &table, recs)?;
         Ok(Entry {
             next: greatest_of(recs) + 1,
             table,

@@ -30,7 +30,7 @@ fn add_elem(alloc: Global, table: &mut Table<LinkedQueues>, rec: &PartRec) -> Re
 }
 
 /// Puts the elements of records into lists in which nothing stands.
-pub(crate) fn add_lists(
+fn add_lists(
     alloc: Global,
     table: &mut Table<LinkedQueues>,
     recs: &[PartRec],
@@ -87,7 +87,7 @@ fn add_mark(
 }
 
 /// Gives the elements of records their marks, where none has any.
-pub(crate) fn add_marks(
+fn add_marks(
     alloc: Global,
     marks: &mut Marks,
     system: SysId,
@@ -103,6 +103,32 @@ pub(crate) fn add_marks(
         add_mark(alloc, marks, system, table, rec)?;
     }
     Ok(())
+}
+
+/// The lists of records.
+pub(crate) fn lists_of(alloc: Global, recs: &[PartRec]) -> Result<Table<LinkedQueues>, NoMemory>
+    requires { places_apart recs.now ≡ true }
+    ensures { IfOk result (λ table. table.elements ≡ lists_of recs.now) }
+{
+    let mut table = Table::new(alloc, LinkedQueues::new(alloc));
+    add_lists(alloc, &mut table, recs)?;
+    Ok(table)
+}
+
+/// The marks of the elements of records, by these lists.
+pub(crate) fn marks_of(
+    alloc: Global,
+    system: SysId,
+    table: &Table<LinkedQueues>,
+    recs: &[PartRec],
+) -> Result<Marks, NoMemory>
+    requires { places_apart recs.now ≡ true }
+    ensures items { IfOk result (λ marks. ranked_all (mark_in marks.names.entries marks.marks.entries) (lists_of recs.now) ≡ map (kept_of system.0 table.now.elements) recs.now) }
+    ensures marked { IfOk result (λ marks. AreMarked (mark_in marks.names.entries marks.marks.entries) (lists_of recs.now)) }
+{
+    let mut marks = Marks::new(alloc);
+    add_marks(alloc, &mut marks, system, table, recs)?;
+    Ok(marks)
 }
 
 /// The greatest rank of records, 0 where there is none.

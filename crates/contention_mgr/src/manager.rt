@@ -39,12 +39,12 @@ impl Model for Manager {
     ghost invariant = { λ a. (length a.slots.items ≡ a.entries) × (a.entries ≢ 0) };
 }
 
-/// So many entries that aren't managed.
-fn empty_slots(alloc: Global, entries: u32) -> Result<Vec<Option<Entry>>, NoMemory>
-    ensures { IfOk result (λ slots. slots.items ≡ replicate entries None) }
+/// So many slots without anything.
+fn empty_slots<T: Drop>(alloc: Global, count: u32) -> Result<Vec<Option<T>>, NoMemory>
+    ensures { IfOk result (λ slots. slots.items ≡ replicate count None) }
 {
     let mut slots = Vec::new(alloc);
-    for _ in 0..entries {
+    for _ in 0..count {
         if slots.push(None).is_err() {
             return Err(NoMemory);
         }
@@ -290,6 +290,14 @@ impl Manager {
         slot(&self.slots, entry).is_some()
     }
 
+    /// This is kept of an entry.
+    fn put(&mut self, entry: u32, kept: Option<Entry>)
+        requires { entry < length self.old.entries }
+        ensures { self.new ≡ with_entry self.old (Some entry) kept }
+    {
+        self.slots[entry as usize] = kept;
+    }
+
     /// Manages an entry that isn't managed, with empty lists. Without memory nothing changes.
     pub fn begin(&mut self, entry: u32) -> Result<(), NoMemory>
         requires below { entry < length self.old.entries }
@@ -297,7 +305,8 @@ impl Manager {
         ensures ok { OnOk result (self.new ≡ with_entry self.old (Some entry) (Some no_elements)) }
         ensures err { OnErr result (self.new ≡ self.old) }
     {
-        self.slots[entry as usize] = Some(Entry::new(self.alloc));
+        let kept = Entry::new(self.alloc);
+        self.put(entry, Some(kept));
         Ok(())
     }
 
@@ -311,7 +320,7 @@ impl Manager {
         ensures err { OnErr result (self.new ≡ self.old) }
     {
         let kept = Entry::load(self.alloc, ranked.as_slice())?;
-        self.slots[entry as usize] = Some(kept);
+        self.put(entry, Some(kept));
         Ok(())
     }
 
@@ -326,7 +335,7 @@ impl Manager {
         ensures err { OnErr result (self.new ≡ self.old) }
     {
         let kept = Entry::install(self.alloc, self.system, recs.as_slice())?;
-        self.slots[entry as usize] = Some(kept);
+        self.put(entry, Some(kept));
         Ok(())
     }
 
@@ -357,7 +366,7 @@ impl Manager {
         requires empty { (length (items_of (managed_at self.old entry)) == 0) ≡ true }
         ensures { self.new ≡ with_entry self.old (Some entry) None }
     {
-        self.slots[entry as usize] = None;
+        self.put(entry, None);
     }
 
     /// What a held request would be answered, and the rank that it would give, 0 where it puts no element into a list.
