@@ -1,7 +1,8 @@
 //! The medium with its journal: what a seat that has the word works on.
-ghost use Rattle.std.specs.Prelude.{◌≡◌, ◌<◌, IfOk, OnErr, vec_len};
-ghost use Rattle.grs_medium.specs.Apply.{MayCall};
-ghost use Rattle.grs_bus.specs.Journal.{is_acted_on, no_length};
+ghost use Rattle.std.specs.Prelude.{◌≡◌, ◌<◌, ◌+◌, ◌++◌, ◌∷◌, [], IfOk, OnOk, OnErr, vec_len, vec_capacity};
+ghost use Rattle.grs_medium.specs.Apply.{MayCall, reply_to, medium_after};
+ghost use Rattle.grs_medium.specs.Room.{HasRoomFor};
+ghost use Rattle.grs_bus.specs.Journal.{entry_of, is_acted_on, no_length};
 ghost use Rattle.grs_bus.specs.Slots.{Answers, IsUnchanged};
 
 use grs_base::{NoMemory, SysId};
@@ -32,9 +33,61 @@ fn is_acted_on(reply: &Reply) -> bool
     )
 }
 
+/// Makes room for an entry, if the journal may have one more.
+fn make_room(journal: &mut Vec<JEntry>) -> Result<(), NoMemory>
+    ensures same { journal.new.items ≡ journal.old.items }
+    ensures count { vec_len journal.new ≡ vec_len journal.old }
+    ensures room { OnOk result ((vec_len journal.new < vec_capacity journal.new) × (vec_len journal.new + 1 < no_length)) }
+{
+    if journal.len() >= MOST_JOURNAL_ENTRIES {
+        return Err(NoMemory);
+    }
+    match journal.reserve(1) {
+        Ok(()) => Ok(()),
+        Err(_) => Err(NoMemory),
+    }
+}
+
 impl Slot {
-    /// Makes the call, and enters it where it is one that is entered: the reply, and whether it was. All memory is
-    /// taken before the medium changes. It keeps whom the call concerned.
+    /// Takes the memory for a call and its entry, and gives the entry's copy of the call.
+    fn prepare(&mut self, caller: SysId, call: &Call) -> Result<Call, NoMemory>
+        requires { MayCall self.old.medium.state caller call.now }
+        ensures copy { IfOk result (λ asked. asked ≡ call.now) }
+        ensures same { IsUnchanged self.old self.new }
+        ensures count { vec_len self.new.journal ≡ vec_len self.old.journal }
+        ensures room { OnOk result (HasRoomFor self.new.medium caller call.now) }
+        ensures place { OnOk result ((vec_len self.new.journal < vec_capacity self.new.journal) × (vec_len self.new.journal + 1 < no_length)) }
+    {
+        make_room(&mut self.journal)?;
+        self.medium.reserve(caller, call)?;
+        call.copy(self.alloc)
+    }
+
+    /// Makes a call that is entered, and enters it. All memory is taken before the medium changes. It keeps whom the
+    /// call concerned, where it changes the medium.
+    fn enter(&mut self, caller: SysId, call: Call, changes: bool) -> Result<(), NoMemory>
+        requires { MayCall self.old.medium.state caller call }
+        ensures journal { OnOk result (self.new.journal.items ≡ self.old.journal.items ++ entry_of caller call (reply_to self.old.medium.state caller call) ∷ []) }
+        ensures medium { OnOk result (self.new.medium.state ≡ medium_after self.old.medium.state caller call) }
+        ensures err { OnErr result (IsUnchanged self.old self.new) }
+        ensures short { vec_len self.old.journal < no_length → vec_len self.new.journal < no_length }
+    {
+        let asked = self.prepare(caller, &call)?;
+        let given = self.medium.apply(caller, call);
+        if changes {
+            self.concerned = self.medium.concerned(caller, &asked.act);
+        }
+        let entry = JEntry {
+            system: caller,
+            call: asked,
+            reply: given,
+        };
+        self.journal.push(entry).unwrap();
+        Ok(())
+    }
+
+    /// Makes the call, and enters it where it is one that is entered: the reply, and whether it was. It keeps whom the
+    /// call concerned.
     #[tactic(auto, unfolding(crate::specs::Journal::is_entered))]
     pub fn answer(&mut self, caller: SysId, call: Call) -> Result<(Reply, bool), NoMemory>
         requires { MayCall self.old.medium.state caller call }
@@ -47,24 +100,7 @@ impl Slot {
         if !(changes || is_acted_on(&reply)) {
             return Ok((reply, false));
         }
-        if self.journal.len() >= MOST_JOURNAL_ENTRIES {
-            return Err(NoMemory);
-        }
-        if self.journal.reserve(1).is_err() {
-            return Err(NoMemory);
-        }
-        let asked = call.copy(self.alloc)?;
-        self.medium.reserve(caller, &call)?;
-        let given = self.medium.apply(caller, call);
-        if changes {
-            self.concerned = self.medium.concerned(caller, &asked.act);
-        }
-        let entry = JEntry {
-            system: caller,
-            call: asked,
-            reply: given,
-        };
-        self.journal.push(entry).unwrap();
+        self.enter(caller, call, changes)?;
         Ok((reply, true))
     }
 }
