@@ -101,21 +101,15 @@ rests-set now rests s r new inside is e =
     ∙ ap (set (map now rests) s.0)
     (e ∙ ap (λ (x : List StepDone). drop (run_count x) x) (sym (rest_at now rests s r inside is)))
 
--- the quiet steps that come first were gone through, and what is left of each log is kept
-pub still-first :
+-- the fronts of the logs were gone through, and the journal is to come
+pub still-begun :
     (elements : State) (m : Merged) (fronts : List Step) (elements₁ : State) (m₁ : Merged)
-    (left rests : List (List StepDone)) (journal : List JEntry) → elements ≡ [] → m.events ≡ [] → m.hist ≡ []
-    → m.told ≡ [] → Leads elements m fronts elements₁ m₁ → rests ≡ left
-    → Still [] (record { events = []; hist = []; told = [] }) (fronts ++ by_journal left journal) elements₁ m₁
-    (by_journal rests journal)
-still-first elements m fronts elements₁ m₁ left rests journal none events hist told leads kept ys =
+    (left rests : List (List StepDone)) (journal : List JEntry) → Leads elements m fronts elements₁ m₁ → rests ≡ left
+    → Still elements m (fronts ++ by_journal left journal) elements₁ m₁ (by_journal rests journal)
+still-begun elements m fronts elements₁ m₁ left rests journal leads kept ys =
     ap (λ (r : List (List StepDone)). shown_with elements₁ m₁ (by_journal r journal ++ ys)) kept
     ∙ leads (by_journal left journal ++ ys)
-    ∙ (λ i.
-    shown_with (none i) (record { events = events i; hist = hist i; told = told i })
-    (fronts ++ (by_journal left journal ++ ys)))
-    ∙ ap (shown_with [] (record { events = []; hist = []; told = [] }))
-    (sym (append_assoc fronts (by_journal left journal) ys))
+    ∙ ap (shown_with elements m) (sym (append_assoc fronts (by_journal left journal) ys))
 
 -- an entry of the journal more
 pub still-entry :
@@ -140,12 +134,18 @@ still-entry elements m all elements₁ m₁ rests journal i e elements₂ m₂ r
     (subst (Still elements m all elements₁ m₁) at still) leads)
 
 -- no entry is left
-pub still-last :
-    (elements : State) (m : Merged) (xs : List Step) (rests : List (List StepDone)) (journal : List JEntry) (i : ℕ)
-    → length journal ≤ i
-    → Still [] (record { events = []; hist = []; told = [] }) xs elements m (by_journal rests (drop i journal))
-    → m ≡ shown xs
-still-last elements m xs rests journal i past still =
-    still-end elements m xs (subst
-    (λ (es : List JEntry). Still [] (record { events = []; hist = []; told = [] }) xs elements m (by_journal rests es))
-    (drop_of_length-le journal past) still)
+pub leads-last :
+    (elements : State) (m : Merged) (xs : List Step) (elements' : State) (m' : Merged) (rests : List (List StepDone))
+    (journal : List JEntry) (i : ℕ) → length journal ≤ i
+    → Still elements m xs elements' m' (by_journal rests (drop i journal)) → Leads elements m xs elements' m'
+leads-last elements m xs elements' m' rests journal i past still =
+    subst (λ (es : List JEntry). Still elements m xs elements' m' (by_journal rests es))
+    (drop_of_length-le journal past) still
+
+-- from nothing, all that the steps show
+pub leads-all : (elements : State) (m : Merged) (xs : List Step) (elements' : State) (m' : Merged) → elements ≡ []
+    → m.events ≡ [] → m.hist ≡ [] → m.told ≡ [] → Leads elements m xs elements' m' → m' ≡ shown xs
+leads-all elements m xs elements' m' none events hist told leads =
+    still-end elements' m' xs
+    (λ ys. leads ys
+    ∙ (λ i. shown_with (none i) (record { events = events i; hist = hist i; told = told i }) (xs ++ ys)))

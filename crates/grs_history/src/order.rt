@@ -168,6 +168,25 @@ impl Merging {
         rests[place] = rest;
         self.add_all(alloc, system, run)
     }
+
+    /// Goes through all steps of the logs, in the journal's order.
+    fn go_through(
+        &mut self,
+        alloc: Global,
+        journal: &[JEntry],
+        logs: &[&[StepDone]],
+    ) -> Result<(), NoMemory>
+        requires systems { length logs.now ≤ most_systems }
+        requires few { length self.old.merged.events ≤ last_number }
+        ensures leads { OnOk result (Leads self.old.table.elements self.old.merged (merges.in_order journal.now (map (λ l. l.now) logs.now)) self.new.table.elements self.new.merged) }
+        ensures few { length self.new.merged.events ≤ last_number }
+    {
+        let mut rests = self.begin(alloc, logs)?;
+        for entry in journal {
+            self.go_on(alloc, &mut rests, entry.system)?;
+        }
+        Ok(())
+    }
 }
 
 /// The events of at most eight logs that are lent, as `merge` puts them in order.
@@ -188,10 +207,7 @@ pub fn merge_steps(
             told: List::new(alloc),
         },
     };
-    let mut rests = merging.begin(alloc, logs)?;
-    for entry in journal {
-        merging.go_on(alloc, &mut rests, entry.system)?;
-    }
+    merging.go_through(alloc, journal, logs)?;
     Ok(merging.merged)
 }
 

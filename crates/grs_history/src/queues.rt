@@ -1,7 +1,7 @@
 //! The lists that a history leaves.
 ghost use Rattle.std.specs.Prelude.{◌≡◌, IfOk, OnOk, OnErr};
 ghost use Rattle.grs_base.specs.Rows.{rows_of};
-ghost use Rattle.grs_wire.specs.History.{step, replay};
+ghost use Rattle.grs_wire.specs.History.{step, replay, replay_from};
 
 use grs_base::{List, NoMemory, Row};
 use grs_wire::HistEntry;
@@ -49,6 +49,21 @@ pub fn carry_out(
     Ok(())
 }
 
+/// The lists that aren't empty once a history is carried out.
+fn rows_after(
+    alloc: Global,
+    table: &mut Table<LinkedQueues>,
+    hist: &[HistEntry],
+    limit: u32,
+) -> Result<List<Row>, NoMemory>
+    ensures { IfOk result (λ rows. rows ≡ rows_of (replay_from limit table.old.elements hist.now)) }
+{
+    for entry in hist {
+        carry_out(alloc, limit, table, entry)?;
+    }
+    table.rows(alloc)
+}
+
 /// The lists that aren't empty after a history, where a task may have `limit` elements: Systems
 /// resources by name, then system by system its System resources by name and, job by job, its Step
 /// resources by name. A name is compared by its qname with blanks behind it, then by its rname.
@@ -56,8 +71,5 @@ pub fn queues_after(alloc: Global, hist: &[HistEntry], limit: u32) -> Result<Lis
     ensures { IfOk result (λ rows. rows ≡ rows_of (replay limit hist.now)) }
 {
     let mut table = Table::new(alloc, LinkedQueues::new(alloc));
-    for entry in hist {
-        carry_out(alloc, limit, &mut table, entry)?;
-    }
-    table.rows(alloc)
+    rows_after(alloc, &mut table, hist, limit)
 }

@@ -1,6 +1,6 @@
 //! What was fixed becomes the entries of a history.
 ghost use Rattle.std.specs.Prelude.{◌≡◌, ◌++◌, IfOk, OnOk};
-ghost use Rattle.grs_wire.specs.History.{entries_for, look_entries, fixed_entries, after_fixed, answered};
+ghost use Rattle.grs_wire.specs.History.{entries_for, look_entries, fixed_entries, after_fixed, answered, answered_from};
 ghost use Rattle.grs_base.specs.Looks.{look as looked};
 ghost use Rattle.grs_wire.specs.Wants.{after_want};
 
@@ -130,6 +130,21 @@ pub(crate) fn fix(
     }
 }
 
+/// Carries out what was fixed, and puts its entries behind a history.
+fn fix_all(
+    alloc: Global,
+    table: &mut Table<LinkedQueues>,
+    fixed: &[(SysId, Fixed)],
+    hist: &mut List<HistEntry>,
+) -> Result<(), NoMemory>
+    ensures { OnOk result (hist.new ≡ hist.old ++ answered_from table.old.elements fixed.now) }
+{
+    for one in fixed {
+        fix(alloc, table, one.0, &one.1, hist)?;
+    }
+    Ok(())
+}
+
 /// What was fixed, as a history: each request with the reply that plain lists give at its place, a request
 /// for looks as a look for each of its slices, and each removal. There is no memory for looks at slices
 /// whose numbers go past 4,294,967,295.
@@ -138,8 +153,6 @@ pub fn answers(alloc: Global, fixed: &[(SysId, Fixed)]) -> Result<List<HistEntry
 {
     let mut table = Table::new(alloc, LinkedQueues::new(alloc));
     let mut hist = List::with_room(alloc, fixed.len())?;
-    for one in fixed {
-        fix(alloc, &mut table, one.0, &one.1, &mut hist)?;
-    }
+    fix_all(alloc, &mut table, fixed, &mut hist)?;
     Ok(hist)
 }

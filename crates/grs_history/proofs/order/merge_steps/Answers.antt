@@ -1,34 +1,11 @@
-use Rattle.std.proofs.Common.{[], map}
-use Rattle.grs_history.specs.Merge.{quiet_fronts, without_front, in_order}
-use Rattle.grs_history.proofs.MergeLaws.{still-first, still-entry, still-last}
+use Rattle.std.proofs.Common.{map}
+use Rattle.grs_history.specs.Merge.{in_order}
+use Rattle.grs_history.proofs.MergeLaws.{leads-all}
 use Rattle.grs_history.proofs.order.merge_steps.Goals as goal
-
-pub loop-entry-init : goal.loop-entry-init
-loop-entry-init c = record {
-  still =
-      still-first c.new-2.result.elements
-      (record { events = c.new-3.result; hist = c.new-4.result; told = c.new-5.result })
-      (quiet_fronts 0 (map (λ l. l.now) c.args.logs.now)) c.begin.new.self.table.elements c.begin.new.self.merged
-      (map without_front (map (λ l. l.now) c.args.logs.now)) (map (λ r. r.now) c.in_ok-rests.rests.items)
-      c.args.journal.now c.new-2.ensures c.new-3.ensures c.new-4.ensures c.new-5.ensures
-      c.in_ok-rests.ensures.leads c.in_ok-rests.ensures.rests;
-  few = c.begin.ensures.few;
-}
-
-pub loop-entry-preserved : goal.loop-entry-preserved
-loop-entry-preserved c = record {
-  still =
-      still-entry [] (record { events = []; hist = []; told = [] })
-      (in_order c.args.journal.now (map (λ x. x.now) c.args.logs.now)) c.loop-entry.merging.table.elements
-      c.loop-entry.merging.merged (map (λ r. r.now) c.loop-entry.rests.items) c.args.journal.now
-      c.loop-entry.entry-index c.entry-item.result c.go_on.new.self.table.elements c.go_on.new.self.merged
-      (map (λ r. r.now) c.go_on.new.rests.items) c.loop-entry-test.true c.entry-item.is c.loop-entry.invariant.still
-      c.in_ok-go_on.ensures.leads c.go_on.ensures.rests;
-  few = c.go_on.ensures.few;
-}
 
 pub returns-clause-merged : goal.returns-clause-merged
 returns-clause-merged c =
-    still-last c.loop-entry.merging.table.elements c.loop-entry.merging.merged
-    (in_order c.args.journal.now (map (λ x. x.now) c.args.logs.now)) (map (λ r. r.now) c.loop-entry.rests.items)
-    c.args.journal.now c.loop-entry.entry-index c.loop-entry-test.false c.loop-entry.invariant.still
+    leads-all c.new-2.result.elements (record { events = c.new-3.result; hist = c.new-4.result; told = c.new-5.result })
+    (in_order c.args.journal.now (map (λ x. x.now) c.args.logs.now)) c.go_through.new.self.table.elements
+    c.go_through.new.self.merged c.new-2.ensures c.new-3.ensures c.new-4.ensures c.new-5.ensures
+    c.in_ok-go_through.ensures.leads

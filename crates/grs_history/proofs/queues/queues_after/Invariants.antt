@@ -1,6 +1,0 @@
-use Rattle.std.proofs.Common.{◌≡◌, drop}
-use Rattle.grs_wire.specs.History.{replay, replay_from}
-use Rattle.grs_history.proofs.queues.queues_after.Given as goal
-
-abbrev pub invariant-loop-entry : goal.invariant-loop-entry
-invariant-loop-entry l = replay_from l.limit l.table.elements (drop l.entry-index l.hist) ≡ replay l.limit l.hist
