@@ -1,6 +1,7 @@
 //! The whole report, part by part. Each part is put behind the text so far.
 ghost use Rattle.std.specs.Prelude.{◌≡◌, ◌++◌, OnOk, IfOk};
 ghost use Rattle.grs_wire.specs.Decks.{IsDeck};
+ghost use Rattle.grs_display.specs.Names.{names_of};
 ghost use Rattle.grs_report.specs.Report.{head_line, end_line, report};
 
 use super::ends::all_ended;
@@ -10,7 +11,7 @@ use super::state::{put_mode, put_queues, put_units, put_words};
 use super::told::put_told;
 use grs_base::{List, NoMemory};
 use grs_display::{names_of, put_line};
-use grs_wire::{Deck, Seen};
+use grs_wire::{Deck, Names, Seen};
 use std::alloc::Global;
 
 /// Puts the last line behind a text.
@@ -27,6 +28,38 @@ fn put_head(out: &mut List<u8>) -> Result<(), NoMemory>
     ensures { OnOk result (out.new ≡ out.old ++ head_line) }
 {
     put_line(&[b"GRS".as_slice(), b"REPORT", b"1"], out)
+}
+
+/// Puts the report of what a run of a deck shows behind a text, by the names of the deck.
+#[tactic(auto, unfolding(crate::specs::Report::report))]
+fn put_report(
+    alloc: Global,
+    names: &Names,
+    deck: &Deck,
+    seen: &Seen,
+    out: &mut List<u8>,
+) -> Result<(), NoMemory>
+    requires deck { IsDeck deck.now }
+    requires names { names.now ≡ names_of deck.now }
+    ensures { OnOk result (out.new ≡ out.old ++ report deck.now seen.now) }
+{
+    let ended = seen.ended.as_slice();
+    put_head(out)?;
+    put_schedule(names, seen.events.as_slice(), out)?;
+    put_history(alloc, names, seen.hist.as_slice(), out)?;
+    put_told(
+        alloc,
+        names,
+        seen.told.as_slice(),
+        ended,
+        deck.systems.as_slice(),
+        out,
+    )?;
+    put_queues(alloc, names, seen.queues.as_slice(), out)?;
+    put_units(names, seen.units.as_slice(), out)?;
+    put_words(names, seen.words.as_slice(), out)?;
+    put_mode(seen.star, out)?;
+    put_end(all_ended(ended), out)
 }
 
 /// The report of what a run of a deck shows. Of a run of one event, in which the only task asks for a
@@ -51,29 +84,12 @@ fn put_head(out: &mut List<u8>) -> Result<(), NoMemory>
 ///
 /// Each line ends with LF. Nothing is written for the name of a system, job or task that the deck does not
 /// have, and a task without an entry in `ended` counts as open. Want of memory is `NoMemory`.
-#[tactic(auto, unfolding(crate::specs::Report::report))]
 pub fn report(alloc: Global, deck: &Deck, seen: &Seen) -> Result<List<u8>, NoMemory>
     requires { IsDeck deck.now }
     ensures { IfOk result (λ text. text ≡ report deck.now seen.now) }
 {
     let names = names_of(alloc, deck)?;
-    let ended = seen.ended.as_slice();
     let mut out = List::new(alloc);
-    put_head(&mut out)?;
-    put_schedule(&names, seen.events.as_slice(), &mut out)?;
-    put_history(alloc, &names, seen.hist.as_slice(), &mut out)?;
-    put_told(
-        alloc,
-        &names,
-        seen.told.as_slice(),
-        ended,
-        deck.systems.as_slice(),
-        &mut out,
-    )?;
-    put_queues(alloc, &names, seen.queues.as_slice(), &mut out)?;
-    put_units(&names, seen.units.as_slice(), &mut out)?;
-    put_words(&names, seen.words.as_slice(), &mut out)?;
-    put_mode(seen.star, &mut out)?;
-    put_end(all_ended(ended), &mut out)?;
+    put_report(alloc, &names, deck, seen, &mut out)?;
     Ok(out)
 }
