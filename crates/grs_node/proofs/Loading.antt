@@ -230,58 +230,15 @@ by-roles-table entries s t =
         ∙ ap (λ (xs : List RankedRow). cond (managed_by_table entries s t e) (Some (loaded xs)) None)
         (parts_are_numbered entries e t (omega (arith, high)))
 
--- a system that has the part of its roles, and whose tasks' records have the ranks of its rows, has changed by its
--- table
-pub changed-by-roles :
-    (deck : Deck) (n : NodeState) (s : SysId) (managed interest : List ℕ) (ranked : List RankedRow)
-    (looked tasks : TasksView) (shared : State) (outbox : List Req) (part : StarPart)
-    →
-    s.0 ≡ n.tasks.system → managed ≡ managed_by deck.entries s n.shared
-    → interest ≡ interested_by deck.entries s n.shared → ranked ≡ ranked_by deck.entries n.shared →
-    looked ≡ one_by_one n.tasks n.outbox → tasks ≡ with_ranks looked ranked → shared ≡ [] → outbox ≡ []
-    → part ≡ part_by_roles deck.entries s managed interest ranked →
-    record n { tasks = tasks; shared = shared; outbox = outbox; star = Some part } ≡ change_to_star deck n
-unfolding change_to_star
-changed-by-roles deck n s managed interest ranked looked tasks shared outbox part own manages interested rows asked told
-    none sent is =
-    ap (λ (v : TasksView). record n { tasks = v; shared = shared; outbox = outbox; star = Some part }) ranks
-    ∙ (ap (λ (t : State).
-    record n {
-      tasks = with_ranks (one_by_one n.tasks n.outbox) (ranked_by deck.entries n.shared);
-      shared = t;
-      outbox = outbox;
-      star = Some part;
-    })
-    none
-    ∙ (ap (λ (qs : List Req).
-    record n {
-      tasks = with_ranks (one_by_one n.tasks n.outbox) (ranked_by deck.entries n.shared);
-      shared = [];
-      outbox = qs;
-      star = Some part;
-    })
-    sent
-    ∙ ap (λ (p : StarPart).
-    record n {
-      tasks = with_ranks (one_by_one n.tasks n.outbox) (ranked_by deck.entries n.shared);
-      shared = [];
-      outbox = [];
-      star = Some p;
-    })
-    by_table))
-  where
-    ranks : tasks ≡ with_ranks (one_by_one n.tasks n.outbox) (ranked_by deck.entries n.shared)
-    ranks =
-        told
-        ∙ (ap (with_ranks looked) rows ∙ ap (λ (v : TasksView). with_ranks v (ranked_by deck.entries n.shared)) asked)
-
-    by_table : part ≡ part_by_table deck.entries (record { 0 = n.tasks.system }) n.shared
-    by_table =
-        is
-        ∙ (ap (λ (es : List ℕ). part_by_roles deck.entries s es interest ranked) manages
-        ∙ (ap (λ (es : List ℕ). part_by_roles deck.entries s (managed_by deck.entries s n.shared) es ranked) interested
-        ∙ (ap (λ (xs : List RankedRow).
-        part_by_roles deck.entries s (managed_by deck.entries s n.shared) (interested_by deck.entries s n.shared) xs)
-        rows
-        ∙ (by-roles-table deck.entries s n.shared
-        ∙ ap (λ (i : ℕ). part_by_table deck.entries (record { 0 = i }) n.shared) own))))
+-- a part that is made by the roles of a table is that of the table
+pub part-of-roles :
+    (entries : ℕ) (s : SysId) (own : ℕ) (t : State) (managed interest : List ℕ) (ranked : List RankedRow)
+    (part : StarPart) → s.0 ≡ own → managed ≡ managed_by entries s t → interest ≡ interested_by entries s t
+    → ranked ≡ ranked_by entries t → part ≡ part_by_roles entries s managed interest ranked
+    → part ≡ part_by_table entries (record { 0 = own }) t
+part-of-roles entries s own t managed interest ranked part same manages interested rows is =
+    is
+    ∙ (ap (λ (es : List ℕ). part_by_roles entries s es interest ranked) manages
+    ∙ (ap (λ (es : List ℕ). part_by_roles entries s (managed_by entries s t) es ranked) interested
+    ∙ (ap (λ (xs : List RankedRow). part_by_roles entries s (managed_by entries s t) (interested_by entries s t) xs) rows
+    ∙ (by-roles-table entries s t ∙ ap (λ (i : ℕ). part_by_table entries (record { 0 = i }) t) same))))

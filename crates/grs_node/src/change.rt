@@ -1,5 +1,5 @@
 //! A system's change to star mode, by its table of the Systems resources.
-ghost use Rattle.std.specs.Prelude.{◌≡◌, ◌≢◌, ◌<◌, true, false, is_some, map, length, List, IfOk, OnOk};
+ghost use Rattle.std.specs.Prelude.{◌≡◌, ◌≢◌, ◌<◌, [], true, false, is_some, map, length, List, IfOk, OnOk};
 ghost use Rattle.std.specs.List.{range_with_len};
 ghost use Rattle.std.specs.Option.{option_map};
 ghost use Rattle.contention_mgr.specs.Manager.{managed_at};
@@ -10,7 +10,7 @@ ghost use Rattle.grs_node.specs.Names.{names_of};
 ghost use Rattle.grs_node.specs.Node as steps;
 ghost use Rattle.grs_node.specs.Node.{are_of_system};
 ghost use Rattle.grs_wire.specs.declared.request.Fixed.{Fixed};
-ghost use Rattle.mode_migrate.specs.Migrate.{AreApart, AreLoadable};
+ghost use Rattle.mode_migrate.specs.Migrate.{AreApart, AreLoadable, ranked_by};
 ghost use Rattle.task_state.specs.View.{is_task};
 
 use super::star::StarPart;
@@ -19,8 +19,6 @@ use contention_mgr::Manager;
 use grs_base::{Elem, List, NoMemory, Res, Row, SysId, TaskId};
 use grs_wire::{Deck, Req, Said, Want};
 use mode_migrate::{Roles, part_of, roles_of};
-use qel_store::LinkedQueues;
-use queue_table::Table;
 use star_client::Owes;
 use std::alloc::Global;
 use std::collections::VecDeque;
@@ -242,8 +240,33 @@ fn take_first_looks(tasks: &mut Tasks, reqs: &[Req]) -> Result<(), NoMemory>
 }
 
 impl NodeState {
-    /// The system changes to star mode: it gets its part there by its table, and its tasks' records get ranks. The
-    /// requests of the outbox stay with their tasks, which wait to send them.
+    /// The system's part in star mode by its table, and the rows of all lock entries with the ranks of their elements.
+    fn ranked_part(
+        &self,
+        alloc: Global,
+        entries: u32,
+    ) -> Result<(StarPart, List<(Row, List<u64>)>), NoMemory>
+        requires entries { entries ≢ 0 }
+        requires apart { AreApart self.now.shared }
+        ensures part { IfOk result (λ made. made.0 ≡ change.part_by_table entries (record { 0 = self.now.tasks.system }) self.now.shared) }
+        ensures ranked { IfOk result (λ made. made.1 ≡ ranked_by entries self.now.shared) }
+    {
+        let system = self.tasks.system();
+        let roles = roles_of(alloc, &self.shared, entries, system)?;
+        let part = StarPart::by_roles(alloc, system, entries, &roles)?;
+        Ok((part, roles.ranked))
+    }
+
+    /// The requests of the outbox stay with their tasks, which wait to send them: of looks at several slices the first.
+    fn empty_outbox(&mut self, alloc: Global) -> Result<(), NoMemory>
+        ensures step { OnOk result (self.new ≡ record self.old { tasks = change.one_by_one self.old.tasks self.old.outbox; outbox = [] }) }
+        ensures system { self.new.tasks.system ≡ self.old.tasks.system }
+    {
+        let waiting = std::mem::replace(&mut self.outbox, List::new(alloc));
+        take_first_looks(&mut self.tasks, waiting.as_slice())
+    }
+
+    /// The system changes to star mode: it gets its part there by its table, and its tasks' records get ranks.
     #[tactic(auto, unfolding(crate::specs::Node::change_to_star))]
     fn change_to_star(&mut self, alloc: Global, deck: &Deck) -> Result<(), NoMemory>
         requires entries { deck.now.entries ≢ 0 }
@@ -251,14 +274,10 @@ impl NodeState {
         ensures step { OnOk result (self.new ≡ steps.change_to_star deck.now self.old) }
         ensures system { self.new.tasks.system ≡ self.old.tasks.system }
     {
-        let system = self.tasks.system();
-        let roles = roles_of(alloc, &self.shared, deck.entries, system)?;
-        let part = StarPart::by_roles(alloc, system, deck.entries, &roles)?;
-        let waiting = std::mem::replace(&mut self.outbox, List::new(alloc));
-        take_first_looks(&mut self.tasks, waiting.as_slice())?;
-        rank_all(&mut self.tasks, roles.ranked.as_slice());
-        self.shared = Table::new(alloc, LinkedQueues::new(alloc));
-        self.star = Some(part);
+        let (part, ranked) = self.ranked_part(alloc, deck.entries)?;
+        self.empty_outbox(alloc)?;
+        rank_all(&mut self.tasks, ranked.as_slice());
+        self.let_table_go(alloc, Some(part));
         Ok(())
     }
 

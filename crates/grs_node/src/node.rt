@@ -17,7 +17,7 @@ ghost use Rattle.grs_node.specs.declared.prepared.Prepared.TheVariants.{Quiet, C
 
 use super::lines::end_by;
 use super::prepared::Prepared;
-use super::scripts::{Script, names_of, scripts_of, sizes_of};
+use super::scripts::{Script, names_of, scripts_of};
 use super::state::NodeState;
 use grs_base::{List, NoMemory, SysId, TaskId, copy_all};
 use grs_wire::{Choice, Deck, Fixed, NodeLog, Reply, Req, RingEntry, StepDone, TaskEnd, ToldLine};
@@ -84,17 +84,16 @@ fn step_of(
 
 impl<'d> Node<'d> {
     /// A system of a deck before its first event.
-    #[tactic(auto, using(grs_wire::proofs::DeckLaws::parts), unfolding(crate::specs::Node::first_node))]
+    #[tactic(auto, using(grs_wire::proofs::DeckLaws::parts))]
     pub fn new(alloc: Global, deck: &'d Deck, system: SysId) -> Result<Node<'d>, NoMemory>
         requires deck { IsBounded deck.now }
         requires system { system.0 < length deck.now.systems }
         ensures { IfOk result (λ n. n ≡ starting deck.now system.0) }
     {
-        let resolver = Resolver::build(alloc, &deck.lists)?;
         let scripts = scripts_of(alloc, deck, system)?;
         let names = names_of(alloc, system, scripts.as_slice())?;
-        let jobs = sizes_of(alloc, deck, system)?;
-        let state = NodeState::new(alloc, deck, system, jobs.as_slice())?;
+        let resolver = Resolver::build(alloc, &deck.lists)?;
+        let state = NodeState::of_deck(alloc, deck, system)?;
         Ok(Node {
             deck,
             resolver,

@@ -5,6 +5,7 @@ ghost use Rattle.grs_base.specs.Limits.{most_lines};
 ghost use Rattle.task_state.specs.View.{new_tasks, is_task, state_of, record_of};
 ghost use Rattle.grs_legal.specs.Asks.{meaning_of, meanings, scripts_of};
 ghost use Rattle.grs_node.specs.declared.prepared.Prepared.TheVariants.{Quiet};
+ghost use Rattle.grs_wire.specs.Decks.{IsBounded};
 ghost use Rattle.grs_wire.specs.Wants.{res_wanted};
 ghost use Rattle.grs_wire.specs.declared.request.Fixed.TheVariants as fixes;
 ghost use Rattle.grs_node.specs.Node as steps;
@@ -13,7 +14,7 @@ ghost use Rattle.grs_node.specs.Log.{stepped};
 ghost use Rattle.task_state.specs.Replies as replies;
 
 use super::lines::meaning_at;
-use super::scripts::{Script, lines_among};
+use super::scripts::{Script, lines_among, sizes_of};
 use super::star::StarPart;
 use grs_base::{Code, Filter, Line, List, NoMemory, Res, SysId, TaskId};
 use grs_legal::{Display, Meaning};
@@ -107,12 +108,7 @@ fn wait(tasks: &mut Tasks, task: TaskId, res: Res) -> Result<(), NoMemory>
 
 impl NodeState {
     /// A system of a deck at the start, and nothing queued. `jobs` has the number of tasks of each of its jobs.
-    pub(crate) fn new(
-        alloc: Global,
-        deck: &Deck,
-        system: SysId,
-        jobs: &[u32],
-    ) -> Result<NodeState, NoMemory>
+    fn new(alloc: Global, deck: &Deck, system: SysId, jobs: &[u32]) -> Result<NodeState, NoMemory>
         requires { deck.now.entries ≢ 0 }
         ensures { IfOk result (λ n. n ≡ record { tasks = record { system = system.0; tasks = new_tasks (sum jobs.now); told = [] }; own = []; shared = []; outbox = []; star = steps.part_at_first deck.now system.0; known = 0; done = 0 }) }
     {
@@ -132,12 +128,29 @@ impl NodeState {
         })
     }
 
+    /// A system of a deck before its first event.
+    #[tactic(auto, using(grs_wire::proofs::DeckLaws::parts), unfolding(crate::specs::Node::first_node))]
+    pub(crate) fn of_deck(alloc: Global, deck: &Deck, system: SysId) -> Result<NodeState, NoMemory>
+        requires { IsBounded deck.now }
+        ensures { IfOk result (λ n. n ≡ steps.first_node deck.now system.0) }
+    {
+        let jobs = sizes_of(alloc, deck, system)?;
+        NodeState::new(alloc, deck, system, jobs.as_slice())
+    }
+
+    /// The table of the Systems resources is let go, and this is the system's part in star mode from then on.
+    pub(crate) fn let_table_go(&mut self, alloc: Global, star: Option<StarPart>)
+        ensures { self.new ≡ record self.old { shared = []; star = star } }
+    {
+        self.shared = Table::new(alloc, LinkedQueues::new(alloc));
+        self.star = star;
+    }
+
     /// A system that is to be given up, since memory was wanting in a step, keeps no table and no part in star mode.
     pub(crate) fn give_up(&mut self, alloc: Global)
         ensures { self.new ≡ record self.old { shared = []; star = None } }
     {
-        self.shared = Table::new(alloc, LinkedQueues::new(alloc));
-        self.star = None;
+        self.let_table_go(alloc, None);
     }
 
     /// The system's own lists decide a request and change by it, and it is told.

@@ -2,10 +2,11 @@ use Rattle.std.proofs.Common.{ap, sym, ◌∙◌}
 use Rattle.grs_legal.specs.Asks.{scripts_of}
 use Rattle.grs_node.proofs.StartFits.{started-fits}
 use Rattle.grs_node.specs.Names.{names_from, names_of}
-use Rattle.grs_node.specs.Node.{NodeState}
+use Rattle.grs_node.specs.Node.{NodeState, first_node}
 use Rattle.grs_node.proofs.node.Node.new.Goals as goal
 
 pub invariant_of-result : goal.invariant_of-result
+unfolding first_node
 invariant_of-result c =
     let own = ap (λ (n : NodeState). n.tasks.system) c.in_ok-state.ensures in (
       c.in_ok-resolver.ensures,
