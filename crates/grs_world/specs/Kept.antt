@@ -26,7 +26,8 @@ use Rattle.grs_wire.specs.declared.gather.PartRec.{PartRec}
 use Rattle.grs_wire.specs.declared.medium.Mail.{Mail}
 use Rattle.grs_wire.specs.declared.medium.Reply.TheVariants as replies
 use Rattle.lock_structure.specs.Laws.{manager_at}
-use Rattle.system_purge.specs.Gather.{records_of, by_rank}
+use Rattle.lock_structure.specs.RankedRows.{rises}
+use Rattle.system_purge.specs.Gather.{records_of, by_rank, ranks}
 use Rattle.grs_world.specs.Running.{is_live}
 use Rattle.grs_world.specs.World.{World, run, hist}
 
@@ -84,9 +85,16 @@ shown_from deck w r s (n ∷ ns) =
     cond (has w.medium.removed s) [] (on_record deck (caught_up deck w (record { 0 = s }) n) r)
     ++ shown_from deck w r (s + 1) ns
 
--- the list that all live systems show together of a resource, in the order of ranks
+-- what all live systems show together of a resource, in the order of ranks, and the list that this is
+abbrev pub shown_records : Deck → World → Res → List PartRec
+shown_records deck w r = by_rank (shown_from deck w r 0 w.nodes)
+
 abbrev pub shown_list : Deck → World → Res → List Elem
-shown_list deck w r = map elem_of (by_rank (shown_from deck w r 0 w.nodes))
+shown_list deck w r = map elem_of (shown_records deck w r)
+
+-- the ranks of the elements that a manager keeps of a resource, in the order in which they stand
+abbrev pub managed_ranks : StarPart → Res → List ℕ
+managed_ranks p r = map (λ x. x.rank) (filter (λ x. same_res r x.res) (items_of (managed_of p.manager r)))
 
 -- ---- what is kept
 
@@ -141,6 +149,18 @@ KeptArePlacesThen deck es e = KeptArePlaces deck (es ++ e ∷ [])
 abbrev pub ShownArePlaces : Deck → List Event → Type 0
 ShownArePlaces deck es =
     (r : Res) → is_systems r ≡ true → shown_list deck (run deck es) r ≡ places deck es r
+
+-- What the live systems show together of a resource has the ranks that its manager gave: they rise, so that no two are
+-- equal, and they are, one by one, those of the elements that the manager keeps, as soon as it has changed.
+pub record HaveRanksKept (deck : Deck) (w : World) (r : Res) : Type 0 where
+  pub rising : rises (ranks (shown_records deck w r)) ≡ true
+  pub managed : (m : SysId) (n : NodeState) (p : StarPart)
+      → named_by w.medium.words (entry_of_res (length w.medium.words) r) ≡ Some m → slice_get w.nodes m.0 ≡ Some n
+      → (once_changed deck w m n n.star).star ≡ Some p → ranks (shown_records deck w r) ≡ managed_ranks p r
+
+-- After these events it is so of each resource of the whole complex.
+abbrev pub ShownHaveRanks : Deck → List Event → Type 0
+ShownHaveRanks deck es = (r : Res) → is_systems r ≡ true → HaveRanksKept deck (run deck es) r
 
 -- A system's part in star mode is well kept where the manager in it is the system's own, ranks rise along the list of
 -- each resource, and each owner that is still to be told owns and is of another system.

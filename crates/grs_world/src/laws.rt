@@ -11,7 +11,7 @@ ghost use Rattle.grs_world.specs.Fixing.{EventFixes};
 ghost use Rattle.grs_world.specs.Gone.{KnownAreGone, ActsWithoutGone};
 ghost use Rattle.grs_world.specs.InStar.{NoneInStar};
 ghost use Rattle.grs_world.specs.Interest.{WordsAreManaged, WordsGoWithSystems};
-ghost use Rattle.grs_world.specs.Kept.{KeptArePlaces, KeptArePlacesThen, ManagersKeepWell, ShownArePlaces};
+ghost use Rattle.grs_world.specs.Kept.{KeptArePlaces, KeptArePlacesThen, ManagersKeepWell, ShownArePlaces, ShownHaveRanks};
 ghost use Rattle.grs_world.specs.Laps.{ComesBackLast, ProcessedLast, AnsweredLast};
 ghost use Rattle.grs_world.specs.Noticed.{NoticesName};
 ghost use Rattle.grs_world.specs.Passed.{PassedIsTold};
@@ -53,10 +53,12 @@ pub fn kept_are_places()
 
 /// Once a run of a deck is in star mode, and as long as it has removed no system there, the live systems show together what is
 /// kept: once each has changed and taken the mail of its inbox, what their tasks have on record of a Systems resource is, by
-/// its ranks, the list that the history leads to. The deck needs the bounds of a deck that was read: an answer with a rank past
-/// the last number has no effect.
+/// its ranks, the list that the history leads to. And these ranks are those that the resource's manager keeps, one by one; they
+/// rise, so that no two are equal. The deck needs the bounds of a deck that was read: an answer with a rank past the last
+/// number has no effect.
 pub fn shown_are_places()
-    ensures { (deck : Deck) → IsBounded deck → (events : List Event) → NoneInStar deck events → (run deck events).medium.star ≡ true → ShownArePlaces deck events }
+    ensures places { (deck : Deck) → IsBounded deck → (events : List Event) → NoneInStar deck events → (run deck events).medium.star ≡ true → ShownArePlaces deck events }
+    ensures ranks { (deck : Deck) → IsBounded deck → (events : List Event) → NoneInStar deck events → (run deck events).medium.star ≡ true → ShownHaveRanks deck events }
 {}
 
 /// Nor does the event of the first removal of a system in star mode take anything else from what is kept than that system's

@@ -16,8 +16,9 @@ use Rattle.grs_world.proofs.Common.{turn_reply, turn_row, turned, unseen, Wait, 
 use Rattle.grs_world.proofs.Common.{with_line, with_outstanding, with_phase, with_rank, with_record, with_state}
 use Rattle.grs_world.proofs.Common.{with_told, without, without_record, World, ℕ}
 use Rattle.grs_node.specs.Node.{turned as system_turned}
+use Rattle.system_purge.specs.Gather.{ranks}
 use Rattle.grs_world.specs.Interest.{manages_at}
-use Rattle.grs_world.specs.Kept.{shown_list}
+use Rattle.grs_world.specs.Kept.{managed_ranks, shown_list, shown_records}
 use Rattle.grs_world.proofs.samples.Samples.{system, task_of, shared, enq, deq, deck_of, goes, turn}
 use Rattle.grs_world.proofs.samples.StarSamples.{sends, settles, star_of, takes, tells}
 use Rattle.grs_world.proofs.samples.SwitchSamples.{switches}
@@ -140,6 +141,28 @@ unfolding state_of with_state with_line with_phase with_outstanding with_record 
     without with_also manager lock_word submitted route submit_row take_row mail_row row apply first_node first_world
     carry_out chosen placed happens_at happens
 shown_by_ranks = (refl, refl, refl, refl)
+
+-- The records have the ranks of the elements, those of either resource by themselves.
+abbrev ranks_by : Option StarPart → ℕ → List ℕ
+ranks_by None name = []
+ranks_by (Some p) name = managed_ranks p (shared name)
+
+abbrev ranks_at : Option NodeState → ℕ → List ℕ
+ranks_at None name = []
+ranks_at (Some n) name = ranks_by n.star name
+
+pub shown_ranks :
+    (map (λ name. ranks (shown_records queues (run queues last_answered) (shared name))) (65 ∷ 66 ∷ [])
+    ≡ (2 ∷ 4 ∷ 5 ∷ []) ∷ (1 ∷ 3 ∷ []) ∷ [])
+    × (map (ranks_at (slice_get (run queues last_answered).nodes 0)) (65 ∷ 66 ∷ [])
+    ≡ (2 ∷ 4 ∷ 5 ∷ []) ∷ (1 ∷ 3 ∷ []) ∷ [])
+unfolding state_of with_state with_line with_phase with_outstanding with_record without_record with_told with_exclusive
+    with_rank telling tell_code record_enq after_code replied passes_wait tell_line tell_untold tell_control tell_all
+    tell_new recalled tell_answer tell_answer_any tell_answer_ranked after_mail decide_own took_mail post ask take_line
+    end_step ready_step phase_step may_go may_send star_call prepare finish_quiet finish_star finish_call finish has
+    without with_also manager lock_word submitted route submit_row take_row mail_row row apply first_node first_world
+    carry_out chosen placed happens_at happens
+shown_ranks = (refl, refl)
 
 -- ---- the change
 -- Each of two systems has a task that shares a resource; the desk of the second orders the change.

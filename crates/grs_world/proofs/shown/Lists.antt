@@ -1,14 +1,15 @@
 -- In a star that loses nobody the live systems show together what the history says: once each has taken the mail of its
 -- inbox, what their tasks have on record of a resource is, by its ranks, the list of the resource.
 use Rattle.grs_world.proofs.Common.{[], ◌+◌, ◌<◌, ◌==◌, ◌||◌, ◌∙◌, ◌∷◌, ◌≡◌, and_from, and_parts, ap, Bool, Deck, Elem}
-use Rattle.grs_world.proofs.Common.{entry_of_res, eq-eqb, eqb-true, false, first_node, get_or, has, has_res, has_task}
-use Rattle.grs_world.proofs.Common.{inbox, is_among, is_home_at, is_interested, is_res_of, is_some, is_systems}
-use Rattle.grs_world.proofs.Common.{IsHistory, items, items_of, length, lines_of, List, list_all, list_of, lists}
-use Rattle.grs_world.proofs.Common.{ltb-true, Managed, managed_at, manager_at, map, names_of, nat_lt, new_task}
-use Rattle.grs_world.proofs.Common.{no_truth, NodeState, None, Option, option_map_or, or_left, or_right, outstanding}
-use Rattle.grs_world.proofs.Common.{past_of, plain, Rec, record_of, refl, Res, RunItem, same_task, same_task-itself}
-use Rattle.grs_world.proofs.Common.{slice_get, slice_get-get_or, Some, speaks-known, StarPart, state_of, subst, sym}
-use Rattle.grs_world.proofs.Common.{SysId, TaskId, TaskState, true, World, ℕ}
+use Rattle.grs_world.proofs.Common.{entry_of_res, eq-eqb, eqb-true, false, filter, first_node, get_or, has, has_res}
+use Rattle.grs_world.proofs.Common.{has_task, inbox, is_among, is_home_at, is_interested, is_res_of, is_some}
+use Rattle.grs_world.proofs.Common.{is_systems, IsHistory, items, items_of, kept_for, length, lines_of, List, list_all}
+use Rattle.grs_world.proofs.Common.{list_of, lists, ltb-true, Managed, managed_at, manager_at, map, names_of, nat_lt}
+use Rattle.grs_world.proofs.Common.{new_task, no_truth, NodeState, None, Option, option_map_or, or_left, or_right}
+use Rattle.grs_world.proofs.Common.{outstanding, past_of, plain, Ranked, Rec, record_of, refl, Res, RunItem, same_res}
+use Rattle.grs_world.proofs.Common.{same_Some, same_task, same_task-itself, slice_get, slice_get-get_or, Some}
+use Rattle.grs_world.proofs.Common.{speaks-known, StarPart, state_of, subst, sym, SysId, TaskId, TaskState, true, World}
+use Rattle.grs_world.proofs.Common.{ℕ}
 use Rattle.std.specs.List.Sorted.{IsPermutation}
 use Rattle.std.proofs.lemmas.List.Sorted.{IsPermutation-sym}
 use Rattle.contention_mgr.specs.Installs.{elem_of}
@@ -24,26 +25,26 @@ use Rattle.grs_known.specs.Items.{history}
 use Rattle.grs_legal.specs.Asks.{Script, scripts_of}
 use Rattle.grs_node.proofs.Orderly.{all-at}
 use Rattle.lock_structure.specs.RankedRows.{rises}
-use Rattle.system_purge.specs.Gather.{by_rank}
+use Rattle.system_purge.specs.Gather.{by_rank, ranks}
 use Rattle.grs_world.proofs.shown.ByTask.{by-tasks, of_task, of_tasks}
 use Rattle.grs_world.proofs.shown.CaughtUp.{Caught}
 use Rattle.grs_world.proofs.shown.Names.{home-named, live-apart, live-named, live_names, named-home, task_at, zero_plus}
 use Rattle.grs_world.proofs.shown.OnRecord.{HasOwn, HaveThese, keys-listed, own_recs, recs-ranked, shown-have}
 use Rattle.grs_world.proofs.shown.OnRecord.{system-has}
-use Rattle.grs_world.proofs.shown.Rising.{each-on, rises-on}
-use Rattle.grs_world.proofs.shown.Sorted.{by_rank-is}
+use Rattle.grs_world.proofs.shown.Rising.{each-on, EachOn, ranks-on, rises-on}
+use Rattle.grs_world.proofs.shown.Sorted.{by_rank-is, ranks-are}
 use Rattle.grs_world.proofs.shown.Together.{caught, its-record}
 use Rattle.grs_world.proofs.run.Site.{Site, at_site}
 use Rattle.grs_world.proofs.star.Elements.{near-has}
 use Rattle.grs_world.proofs.star.Heard.{IsHeard, sent_by}
-use Rattle.grs_world.proofs.star.Members.{IsMember, all_lists, manager-here}
+use Rattle.grs_world.proofs.star.Members.{IsMember, all_lists, has_manager, manager-here}
 use Rattle.grs_world.proofs.star.Systems.{here, near_at}
 use Rattle.grs_world.proofs.star.Under.{entry-same, in_entry, list-under, under, wide-entry}
 use Rattle.grs_world.proofs.star.Worlds.{IsWhole, are_live, live-below, live-site, manager-live}
 use Rattle.grs_world.proofs.star.hearing.Ranks.{HaveRank, rank-none}
 use Rattle.grs_world.proofs.star.ranks.Carried.{CarriesRank, all_at, has_this_rank}
 use Rattle.grs_world.proofs.star.ranks.Ranked.{AreShown, HasShown}
-use Rattle.grs_world.specs.Kept.{caught_up, on_record, once_changed, shown_from, taking}
+use Rattle.grs_world.specs.Kept.{caught_up, managed_ranks, on_record, once_changed, shown_from, taking}
 
 -- ---- one task of a system that knows all
 module _ (deck : Deck) (words : List ℕ) (T : List RunItem) (right : IsHistory deck T) (s : ℕ) (n : NodeState)
@@ -222,6 +223,40 @@ module _ (deck : Deck) (w : World) (g : IsWhole deck w) (sent : ℕ → TaskId �
   pub same-under : list_of (under deck.entries entry.0 (all_lists w)) r ≡ listed
   same-under = list-under deck.entries entry.0 (all_lists w) r of_entry
 
+  -- it keeps its elements with these ranks
+  each-kept : (p : StarPart) → ((t : TaskId) → has_task listed t ≡ true → CarriesRank r t (rank_of t) p.manager)
+      → (o : Option Managed) → managed_at p.manager entry.0 ≡ o → list_of (plain (items_of o)) r ≡ listed
+      → EachOn r rank_of (items_of o)
+  each-kept p carries None found same = tt
+  each-kept p carries (Some m) found same =
+      each-on r rank_of m.items (λ t stands.
+      subst (λ (o : Option Managed). all_at (has_this_rank r t (rank_of t)) o ≡ true) found
+      (all-at (all_at (has_this_rank r t (rank_of t))) p.manager.entries entry.0
+      (carries t (ap (λ xs. has_task xs t) (sym same) ∙ stands)) refl))
+
+  -- who manages the entry has the list
+  has-list : (m : ℕ) (n : NodeState) (at : Site w m n) → has_manager w.medium.words entry.0 m ≡ true →
+      list_of (plain (items_of (managed_at ((g.roles.node m n at).part).manager entry.0))) r ≡ listed
+  has-list m n at manages_it =
+      let k : IsMember deck w.medium.words (all_lists w) m n = g.roles.node m n at in
+      (k.fits.lists entry.0 (k.fits.roles entry.0 ∙ manages_it)).lists r ∙ same-under
+
+  pub ranks-kept : (m : ℕ) (n : NodeState) (p : StarPart) → Site w m n → n.star ≡ Some p
+      → has_manager w.medium.words entry.0 m ≡ true
+      → managed_ranks p r ≡ map (λ (x : Elem). rank_of x.task) listed
+  ranks-kept m n p at star manages_it =
+      let k : IsMember deck w.medium.words (all_lists w) m n = g.roles.node m n at in
+      ap (λ (q : StarPart). managed_ranks q r) (same_Some p k.part (sym star ∙ k.star))
+      ∙ (ap (λ i. ranks_in (kept_for k.part.manager.entries (entry_of_res i r))) k.fits.entries
+      ∙ (ap (λ o. ranks_in (kept_for k.part.manager.entries o)) entry.1
+      ∙ (ranks-on r rank_of (items_of (managed_at k.part.manager entry.0))
+      (each-kept k.part (λ t stands. carried m n k.part at k.star t stands) (managed_at k.part.manager entry.0) refl
+      (has-list m n at manages_it))
+      ∙ ap (λ (xs : List Elem). map (λ (x : Elem). rank_of x.task) xs) (has-list m n at manages_it))))
+    where
+      ranks_in : Option Managed → List ℕ
+      ranks_in o = map (λ (x : Ranked). x.rank) (filter (λ (x : Ranked). same_res r x.res) (items_of o))
+
   pub rising : rises (map (λ (x : Elem). rank_of x.task) listed) ≡ true
   rising = by-word (manager_at w.medium.words entry.0) refl
     where
@@ -233,10 +268,7 @@ module _ (deck : Deck) (w : World) (g : IsWhole deck w) (sent : ℕ → TaskId �
       by-items p carries well (Some m) found same =
           subst (λ (xs : List Elem). rises (map (λ (x : Elem). rank_of x.task) xs) ≡ true) same
           (rises-on r rank_of m.items ((well entry.0 m found).ranked).rising
-          (each-on r rank_of m.items (λ t stands.
-          subst (λ (o : Option Managed). all_at (has_this_rank r t (rank_of t)) o ≡ true) found
-          (all-at (all_at (has_this_rank r t (rank_of t))) p.manager.entries entry.0
-          (carries t (ap (λ xs. has_task xs t) (sym same) ∙ stands)) refl))))
+          (each-kept p carries (Some m) found same))
 
       by-manager : (m : SysId) → manager_at w.medium.words entry.0 ≡ Some m
           → rises (map (λ (x : Elem). rank_of x.task) listed) ≡ true
@@ -247,8 +279,7 @@ module _ (deck : Deck) (w : World) (g : IsWhole deck w) (sent : ℕ → TaskId �
           let at : Site w m.0 n = live-site w m.0 (first_node deck 0) live in
           let k : IsMember deck w.medium.words (all_lists w) m.0 n = g.roles.node m.0 n at in
           by-items k.part (λ t stands. carried m.0 n k.part at k.star t stands) k.fits.well
-          (managed_at (k.part).manager entry.0) refl
-          ((k.fits.lists entry.0 (k.fits.roles entry.0 ∙ manages_it)).lists r ∙ same-under)
+          (managed_at (k.part).manager entry.0) refl (has-list m.0 n at manages_it)
 
       by-word : (o : Option SysId) → manager_at w.medium.words entry.0 ≡ o
           → rises (map (λ (x : Elem). rank_of x.task) listed) ≡ true
@@ -300,9 +331,14 @@ module _ (deck : Deck) (w : World) (g : IsWhole deck w) (sent : ℕ → TaskId �
             (subst (λ i. is_among t (names_of deck i) ≡ true) (sym (zero_plus s))
             (home-named deck s t (element-home t stands)))
 
-    pub shown-listed : map elem_of (by_rank (shown_from deck w r 0 ns)) ≡ listed
-    shown-listed =
-        by_rank-is r rank_of (shown_from deck w r 0 ns) listed shown-these.ranked rising
-        (subst (λ (xs : List Elem). IsPermutation xs listed) (sym shown-these.elems)
+    same-elems : IsPermutation (map elem_of (shown_from deck w r 0 ns)) listed
+    same-elems =
+        subst (λ (xs : List Elem). IsPermutation xs listed) (sym shown-these.elems)
         (IsPermutation-sym listed (of_tasks names listed)
-        (by-tasks names listed (live-apart deck w.medium.removed 0 ns) all-named)))
+        (by-tasks names listed (live-apart deck w.medium.removed 0 ns) all-named))
+
+    pub shown-listed : map elem_of (by_rank (shown_from deck w r 0 ns)) ≡ listed
+    shown-listed = by_rank-is r rank_of (shown_from deck w r 0 ns) listed shown-these.ranked rising same-elems
+
+    pub shown-ranks : ranks (by_rank (shown_from deck w r 0 ns)) ≡ map (λ (x : Elem). rank_of x.task) listed
+    shown-ranks = ranks-are r rank_of (shown_from deck w r 0 ns) listed shown-these.ranked rising same-elems

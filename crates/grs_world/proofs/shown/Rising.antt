@@ -1,8 +1,8 @@
 -- Along the list of a resource that a manager keeps the ranks of its tasks rise.
 use Rattle.grs_world.proofs.Common.{[], ◌==◌, ◌||◌, ◌∙◌, ◌∷◌, ◌≡◌, and_from, and_parts, ap, Bool, cond, Elem, eqb-true}
-use Rattle.grs_world.proofs.Common.{false, has_task, List, list_all, list_of, map, nat_lt, not, plain, Ranked, refl}
-use Rattle.grs_world.proofs.Common.{Res, same_res, same_res-exact, same_task, same_task-itself, subst, sym, TaskId}
-use Rattle.grs_world.proofs.Common.{true, ℕ}
+use Rattle.grs_world.proofs.Common.{false, filter, has_task, List, list_all, list_of, map, nat_lt, not, plain, Ranked}
+use Rattle.grs_world.proofs.Common.{refl, Res, same_res, same_res-exact, same_task, same_task-itself, subst, sym}
+use Rattle.grs_world.proofs.Common.{TaskId, true, ℕ}
 use Rattle.contention_mgr.specs.Laws.{by_rank}
 use Rattle.lock_structure.specs.RankedRows.{rises}
 use Rattle.grs_world.proofs.star.ranks.Carried.{AllOf, first-has, has_this_rank, more-has}
@@ -78,3 +78,21 @@ rises-on r f (x ∷ xs) h e =
         e.1))
         more
     go false is low more = more
+
+-- and they are the ranks of the list's tasks
+pub ranks-on : (r : Res) (f : TaskId → ℕ) (xs : List Ranked) → EachOn r f xs
+    → map (λ (x : Ranked). x.rank) (filter (λ x. same_res r x.res) xs)
+    ≡ map (λ (z : Elem). f z.task) (list_of (plain xs) r)
+ranks-on r f [] e = refl
+ranks-on r f (x ∷ xs) e = go (same_res r x.res) refl (ranks-on r f xs e.1)
+  where
+    go : (b : Bool) → same_res r x.res ≡ b
+        → map (λ (y : Ranked). y.rank) (filter (λ y. same_res r y.res) xs)
+        ≡ map (λ (z : Elem). f z.task) (list_of (plain xs) r) →
+        map (λ (y : Ranked). y.rank)
+        (cond b (x ∷ filter (λ y. same_res r y.res) xs) (filter (λ y. same_res r y.res) xs))
+        ≡ map (λ (z : Elem). f z.task) (cond b (x.elem ∷ list_of (plain xs) r) (list_of (plain xs) r))
+    go true is more =
+        ap (λ (n : ℕ). n ∷ map (λ (y : Ranked). y.rank) (filter (λ y. same_res r y.res) xs)) (e.0 is)
+        ∙ ap (λ (ns : List ℕ). f x.elem.task ∷ ns) more
+    go false is more = more

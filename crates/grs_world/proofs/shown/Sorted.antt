@@ -80,20 +80,31 @@ module _ (r : Res) (rank : TaskId → ℕ) where
   ranks-back [] = refl
   ranks-back (x ∷ xs) = ap (λ (ns : List ℕ). rank x.task ∷ ns) (ranks-back xs)
 
-  pub by_rank-is : (zs : List PartRec) (xs : List Elem) → AreRanked zs
-      → rises (map (λ (x : Elem). rank x.task) xs) ≡ true → IsPermutation (map elem_of zs) xs
-      → map elem_of (by_rank zs) ≡ xs
-  by_rank-is zs xs ranked rising same =
-      let bares : IsPermutation (map bare zs) (map record_of_elem xs) =
-      subst (λ (ys : List PartRec). IsPermutation ys (map record_of_elem xs)) (sym (bare-ranked zs ranked))
-      (IsPermutation-map record_of_elem (map elem_of zs) xs same) in
-      let up : rises (ranks (map record_of_elem xs)) ≡ true = ap rises (ranks-back xs) ∙ rising in
-      let apart : IsDistinct nat_eq (ranks (map bare zs)) =
-      IsDistinct-IsPermutation nat_eq flips (ranks (map record_of_elem xs)) (ranks (map bare zs))
-      (IsPermutation-map (λ (y : PartRec). y.rank) (map record_of_elem xs) (map bare zs)
-      (IsPermutation-sym (map bare zs) (map record_of_elem xs) bares))
-      (rising-distinct (ranks (map record_of_elem xs)) up) in
-      let is : map record_of_elem xs ≡ by_rank (map bare zs) =
-      in-order-is (map bare zs) (map record_of_elem xs) apart (record { same = bares; rising = up }) in
-      sym (bare-elems (by_rank zs))
-      ∙ (ap (λ (ys : List PartRec). map elem_of ys) (sym (by_rank-bare zs) ∙ sym is) ∙ elems-back xs)
+  bare-ranks : (zs : List PartRec) → ranks (map bare zs) ≡ ranks zs
+  bare-ranks [] = refl
+  bare-ranks (z ∷ zs) = ap (λ (ns : List ℕ). z.rank ∷ ns) (bare-ranks zs)
+
+  -- in the order of ranks they are the elements, as such records
+  module _ (zs : List PartRec) (xs : List Elem) (ranked : AreRanked zs)
+      (rising : rises (map (λ (x : Elem). rank x.task) xs) ≡ true) (same : IsPermutation (map elem_of zs) xs) where
+    in-order : map bare (by_rank zs) ≡ map record_of_elem xs
+    in-order =
+        let bares : IsPermutation (map bare zs) (map record_of_elem xs) =
+        subst (λ (ys : List PartRec). IsPermutation ys (map record_of_elem xs)) (sym (bare-ranked zs ranked))
+        (IsPermutation-map record_of_elem (map elem_of zs) xs same) in
+        let up : rises (ranks (map record_of_elem xs)) ≡ true = ap rises (ranks-back xs) ∙ rising in
+        let apart : IsDistinct nat_eq (ranks (map bare zs)) =
+        IsDistinct-IsPermutation nat_eq flips (ranks (map record_of_elem xs)) (ranks (map bare zs))
+        (IsPermutation-map (λ (y : PartRec). y.rank) (map record_of_elem xs) (map bare zs)
+        (IsPermutation-sym (map bare zs) (map record_of_elem xs) bares))
+        (rising-distinct (ranks (map record_of_elem xs)) up) in
+        let is : map record_of_elem xs ≡ by_rank (map bare zs) =
+        in-order-is (map bare zs) (map record_of_elem xs) apart (record { same = bares; rising = up }) in
+        sym (by_rank-bare zs) ∙ sym is
+
+    pub by_rank-is : map elem_of (by_rank zs) ≡ xs
+    by_rank-is =
+        sym (bare-elems (by_rank zs)) ∙ (ap (λ (ys : List PartRec). map elem_of ys) in-order ∙ elems-back xs)
+
+    pub ranks-are : ranks (by_rank zs) ≡ map rank_of_elem xs
+    ranks-are = sym (bare-ranks (by_rank zs)) ∙ (ap ranks in-order ∙ ranks-back xs)

@@ -1,5 +1,8 @@
-use Rattle.grs_world.proofs.shown.Run.{shown_places}
+use Rattle.grs_world.proofs.shown.Run.{shown_places, shown_ranks}
 use Rattle.grs_world.proofs.laws.shown_are_places.Goals as goal
 
-pub returns : goal.returns
-returns c = shown_places
+pub returns-clause-places : goal.returns-clause-places
+returns-clause-places c = shown_places
+
+pub returns-clause-ranks : goal.returns-clause-ranks
+returns-clause-ranks c = shown_ranks
