@@ -13,3 +13,4 @@ pub mod Acts
 pub mod InBoxes
 pub mod Notices
 pub mod Again
+pub mod way

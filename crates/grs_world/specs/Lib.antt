@@ -15,5 +15,6 @@ pub mod Removing
 pub mod Gone
 pub mod Again
 pub mod Noticed
+pub mod OnTheWay
 pub mod InStar
 pub mod Stopped

@@ -14,6 +14,7 @@ ghost use Rattle.grs_world.specs.Interest.{WordsAreManaged, WordsGoWithSystems};
 ghost use Rattle.grs_world.specs.Kept.{KeptArePlaces, KeptArePlacesThen, ManagersKeepWell, ShownArePlaces, ShownHaveRanks};
 ghost use Rattle.grs_world.specs.Laps.{ComesBackLast, ProcessedLast, AnsweredLast};
 ghost use Rattle.grs_world.specs.Noticed.{NoticesName};
+ghost use Rattle.grs_world.specs.OnTheWay.{PartsAreOnTheWay, RolesGoByWords};
 ghost use Rattle.grs_world.specs.Passed.{PassedIsTold};
 ghost use Rattle.grs_world.specs.Removing.{RemovedAreInHistory, AnswersHaveCauses, RemovalsAreEntries, NoneFollows, RemovalsKeepOthers, MessageGoesOn};
 ghost use Rattle.grs_world.specs.Stopped.{LapsEnd};
@@ -175,6 +176,17 @@ pub fn nothing_is_kept_of_removed()
 /// entry's word names, each other one a system that was removed. And the entry's set holds whose inbox it is.
 pub fn notices_name_managers()
     ensures { (deck : Deck) → deck.star ≡ true → FitsStar deck → (events : List Event) → NoticesName deck events }
+{}
+
+/// In every run of a deck that begins in star mode and fits it, whichever systems are removed, each live system has the role
+/// that the entry's word gives it: who is named manages the entry, gathers its lists, or has still to take the notice that says
+/// so, and nobody else manages or gathers it. And as long as the one who is named has still to gather the lists, the part of
+/// each other live system is in one place: that system has still to take the notice, owes the part, or sent it, so that it is
+/// under way; or it came and is kept; or there is none. It is awaited just in the first three of these. Once the lists are
+/// managed, nothing of them has still to be taken, is owed or under way.
+pub fn parts_are_on_the_way()
+    ensures roles { (deck : Deck) → deck.star ≡ true → FitsStar deck → (events : List Event) → RolesGoByWords deck events }
+    ensures parts { (deck : Deck) → deck.star ≡ true → FitsStar deck → (events : List Event) → PartsAreOnTheWay deck events }
 {}
 
 /// In every run, by an event that takes a notice a task that has sent its request, which isn't answered yet, is to send it

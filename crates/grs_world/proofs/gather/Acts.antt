@@ -17,7 +17,7 @@ use Rattle.grs_wire.specs.declared.deck.Order.TheVariants as orders
 use Rattle.grs_wire.specs.declared.medium.Act.TheVariants as acts
 
 -- ---- what a system is prepared to call says whom it knows to be removed
-abbrev Says : ℕ → Prepared → Type 0
+abbrev pub Says : ℕ → Prepared → Type 0
 Says known Nothing = Unit {0}
 Says known Quiet = Unit {0}
 Says known (Calls call) = call.known ≡ known
@@ -48,7 +48,7 @@ module _ (deck : Deck) (n : NodeState) where
       by_test (Says n.known) (named.0 == target.0) (Calls (record { known = n.known; act = acts.Purge target })) Nothing
       (λ same. refl) (λ other. tt)
 
-  all_say : (choice : Choice) → Says n.known (prepare deck n choice)
+  pub all_say : (choice : Choice) → Says n.known (prepare deck n choice)
   unfolding prepare
   all_say (choices.Task t) = by_test (Says n.known) (may_go deck n t) Quiet Nothing (λ may. tt) (λ idle. tt)
   all_say choices.Turn = by_turn n.star

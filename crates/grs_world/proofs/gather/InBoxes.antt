@@ -24,7 +24,7 @@ none-filtered p (x ∷ xs) h =
     let both = or_parts (p x) (list_any p xs) h in
     ap (λ b. cond b (x ∷ filter p xs) (filter p xs)) both.0 ∙ none-filtered p xs both.1
 
-none-named : (e : ℕ) (y : Mail) → names e y ≡ false → items_in e y ≡ []
+pub none-named : (e : ℕ) (y : Mail) → names e y ≡ false → items_in e y ≡ []
 none-named e (mails.Notice target moved) h = none-filtered (λ m. m.entry == e) moved h
 none-named e (mails.Request x from q) h = refl
 none-named e (mails.Answered t answer rank) h = refl
@@ -43,7 +43,7 @@ unnoticed words removed e s (y ∷ ms) h =
     (all-none words removed e s (noticed e ms) y both.0, unnoticed words removed e s ms both.1)
 
 -- a mail comes that is no notice of it
-noticed-more : (e : ℕ) (ms : List Mail) (y : Mail) → names e y ≡ false → noticed e (ms ++ y ∷ []) ≡ noticed e ms
+pub noticed-more : (e : ℕ) (ms : List Mail) (y : Mail) → names e y ≡ false → noticed e (ms ++ y ∷ []) ≡ noticed e ms
 noticed-more e ms y away =
     list_any-append (names e) ms (y ∷ [])
     ∙ (ap (λ b. noticed e ms || (b || false)) away ∙ or-false (noticed e ms))
@@ -173,16 +173,16 @@ module _ (words : List ℕ) (t : SysId) (e : ℕ) (there : e < length words) whe
   abbrev w : ℕ
   w = word_at words e
 
-  now : word_at (purged_words words t) e ≡ purged_word w t
+  pub now : word_at (purged_words words t) e ≡ purged_word w t
   now = get_or-map (λ (x : ℕ). purged_word x t) words e 0 0 there
 
-  near-others : (s : ℕ) → s ≢ t.0 → is_interested (purged_words words t) e s ≡ is_interested words e s
+  pub near-others : (s : ℕ) → s ≢ t.0 → is_interested (purged_words words t) e s ≡ is_interested words e s
   near-others s ne =
       ap (λ (x : ℕ). has (interest x) s) now
       ∙ (purge_takes_target w t s
       ∙ (ap (λ b. is_interested words e s && not b) (ne_eqb s t.0 ne) ∙ and-true (is_interested words e s)))
 
-  manager-others : is_manager (manager_at words e) t ≡ false
+  pub manager-others : is_manager (manager_at words e) t ≡ false
       → manager_at (purged_words words t) e ≡ manager_at words e
   manager-others other = ap manager now ∙ (purge_keeps_others w t other).0
 
