@@ -35,7 +35,7 @@ use Rattle.grs_wire.specs.History.{replay}
 use Rattle.grs_wire.specs.declared.seen.Seen.{Seen}
 use Rattle.grs_wire.specs.declared.seen.TaskEnd.{TaskEnd}
 use Rattle.grs_workers.specs.Beside.{RanBeside, AllLast}
-use Rattle.grs_world.specs.InStar.{NoneInStar}
+use Rattle.grs_world.specs.InStar.{NoneTakesEntries}
 use Rattle.grs_world.specs.Agree.{Sound, RemovedTellNothing}
 use Rattle.grs_world.specs.AtRest.{RestsInTheEnd}
 use Rattle.grs_world.specs.Decks.{may_be_star, FitsStar}
@@ -159,10 +159,10 @@ stopped_due x text deck s lent name n (Err e) spelled same is are found done = t
 abbrev OfRuns : (DeckValue → List Event → Type 0) → Type 0
 OfRuns P =
     (deck : DeckValue) → (may_be_star deck ≡ true → FitsStar deck) → AreOrders (length deck.systems) 0 deck.systems
-    → (es : List Event) → NoneInStar deck es → P deck es
+    → (es : List Event) → NoneTakesEntries deck es → P deck es
 
 of_deck : (P : DeckValue → List Event → Type 0) → OfRuns P → (d : DeckValue) → IsDeck d → (es : List Event)
-    → NoneInStar d es → P d es
+    → NoneTakesEntries d es → P d es
 of_deck P holds d whole es none =
     holds d (λ star. record { few = whole.fits.few; entries = whole.entries }) whole.orders es none
 
@@ -228,7 +228,7 @@ pub run_due :
     → IsDeck d
     → OfRuns Sound → OfRuns PassedIsTold → ((deck : DeckValue) (es : List Event) → RemovedTellNothing deck es)
     → MergedRuns → MergedRests
-    → ((deck : DeckValue) → IsBounded deck → (es : List Event) → NoneInStar deck es → RestsInTheEnd deck es)
+    → ((deck : DeckValue) → IsBounded deck → (es : List Event) → NoneTakesEntries deck es → RestsInTheEnd deck es)
     → RanBeside d m journal vs
     → AllLast d journal → slice ≡ journal → seen.events ≡ (merged_steps slice (logs_of vs)).events
     → seen ≡ seen_of_run d seen.events

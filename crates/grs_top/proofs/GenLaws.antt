@@ -12,7 +12,7 @@ use Rattle.grs_wire.specs.declared.deck.Deck.{Deck}
 use Rattle.grs_wire.specs.declared.deck.Event.{Event}
 use Rattle.grs_wire.specs.declared.deck.Order.TheVariants.{Star}
 use Rattle.grs_wire.specs.declared.deck.SystemDef.{SystemDef}
-use Rattle.grs_world.specs.InStar.{NoneInStar}
+use Rattle.grs_world.specs.InStar.{NoneInStar, NoneTakesEntries}
 use Rattle.grs_world.specs.Agree.{Sound}
 use Rattle.grs_world.specs.Decks.{may_be_star, may_remove, orders_removal, FitsStar}
 use Rattle.grs_world.specs.Running.{at_rest}
@@ -107,10 +107,11 @@ removes-nobody n = desks-quiet n (range_with_len 0 (system_count n))
 
 pub generated : ((n : ℕ) → IsSize n → IsDeck (deck_of n))
     → ((deck : Deck) → (may_be_star deck ≡ true → FitsStar deck) → AreOrders (length deck.systems) 0 deck.systems
-    → (es : List Event) → NoneInStar deck es → Sound deck es)
-    → ((deck : Deck) → may_remove deck ≡ false → (es : List Event) → NoneInStar deck es) → GeneratedRuns
+    → (es : List Event) → NoneTakesEntries deck es → Sound deck es)
+    → ((deck : Deck) → may_remove deck ≡ false → (es : List Event) → NoneInStar deck es)
+    → ((deck : Deck) → (es : List Event) → NoneInStar deck es → NoneTakesEntries deck es) → GeneratedRuns
 unfolding rounds_of Ends
-generated is_deck sound spared n size = go (deck_of n) (is_deck n size) (removes-nobody n)
+generated is_deck sound spared takes n size = go (deck_of n) (is_deck n size) (removes-nobody n)
   where
     go : (deck : Deck) → IsDeck deck → may_remove deck ≡ false → (es : List Event) × AreRounds deck es
     go deck whole quiet =
@@ -124,7 +125,7 @@ generated is_deck sound spared n size = go (deck_of n) (is_deck n size) (removes
             world = all.1.world;
             sound =
                 sound deck (λ star. record { few = whole.fits.few; entries = whole.entries }) whole.orders all.0
-                (spared deck quiet all.0);
+                (takes deck all.0 (spared deck quiet all.0));
             ends = all.2;
           },
         )

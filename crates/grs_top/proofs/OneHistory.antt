@@ -16,7 +16,7 @@ use Rattle.grs_wire.specs.declared.deck.Event.{Event}
 use Rattle.grs_wire.specs.declared.request.Fixed.{Fixed}
 use Rattle.grs_wire.specs.declared.told.Told.{Told}
 use Rattle.grs_world.specs.Agree.{Moment, Agrees, moment, AgreeAt, AllAgree, Sound, RemovalsTold, is_event_of}
-use Rattle.grs_world.specs.InStar.{NoneInStar}
+use Rattle.grs_world.specs.InStar.{NoneTakesEntries}
 use Rattle.grs_world.specs.Agree.{is_by_live, RemovedTellNothing}
 use Rattle.grs_world.specs.World.{World, happens, placed, fixed_by, run_from, run, first_world, told}
 use Rattle.grs_world.specs.Stopped.{cut, turn_of, left_behind, next_of, lap_from, live_count, lap, goes_lap, stopped}
@@ -187,7 +187,7 @@ module _ (deck : Deck) (es : List Event) where
   }
 
 reported_shows : (deck : Deck) (es : List Event) (out : List ℕ) (status : Status) → IsReported deck es out status
-    → NoneInStar deck es → ShowsOneHistory deck es out
+    → NoneTakesEntries deck es → ShowsOneHistory deck es out
 reported_shows deck es out status r none =
     subst (ShowsOneHistory deck es) (sym r.whole) (shows deck es (r.sound none) r.silent)
 
@@ -218,7 +218,7 @@ only_turns deck s n es =
 
 -- A deck without its schedule shows what the deck does.
 pub report_shows : (deck : Deck) (es : List Event) (out : List ℕ) (status : Status)
-    → IsReported (unscheduled deck) es out status → NoneInStar (unscheduled deck) es → ShowsOneHistory deck es out
+    → IsReported (unscheduled deck) es out status → NoneTakesEntries (unscheduled deck) es → ShowsOneHistory deck es out
 report_shows deck es out status r none =
     ((unread deck es).shows out).0 (reported_shows (unscheduled deck) es out status r none)
 

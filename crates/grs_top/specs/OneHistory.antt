@@ -86,7 +86,8 @@ ShowsHistory (Stop x) text out =
     (deck : Deck) × SpellsDeck text deck × ((s : SysId) × (system_place deck.systems x.name ≡ Some s.0)
     × ((turns : List SysId) × ShowsOneHistory deck (cut s x.events deck.events ++ map turn_of turns) out))
 
--- So it is of runs that remove no system in star mode.
+-- So it is of spared runs: they remove no system in star mode that manages a lock entry, and none there before all
+-- live ones have changed.
 abbrev pub AnswersShowHistories : Type 0
 AnswersShowHistories =
     (c : Command) (text out : List ℕ) (status : Status) (a : IsAnswered c text out status)

@@ -24,7 +24,7 @@ pub record IsWithoutReport (text : List ℕ) : Type 0 where
   pub none : report_at true text ≡ length text
 
 -- Such a text of a deck, with what `replay`, `run` or `stop` is to write for it behind it, is to be answered Yes, where
--- both aren't too long together, and the run removes no system in star mode.
+-- both aren't too long together, and the run is spared (`IsSpared`).
 abbrev pub OwnReportsAreYes : Type 0
 OwnReportsAreYes =
     (c : Command) (text out : List ℕ) (status : Status) → Reports c → (a : IsAnswered c text out status)

@@ -20,7 +20,9 @@ ghost use Rattle.grs_top.specs.Whole.{WholeUnlessMemory, RefusedUnlessMemory, Fa
 use grs_audit::reports_are_yes;
 use grs_deck::one_deck;
 use grs_gen::laws::are_decks;
-use grs_world::laws::{decks_without_removals_are_spared, runs_are_sound};
+use grs_world::laws::{
+    decks_without_removals_are_spared, runs_are_sound, spared_runs_take_no_entries,
+};
 use latch_form::one_list_of_calls;
 
 /// A source whose bytes spell what the command reads is answered by the whole text of the command, unless a read or write
@@ -46,7 +48,8 @@ pub fn faults_are_failed_calls()
 {}
 
 /// A text that is answered by the report of a run, by `replay`, `run` or `stop`, is answered by one that shows one history of the
-/// deck that it spells, where that run removes no system in star mode: a legal one, with which each line that is told agrees.
+/// deck that it spells: a legal one, with which each line that is told agrees. It is so where that run removes no system in star mode
+/// that manages a lock entry, and none there before all live ones have changed.
 pub fn answers_show_histories()
     ensures { AnswersShowHistories }
 {}
@@ -95,7 +98,8 @@ pub fn schedules_are_unread()
 {}
 
 /// A deck's text whose last line has its end, and which has no line that begins a report, with what `replay`, `run` or `stop`
-/// wrote for it behind it, is answered Yes by `audit`, where the run removes no system in star mode and both aren't too long together.
+/// wrote for it behind it, is answered Yes by `audit`, where both aren't too long together, and the run removes no system in
+/// star mode that manages a lock entry, and none there before all live ones have changed.
 pub fn own_reports_are_yes()
     ensures { OwnReportsAreYes }
 {
@@ -127,4 +131,5 @@ pub fn generated_runs()
     are_decks();
     runs_are_sound();
     decks_without_removals_are_spared();
+    spared_runs_take_no_entries();
 }

@@ -10,3 +10,4 @@ pub mod at_rest
 pub mod lap
 pub mod gather
 pub mod shown
+pub mod loss

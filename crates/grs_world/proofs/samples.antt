@@ -11,4 +11,5 @@ pub mod RankSamples
 pub mod RemovalSamples
 pub mod InStarSamples
 pub mod GatherSamples
+pub mod LossSamples
 pub mod StopSamples

@@ -21,7 +21,7 @@ use Rattle.grs_world.proofs.run.Desks.{GoodDesks}
 use Rattle.grs_world.proofs.run.Runs.{GoodTold}
 use Rattle.grs_world.specs.Passed.{DesksAreTold, EndsAreTold, LinesAreTold, PassedIsTold, is_desk_of}
 
-good_desks : (deck : Deck) (es : List Event) (w : World) → GoodRun deck es w → GoodDesks deck w
+pub good_desks : (deck : Deck) (es : List Event) (w : World) → GoodRun deck es w → GoodDesks deck w
 good_desks deck es w (in_ring begins ring g d) = d
 good_desks deck es w (in_star f g told d) = d
 
@@ -34,11 +34,8 @@ get_or_past_none [] i d e = refl
 get_or_past_none (x ∷ xs) zero d e = absurd (cc)
 get_or_past_none (x ∷ xs) (suc i) d e = get_or_past_none xs i d e
 
-module _ (deck : Deck) (fits : may_be_star deck ≡ true → FitsStar deck) (fit : OrdersFit deck) (es : List Event)
-    (none : NoneInStar deck es) where
-  g : GoodTold deck es (run deck es)
-  g = good_told deck es (run deck es) (every_run deck fits es none)
-
+module _ (deck : Deck) (fit : OrdersFit deck) (es : List Event) (g : GoodTold deck es (run deck es))
+    (d : GoodDesks deck (run deck es)) where
   -- a system of the run, or one that isn't there
   by_system : (s : SysId) (P : NodeState → Type 0)
       → ((n : NodeState) → slice_get (run deck es).nodes s.0 ≡ Some n → P n) → P (first_node deck s.0)
@@ -109,8 +106,14 @@ module _ (deck : Deck) (fits : may_be_star deck ≡ true → FitsStar deck) (fit
   desks-told : DesksAreTold deck es
   desks-told s k low l =
       by_system s (λ n. k ≤ n.done → list_any (is_desk_of s k) (run deck es).told ≡ true)
-      (λ n at within. (good_desks deck es (run deck es) (every_run deck fits es none)).each s.0 n at k low within)
+      (λ n at within. d.each s.0 n at k low within)
       (λ within. absurd (omega (arith, low, first-done deck s.0, within))) l
 
-  pub passed-told : PassedIsTold deck es
-  passed-told = record { lines = lines-told; ends = ends-told; desks = desks-told }
+  pub passed-by : PassedIsTold deck es
+  passed-by = record { lines = lines-told; ends = ends-told; desks = desks-told }
+
+pub passed-told : (deck : Deck) → (may_be_star deck ≡ true → FitsStar deck) → OrdersFit deck → (es : List Event)
+    → NoneInStar deck es → PassedIsTold deck es
+passed-told deck fits fit es none =
+    let here = every_run deck fits es none in
+    passed-by deck fit es (good_told deck es (run deck es) here) (good_desks deck es (run deck es) here)

@@ -22,7 +22,7 @@ use Rattle.grs_world.proofs.system.AtNode.{Seen, opens_of}
 use Rattle.task_state.specs.declared.state.Phase.TheVariants as phases
 
 -- ---- no system is busy
-busy-at : (deck : Deck) (removed k : ℕ) (ns : List NodeState) (s : ℕ) (n : NodeState)
+pub busy-at : (deck : Deck) (removed k : ℕ) (ns : List NodeState) (s : ℕ) (n : NodeState)
     → none_busy removed k (map (is_busy deck removed) ns) ≡ true → slice_get ns s ≡ Some n
     → has removed (k + s) ≡ false → is_busy deck removed n ≡ false
 busy-at deck removed k [] s n h at live = absurd (cc)

@@ -31,7 +31,7 @@ use Rattle.grs_world.proofs.run.Site.{at_site}
 use Rattle.task_state.specs.declared.state.Phase.TheVariants as phases
 
 -- ---- nothing is pending
-others-pass : (k removed : ℕ) (test : ℕ → Bool) (s : ℕ) → all_others k removed test ≡ true → s < k
+pub others-pass : (k removed : ℕ) (test : ℕ → Bool) (s : ℕ) → all_others k removed test ≡ true → s < k
     → has removed s ≡ false → test s ≡ true
 others-pass zero removed test s h l live = absurd (omega (arith, l))
 others-pass (suc k) removed test s h l live = go (s == k) refl (λ m. others-pass k removed test s both.0 m live)
@@ -45,7 +45,7 @@ others-pass (suc k) removed test s h l live = go (s == k) refl (λ m. others-pas
         ap test same ∙ (ap (λ c. c || test k) (sym (ap (has removed) (sym same) ∙ live)) ∙ both.1)
     go false e more = let ne : s ≢ k = eqb-false s k e in more (omega (arith, l, ne))
 
-untold-none : (home : ℕ) (r : Res) (t : TaskId) → t.system.0 ≢ home → (xs : List Ranked) → any_untold_in home xs ≡ false
+pub untold-none : (home : ℕ) (r : Res) (t : TaskId) → t.system.0 ≢ home → (xs : List Ranked) → any_untold_in home xs ≡ false
     → list_any (λ y. is_of r t y && y.untold) xs ≡ true → ⊥
 untold-none home r t ne [] h e = absurd (cc)
 untold-none home r t ne (x ∷ xs) h e = go (is_of r t x) refl x.untold refl e (untold-none home r t ne xs parts.1)
@@ -73,13 +73,13 @@ untold-at home (o ∷ os) zero h = (or_parts (any_untold_in home (items_of o)) (
 untold-at home (o ∷ os) (suc e) h =
     untold-at home os e (or_parts (any_untold_in home (items_of o)) (any_untold_at home os) h).1
 
-untold-for : (home : ℕ) (os : List (Option Managed)) (o : Option ℕ) → any_untold_at home os ≡ false
+pub untold-for : (home : ℕ) (os : List (Option Managed)) (o : Option ℕ) → any_untold_at home os ≡ false
     → any_untold_in home (items_of (kept_for os o)) ≡ false
 untold-for home os None h = refl
 untold-for home os (Some e) h = untold-at home os e h
 
 -- no task here waits to send
-to-send-at : (v : TasksView) (t : TaskId) → list_any (λ x. is_to_send x.phase) v.tasks ≡ false → is_task v t ≡ true
+pub to-send-at : (v : TasksView) (t : TaskId) → list_any (λ x. is_to_send x.phase) v.tasks ≡ false → is_task v t ≡ true
     → is_to_send (state_of v t).phase ≡ false
 unfolding state_of
 to-send-at v t h here = none-at (λ x. is_to_send x.phase) v.tasks t.task new_task h (is_task-place v t here)

@@ -178,12 +178,15 @@ module _ (deck : Deck) (some : 0 < deck.entries) (few : length deck.systems ≤ 
       → kept deck w s r ≡ list_of (replay deck.limit (history (items w.fixed))) r
   kept_changing s r all = kept_shown s r ∙ kept-whole deck shown g.whole s r all
 
-pub every_kept : (deck : Deck) → (may_be_star deck ≡ true → FitsStar deck) → (es : List Event) → NoneInStar deck es
-    → KeptArePlaces deck es
-every_kept deck fits es none s r live all = by_run (every_run deck fits es none)
+pub good_kept : (deck : Deck) (es : List Event) → GoodRun deck es (run deck es) → KeptArePlaces deck es
+good_kept deck es good s r live all = by_run good
   where
     by_run : GoodRun deck es (run deck es) → kept deck (run deck es) s r ≡ places deck es r
     by_run (in_ring begins ring g d) = kept_is deck es r all ring g ring.mode s live (run deck es).medium.star refl
     by_run (in_star f g told d) =
         kept_changing deck (entries_some deck.entries f.entries) f.few (run deck es) g s r all
         ∙ ap (λ h. list_of (replay deck.limit h) r) (items_are_history (run deck es).fixed).0
+
+pub every_kept : (deck : Deck) → (may_be_star deck ≡ true → FitsStar deck) → (es : List Event) → NoneInStar deck es
+    → KeptArePlaces deck es
+every_kept deck fits es none = good_kept deck es (every_run deck fits es none)

@@ -79,29 +79,30 @@ module _ (deck : Deck) (w : World) (g : IsChanging deck w) where
       absurd (let e : None ≡ Some p = sym h.alone ∙ is in cc)
 
 -- ---- after every list of events
+pub good_words : (deck : Deck) (es : List Event) → (run deck es).medium.star ≡ true → GoodRun deck es (run deck es)
+    → WordsGoWithSystems deck es
+good_words deck es mode (in_ring begins ring g d) = absurd (let e : false ≡ true = sym ring.mode ∙ mode in cc)
+good_words deck es mode (in_star f g told d) = record {
+  interest = λ e s.
+      word_interest deck (run deck es) g e s (is_live (run deck es) s) refl (slice_get (run deck es).nodes s.0) refl;
+  manages = λ e s.
+      word_manages deck (run deck es) g e s (is_live (run deck es) s) refl (slice_get (run deck es).nodes s.0) refl;
+}
+
 pub every_word : (deck : Deck) → (may_be_star deck ≡ true → FitsStar deck) → (es : List Event) → NoneInStar deck es
     → (run deck es).medium.star ≡ true → WordsGoWithSystems deck es
-every_word deck fits es none mode = by_run (every_run deck fits es none)
+every_word deck fits es none mode = good_words deck es mode (every_run deck fits es none)
+
+pub good_parts : (deck : Deck) (es : List Event) → GoodRun deck es (run deck es) → ManagersKeepWell deck es
+good_parts deck es (in_ring begins ring g d) s n p at is =
+    absurd (let e : None ≡ Some p = sym (ring.alone s n at) ∙ is in cc)
+good_parts deck es (in_star f g told d) s n p at is = by_live (has (run deck es).medium.removed s) refl
   where
-    by_run : GoodRun deck es (run deck es) → WordsGoWithSystems deck es
-    by_run (in_ring begins ring g d) = absurd (let e : false ≡ true = sym ring.mode ∙ mode in cc)
-    by_run (in_star f g told d) = record {
-      interest = λ e s.
-          word_interest deck (run deck es) g e s (is_live (run deck es) s) refl (slice_get (run deck es).nodes s.0)
-          refl;
-      manages = λ e s.
-          word_manages deck (run deck es) g e s (is_live (run deck es) s) refl (slice_get (run deck es).nodes s.0) refl;
-    }
+    by_live : (b : Bool) → has (run deck es).medium.removed s ≡ b → IsKeptBy s p
+    by_live true out = absurd (let e : None ≡ Some p = sym (g.gone s n at out) ∙ is in cc)
+    by_live false live =
+        let old = g.shown s n at live in kept_well deck (run deck es) g s n old.0 p old.1 live is old.2
 
 pub every_part : (deck : Deck) → (may_be_star deck ≡ true → FitsStar deck) → (es : List Event) → NoneInStar deck es
     → ManagersKeepWell deck es
-every_part deck fits es none s n p at is = by_run (every_run deck fits es none)
-  where
-    by_run : GoodRun deck es (run deck es) → IsKeptBy s p
-    by_run (in_ring begins ring g d) = absurd (let e : None ≡ Some p = sym (ring.alone s n at) ∙ is in cc)
-    by_run (in_star f g told d) = by_live (has (run deck es).medium.removed s) refl
-      where
-        by_live : (b : Bool) → has (run deck es).medium.removed s ≡ b → IsKeptBy s p
-        by_live true out = absurd (let e : None ≡ Some p = sym (g.gone s n at out) ∙ is in cc)
-        by_live false live =
-            let old = g.shown s n at live in kept_well deck (run deck es) g s n old.0 p old.1 live is old.2
+every_part deck fits es none = good_parts deck es (every_run deck fits es none)

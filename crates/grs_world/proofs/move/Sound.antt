@@ -131,7 +131,7 @@ module _ (deck : Deck) (fits : may_be_star deck ≡ true → FitsStar deck) (es 
           (gone_are_removed deck es) (known_run deck es c.0 n at) (removes-none deck w e none n at alive))
           is
 
-  next_good : removes_in_star deck w e ≡ false → GoodRun deck es w → Good (happens deck w e)
+  pub next_good : removes_in_star deck w e ≡ false → GoodRun deck es w → Good (happens deck w e)
   next_good none (in_ring begins ring g d) = from_ring begins ring g d
   next_good none (in_star f g told d) = from_star none f g told d
 
@@ -172,7 +172,7 @@ first_desks deck = record {
     never true = refl
     never false = refl
 
-first_run : (deck : Deck) → (may_be_star deck ≡ true → FitsStar deck) → GoodRun deck [] (first_world deck)
+pub first_run : (deck : Deck) → (may_be_star deck ≡ true → FitsStar deck) → GoodRun deck [] (first_world deck)
 first_run deck fits = go deck.star refl
   where
     go : (b : Bool) → deck.star ≡ b → GoodRun deck [] (first_world deck)

@@ -1,6 +1,6 @@
 -- What an event tells at a desk, and what all lines told at desks so far say.
 use Rattle.grs_world.proofs.Common.{[], ◌++◌, ◌+◌, ◌-◌, ◌<◌, ◌==◌, ◌||◌, ◌∙◌, ◌∷◌, ◌≡◌, ◌≢◌, ◌≤◌, ◌⊎◌, and_from}
-use Rattle.grs_world.proofs.Common.{and_parts, ap, arith, Bool, counted, Deck, drop, drop-append_seam, eq-eqb}
+use Rattle.grs_world.proofs.Common.{and_parts, ap, append_assoc, arith, Bool, counted, Deck, drop, drop-append_seam, eq-eqb}
 use Rattle.grs_world.proofs.Common.{eqb-false, Event, false, Fixed, fixed_by, HistEntry, inl, inr, is_line_of, length}
 use Rattle.grs_world.proofs.Common.{List, list_all, list_all-append, list_any, list_any-append, lt-ltb, ltb-true}
 use Rattle.grs_world.proofs.Common.{Moment, nat_lt, ne_eqb, next_order, NodeState, None, not, Option, option_map}
@@ -12,7 +12,7 @@ use Rattle.grs_world.specs.Agree.{DeskAgrees, HasCause, purges, is_desk_before, 
 use Rattle.grs_world.specs.Agree.{was_star}
 use Rattle.grs_node.specs.Node.{desk_of}
 use Rattle.std.proofs.Math.Bool.{or-true}
-use Rattle.grs_world.proofs.run.Runs.{AllBy, GoodTold, Tells, at_desk, to_tasks}
+use Rattle.grs_world.proofs.run.Runs.{AllBy, GoodTold, Tells, at_desk, at_desk_first, to_tasks}
 use Rattle.grs_world.proofs.run.Placed.{by_node, of_world}
 use Rattle.grs_world.specs.Passed.{is_desk_line}
 use Rattle.grs_wire.specs.declared.deck.Desk.{Desk as DeskLine}
@@ -22,7 +22,7 @@ use Rattle.grs_wire.specs.declared.told.ToldLine.TheVariants as lines
 
 -- What an event of a system tells that fixed this, by the system before and after it and by the mode of the medium:
 -- lines of its tasks, which agree with the history H; or a line of its desk that orders the change to star mode, or the
--- removal of a system.
+-- removal of a system, behind which its tasks may be told control that they got by it.
 pub data EventTells (deck : Deck) (c : SysId) (H : List HistEntry) (fixed : List Fixed) (n k : NodeState)
     (before after : Bool) :
     Type 0 where
@@ -36,6 +36,10 @@ pub data EventTells (deck : Deck) (c : SysId) (H : List HistEntry) (fixed : List
       → before ≡ true → after ≡ true → EventTells deck c H fixed n k before after
   tells_removed : (target : SysId) → next_order deck n ≡ Some (orders.Vary target)
       → k.tasks.told ≡ n.tasks.told ++ lines.Desk (n.done + 1) saids.VaryDone ∷ [] → k.done ≡ n.done + 1
+      → after ≡ before → fixed ≡ Purged target ∷ [] → EventTells deck c H fixed n k before after
+  tells_lost : (target : SysId) → next_order deck n ≡ Some (orders.Vary target) → (T1 : List ToldLine)
+      → T1 ≡ n.tasks.told ++ lines.Desk (n.done + 1) saids.VaryDone ∷ [] → ToldNews deck c.0 H T1 k.tasks.told
+      → k.done ≡ n.done + 1
       → after ≡ before → fixed ≡ Purged target ∷ [] → EventTells deck c H fixed n k before after
   tells_no_such : (target : SysId) → next_order deck n ≡ Some (orders.Vary target)
       → k.tasks.told ≡ n.tasks.told ++ lines.Desk (n.done + 1) saids.VaryNoSuch ∷ [] → k.done ≡ n.done + 1
@@ -128,6 +132,10 @@ module _ (deck : Deck) (es : List Event) (w : World) (g : GoodTold deck es w) (d
       at_desk (n.done + 1) saids.VaryDone told (λ m is fit.
       by_cause m (orders.Vary target) saids.VaryDone next is.before
       (ap (purges c target) (is.fixed ∙ ap (fixed_by c) one) ∙ purged-now target))
+  desk-agrees H fixed k after (tells_lost target next T1 first news done mode one) =
+      at_desk_first (n.done + 1) saids.VaryDone T1 first (λ m is fit.
+      by_cause m (orders.Vary target) saids.VaryDone next is.before
+      (ap (purges c target) (is.fixed ∙ ap (fixed_by c) one) ∙ purged-now target)) news
   desk-agrees H fixed k after (tells_no_such target next told done mode gone) =
       at_desk (n.done + 1) saids.VaryNoSuch told (λ m is fit.
       by_cause m (orders.Vary target) saids.VaryNoSuch next is.before
@@ -310,6 +318,28 @@ module _ (deck : Deck) (w : World) (d : GoodDesks deck w) (c : SysId) (n : NodeS
       desks-behind (lines.Desk (n.done + 1) saids.VaryDone ∷ []) told
       (or-false (w.medium.star && not deck.star) ∙ ap (λ b. b && not deck.star) (sym mode)) (more-done done)
       (one-desk saids.VaryDone done) (next-told saids.VaryDone done)
+  desks-after H (tells_lost target next T1 first news done mode one) =
+      desks-behind (line ∷ news.lines)
+      (news.is ∙ (ap (λ xs. xs ++ news.lines) first ∙ append_assoc n.tasks.told (line ∷ []) news.lines))
+      (ap (λ b. (w.medium.star && not deck.star) || b) (none-star c.0 news.lines news.ours)
+      ∙ (or-false (w.medium.star && not deck.star) ∙ ap (λ b. b && not deck.star) (sym mode)))
+      (more-done done)
+      (and_from (is_desk_told c.0 (o.step.node.done + 1) (record { event = e; system = c; line = line }))
+      (list_all (is_desk_told c.0 (o.step.node.done + 1)) (told_by e c news.lines))
+      (and_parts (is_desk_told c.0 (o.step.node.done + 1) (record { event = e; system = c; line = line })) true
+      (one-desk saids.VaryDone done)).0
+      (tasks-before c.0 (o.step.node.done + 1) e c news.lines news.ours))
+      (λ k low l. reach k (next-told saids.VaryDone done k low l))
+    where
+      line : ToldLine
+      line = lines.Desk (n.done + 1) saids.VaryDone
+
+      reach : (k : ℕ) → (k ≤ n.done) ⊎ ((is_desk_line k line || false) ≡ true)
+          → (k ≤ n.done) ⊎ ((is_desk_line k line || list_any (is_desk_line k) news.lines) ≡ true)
+      reach k (inl l) = inl l
+      reach k (inr h) =
+          inr (or_left (is_desk_line k line) (list_any (is_desk_line k) news.lines)
+          (sym (or-false (is_desk_line k line)) ∙ h))
   desks-after H (tells_no_such target next told done mode gone) =
       desks-behind (lines.Desk (n.done + 1) saids.VaryNoSuch ∷ []) told
       (or-false (w.medium.star && not deck.star) ∙ ap (λ b. b && not deck.star) (sym mode)) (more-done done)

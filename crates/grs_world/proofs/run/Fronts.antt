@@ -133,9 +133,8 @@ module _ (deck : Deck) (w : World) (right : IsHistory deck (items w.fixed)) (bef
       ∙ table-is (items front)
       ∙ ap systems_part (replayed ∙ ap (λ fs. replay deck.limit (answered fs)) (sym is))
 
-pub tables_fronts : (deck : Deck) → (may_be_star deck ≡ true → FitsStar deck) → (es : List Event) → NoneInStar deck es
-    → TablesAreFronts deck es
-tables_fronts deck fits es none s n at keeps = by_run (every_run deck fits es none)
+pub good_tables : (deck : Deck) (es : List Event) → GoodRun deck es (run deck es) → TablesAreFronts deck es
+good_tables deck es good s n at keeps = by_run good
   where
     w : World
     w = run deck es
@@ -172,3 +171,7 @@ tables_fronts deck fits es none s n at keeps = by_run (every_run deck fits es no
         table_is deck w g.history g.before (rounds (items w.fixed)) [] (g.later s.0) s n
         (sym (append-nil (rounds (items w.fixed)))) (g.whole s.0) here g.message (g.systems s.0 n at here).shared
     by_run (in_star f g told d) = let old = g.shown s.0 n at unremoved in by_shown g old.0 n at alone old.1 old.2
+
+pub tables_fronts : (deck : Deck) → (may_be_star deck ≡ true → FitsStar deck) → (es : List Event) → NoneInStar deck es
+    → TablesAreFronts deck es
+tables_fronts deck fits es none = good_tables deck es (every_run deck fits es none)

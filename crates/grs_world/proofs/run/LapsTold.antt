@@ -29,7 +29,8 @@ use Rattle.grs_world.proofs.run.Each.{run-push}
 use Rattle.grs_world.proofs.system.AtNode.{QuietStep, keeps, fixes, Seen}
 use Rattle.grs_world.proofs.system.Quiet.{quiet}
 use Rattle.grs_world.proofs.run.Home.{IsHome, AllHome, all_home}
-use Rattle.grs_world.proofs.run.Desks.{EventTells, tells_already, tells_done, tells_no_such, tells_removed, tells_tasks}
+use Rattle.grs_world.proofs.run.Desks.{EventTells, tells_already, tells_done, tells_lost, tells_no_such, tells_removed}
+use Rattle.grs_world.proofs.run.Desks.{tells_tasks}
 use Rattle.grs_world.proofs.move.Begin.{switched-moved}
 use Rattle.grs_world.proofs.move.Decks.{order-may}
 use Rattle.grs_world.proofs.system.Desks.{desk-told}
@@ -323,6 +324,8 @@ module _ (deck : Deck) (begins : deck.star ≡ false) (fits : may_be_star deck �
         changes H x (tells_already next told done was now) =
             by_desk n alive_here (g.later s) given x (n.done + 1) saids.StarAlready told
         changes H x (tells_removed target next told done mode one) =
+            absurd (let z : true ≡ false = mode ∙ ring.mode in cc)
+        changes H x (tells_lost target next T1 first news done mode one) =
             absurd (let z : true ≡ false = mode ∙ ring.mode in cc)
         changes H x (tells_no_such target next told done mode gone) =
             absurd (let z : true ≡ false = mode ∙ ring.mode in cc)

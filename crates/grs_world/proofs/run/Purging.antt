@@ -36,7 +36,7 @@ target-fits deck n target fit next =
     target-of deck n target (length deck.systems) (orders-at (length deck.systems) deck.systems n.tasks.system fit) next
 
 -- its desk commands the removal
-commands : (deck : Deck) (n : NodeState) (target : SysId) → next_order deck n ≡ Some (orders.Vary target)
+pub commands : (deck : Deck) (n : NodeState) (target : SysId) → next_order deck n ≡ Some (orders.Vary target)
     → commands_removal target (slice_get deck.systems n.tasks.system) ≡ true
 commands deck n target next = by_system (slice_get deck.systems n.tasks.system) next
   where

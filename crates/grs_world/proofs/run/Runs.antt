@@ -175,13 +175,16 @@ pub record IsMoment (w : World) (H : List HistEntry) (fs : List (SysId × Fixed)
   pub fixed : m.fixed ≡ fs
 
 -- What an event of system c tells that fixed this, where this was told before it: lines of its tasks that agree with
--- the history H, or one line of its desk.
+-- the history H, or one line of its desk, or such a line and then lines of its tasks.
 pub data Tells (deck : Deck) (w : World) (c : SysId) (H : List HistEntry) (fixed : List Fixed) (T0 T : List ToldLine) :
     Type 0 where
   to_tasks : ToldNews deck c.0 H T0 T → Tells deck w c H fixed T0 T
   at_desk : (k : ℕ) (said : Said) → T ≡ T0 ++ lines.Desk k said ∷ []
       → ((m : Moment) → IsMoment w H (fixed_by c fixed) m → OrdersFit deck → DeskAgrees deck m (w.events + 1) c k said)
       → Tells deck w c H fixed T0 T
+  at_desk_first : (k : ℕ) (said : Said) (T1 : List ToldLine) → T1 ≡ T0 ++ lines.Desk k said ∷ [] →
+      ((m : Moment) → IsMoment w H (fixed_by c fixed) m → OrdersFit deck → DeskAgrees deck m (w.events + 1) c k said)
+      → ToldNews deck c.0 H T1 T → Tells deck w c H fixed T0 T
 
 module _ (deck : Deck) (es : List Event) (e : Event) (n : NodeState)
     (at : slice_get (run deck es).nodes e.system.0 ≡ Some n) (g : GoodTold deck es (run deck es)) (o : Turnout)
@@ -282,6 +285,32 @@ module _ (deck : Deck) (es : List Event) (e : Event) (n : NodeState)
   told-after (at_desk k said now agrees) =
       told-behind (lines.Desk k said ∷ []) now (λ u ne. refl)
       (λ fit. (agrees (moment deck (es ++ e ∷ []) (told_world.events + 1) told_world.told) told_moment fit, tt))
+  told-after (at_desk_first k said T1 first agrees news) =
+      told-behind (line ∷ news.lines)
+      (news.is ∙ (ap (λ xs. xs ++ news.lines) first ∙ append_assoc n.tasks.told (line ∷ []) news.lines))
+      (λ u ne. lines-apart e.system.0 u news.lines ne news.ours)
+      (λ fit. (
+        agrees (moment deck (es ++ e ∷ []) (told_world.events + 1) told_world.told) told_moment fit,
+        agree-new deck (es ++ e ∷ []) (told_world.events + 1) e.system (told_world.told ++ desk ∷ []) news.lines
+            told_number news.ours
+            (subst (λ H. LinesAgree deck H (lines_of_told (told_world.told ++ desk ∷ [])) news.lines)
+            (sym told_history) (news.agree (lines_of_told (told_world.told ++ desk ∷ [])) own)),
+      ))
+    where
+      line : ToldLine
+      line = lines.Desk k said
+
+      desk : Told
+      desk = record { event = told_world.events + 1; system = e.system; line = lines.Desk k said }
+
+      own : filter (is_line_of e.system.0) T1
+          ≡ filter (is_line_of e.system.0) (lines_of_told (told_world.told ++ desk ∷ []))
+      own =
+          ap (filter (is_line_of e.system.0)) first
+          ∙ (filter-append (is_line_of e.system.0) n.tasks.told (line ∷ [])
+          ∙ (ap (λ (z : List ToldLine). z ++ []) (g.lines e.system.0 n at)
+          ∙ (sym (filter-append (is_line_of e.system.0) (lines_of_told told_world.told) (line ∷ []))
+          ∙ ap (filter (is_line_of e.system.0)) (sym (lines_of_told-append told_world.told (desk ∷ []))))))
 
 -- the world after an event of a system, whose outcome is known
 module _ (deck : Deck) (es : List Event) (e : Event) (g : GoodWorld deck es (run deck es)) (n : NodeState)

@@ -7,15 +7,15 @@ use Rattle.grs_world.specs.InStar.{removals_from}
 use Rattle.grs_world.proofs.run.Each.{each_run}
 use Rattle.grs_world.proofs.run.InRing.{star-stays}
 
-no-front : {X : Type 0} (xs ys : List X) → xs ++ ys ≡ [] → xs ≡ []
+pub no-front : {X : Type 0} (xs ys : List X) → xs ++ ys ≡ [] → xs ≡ []
 no-front [] ys h = refl
 no-front (x ∷ xs) ys h = absurd (cc)
 
-no-back : {X : Type 0} (xs ys : List X) → xs ++ ys ≡ [] → ys ≡ []
+pub no-back : {X : Type 0} (xs ys : List X) → xs ++ ys ≡ [] → ys ≡ []
 no-back [] ys h = h
 no-back (x ∷ xs) ys h = absurd (cc)
 
-not-removed : (b : Bool) (m : MediumState) → cond b (m ∷ []) [] ≡ [] → b ≡ false
+pub not-removed : (b : Bool) (m : MediumState) → cond b (m ∷ []) [] ≡ [] → b ≡ false
 not-removed true m h = absurd (cc)
 not-removed false m h = refl
 

@@ -86,7 +86,7 @@ abbrev pub manager_goes : Deck
 manager_goes =
     at_desk 1 (vary 0 ∷ []) (star_of (((one ∷ []) ∷ []) ∷ ((one ∷ []) ∷ []) ∷ ((one ∷ []) ∷ (share ∷ []) ∷ []) ∷ []))
 
-abbrev all_asked : List Event
+abbrev pub all_asked : List Event
 all_asked =
     goes 0 0 ∷ sends 0 0 ∷ goes 2 0 ∷ sends 2 0 ∷ goes 1 0 ∷ sends 1 0 ∷ takes 0 ∷ settles 0 ∷ takes 0 ∷ settles 0
     ∷ goes 2 1 ∷ sends 2 1 ∷ takes 0 ∷ []
@@ -166,12 +166,12 @@ manager_gone = (refl, refl, refl, refl, refl)
 -- The second system's first task waits, and its answer is still in its inbox (event 12); the manager holds the request
 -- of its second task too, and one of the third system, which removes the second (13). The manager learns of it in event
 -- 14, and then settles the third one's request.
-abbrev asker_goes : Deck
+abbrev pub asker_goes : Deck
 asker_goes =
     at_desk 2 (vary 1 ∷ [])
     (star_of (((share ∷ []) ∷ []) ∷ ((one ∷ []) ∷ (share ∷ []) ∷ []) ∷ ((share ∷ []) ∷ []) ∷ []))
 
-abbrev one_answered : List Event
+abbrev pub one_answered : List Event
 one_answered =
     goes 0 0 ∷ sends 0 0 ∷ goes 1 0 ∷ sends 1 0 ∷ goes 1 1 ∷ sends 1 1 ∷ goes 2 0 ∷ sends 2 0 ∷ takes 0 ∷ takes 0
     ∷ takes 0 ∷ settles 0 ∷ []

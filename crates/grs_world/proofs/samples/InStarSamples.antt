@@ -10,7 +10,8 @@ use Rattle.grs_world.proofs.Common.{switch_row, switched, SystemDef, take_up_bel
 use Rattle.grs_world.proofs.Common.{told, true, turn_reply, turn_row, turned, unseen, VaryDone, wakes, with_also}
 use Rattle.grs_world.proofs.Common.{without, ℕ}
 use Rattle.grs_node.specs.Node.{turned as system_turned}
-use Rattle.grs_world.specs.InStar.{removals_in_star}
+use Rattle.lock_structure.specs.Purge.{purged_word}
+use Rattle.grs_world.specs.InStar.{NoneTakesEntries, have_changed, removals_in_star, takings_from}
 use Rattle.grs_wire.specs.declared.told.Said.TheVariants.{StarAlready, VaryNoSuch}
 use Rattle.grs_wire.specs.declared.deck.Desk.{Desk}
 use Rattle.grs_wire.specs.declared.told.ToldLine.TheVariants.{Desk as AtDesk}
@@ -37,6 +38,10 @@ change = record { at = 0; order = orders.Star }
 -- which were removed already where one is removed in star mode
 abbrev removed_at : Deck → List Event → List ℕ
 removed_at deck es = map (λ m. m.removed) (removals_in_star deck es)
+
+-- and where one is removed in star mode that manages a lock entry, or before all have changed
+abbrev taken_at : Deck → List Event → List ℕ
+taken_at deck es = map (λ m. m.removed) (takings_from deck (first_world deck) es)
 
 -- In star mode the first system removes the third (1). The second doesn't know it (2), and then finds no such system
 -- (3), which removes nobody; then it removes the fourth (4).
@@ -113,12 +118,17 @@ pub samples :
     × (NoneInStar changing (changed ++ behind))
     × (removed_at changing (changed ++ behind ++ last) ≡ 8 ∷ [])
     × (map (λ m. m.message.still) (removals_in_star changing (changed ++ behind ++ last)) ≡ 6 ∷ [])
+    -- of whom none manages an entry; but two systems have still to change where the last removes one
+    × (NoneTakesEntries star twice)
+    × (NoneTakesEntries changing (changed ++ behind))
+    × (taken_at changing (changed ++ behind ++ last) ≡ 8 ∷ [])
+    × (have_changed 8 0 (run changing (changed ++ behind)).nodes ≡ false)
     × (told changing (changed ++ behind ++ last)
     ≡ at 1 0 (AtDesk 1 VaryDone) ∷ at 3 0 (AtDesk 2 StarDone) ∷ at 5 1 (AtDesk 1 VaryNoSuch)
     ∷ at 6 1 (AtDesk 2 StarAlready) ∷ at 7 1 (AtDesk 3 VaryDone) ∷ [])
 unfolding telling is_pending all_sent change_to_star prepare finish_quiet finish_call finish finish_star first_node
     read_entries put_in switched desk_told purged system_turned process process_entry manager lock_word has without
-    with_also purge_row switch_row turn_row row apply unseen any_unseen cleared stamped turn_reply
+    with_also purged_word purge_row switch_row turn_row row apply unseen any_unseen cleared stamped turn_reply
     wakes rest_after_turn dropped departed turned closed_by first_after first_world carry_out chosen placed happens_at
     happens losing members_below lose_each take_up_below stale tell_each tell_freed
-samples = (refl, refl, refl, refl, refl, refl, refl, refl, refl, refl, refl, refl)
+samples = (refl, refl, refl, refl, refl, refl, refl, refl, refl, refl, refl, refl, refl, refl, refl, refl)

@@ -210,7 +210,7 @@ shows-phase limit k p is t ls phases.HeldAnswer = record { node = refl; fixed = 
 shows-phase limit k p is t ls (phases.HeldLine r) = record { node = refl; fixed = refl }
 shows-phase limit k p is t ls phases.Ended = record { node = refl; fixed = refl }
 
-shows-task : (limit : ℕ) (k : NodeState) (p : StarPart) → k.star ≡ Some p → (t : TaskId) (o : Option (List Meaning))
+pub shows-task : (limit : ℕ) (k : NodeState) (p : StarPart) → k.star ≡ Some p → (t : TaskId) (o : Option (List Meaning))
     → Shows (task_step limit (ghosted k) t o) (task_step limit k t o)
 shows-task limit k p is t None = record { node = refl; fixed = refl }
 shows-task limit k p is t (Some ls) = shows-phase limit k p is t ls (state_of k.tasks t).phase

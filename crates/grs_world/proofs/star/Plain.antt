@@ -160,7 +160,7 @@ of-below (suc k) m f v h = go (has m k) (of-below k m f v) h
     go true more h = one more h (ℕ_discrete v k)
     go false more h = more h
 
-of-those : (m f v : ℕ) → has (without_those m f) v ≡ true → has f v ≡ true
+pub of-those : (m f v : ℕ) → has (without_those m f) v ≡ true → has f v ≡ true
 of-those m f v h = of-below most_systems m f v h
 
 module _ (deck : Deck) (m : MediumState) (s : SysId) (n : NodeState) (p : StarPart) (u : IsUsual deck m s n p) where

@@ -46,7 +46,7 @@ module _ (deck : Deck) (some : 0 < deck.entries) (w : World) (g : IsWhole deck w
   acts-outcome o (told e x first) = outcome-tell deck w g c n at e x first
   acts-outcome o (left x flags free by) = outcome-leave deck some w g c inside n at x free by flags
 
-  came-outcome : GoneAreRemoved deck w → (o : Turnout) → Came deck w.medium c n p o → Comes deck w g c n o
+  pub came-outcome : GoneAreRemoved deck w → (o : Turnout) → Came deck w.medium c n p o → Comes deck w g c n o
   came-outcome removed o (nothing flags) = comes-nothing deck w g c n at flags
   came-outcome removed o (informed known) = comes-known deck w g c n at known
   came-outcome removed o (went_on t may) = outcome-task deck w g c n at t may

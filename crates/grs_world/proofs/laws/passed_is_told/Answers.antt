@@ -1,5 +1,5 @@
-use Rattle.grs_world.proofs.at_rest.Passing.{passed-told}
+use Rattle.grs_world.proofs.loss.Laws.{losses_passed}
 use Rattle.grs_world.proofs.laws.passed_is_told.Goals as goal
 
 pub returns : goal.returns
-returns c = passed-told
+returns c = losses_passed

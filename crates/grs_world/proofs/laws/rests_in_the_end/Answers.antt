@@ -1,5 +1,5 @@
-use Rattle.grs_world.proofs.at_rest.End.{rests}
+use Rattle.grs_world.proofs.loss.AtRest.{losses_rest}
 use Rattle.grs_world.proofs.laws.rests_in_the_end.Goals as goal
 
 pub returns : goal.returns
-returns c = rests
+returns c = losses_rest

@@ -1,5 +1,5 @@
-use Rattle.grs_world.proofs.run.Fronts.{tables_fronts}
+use Rattle.grs_world.proofs.loss.Laws.{losses_tables}
 use Rattle.grs_world.proofs.laws.tables_are_fronts.Goals as goal
 
 pub returns : goal.returns
-returns c = tables_fronts
+returns c = losses_tables

@@ -1,0 +1,20 @@
+-- Removals in star mode of systems that manage no lock entry.
+pub mod Losing
+pub mod Tells
+pub mod Leaves
+pub mod Words
+pub mod View
+pub mod Without
+pub mod Purging
+pub mod Removed
+pub mod Views
+pub mod Steps
+pub mod Begin
+pub mod Spared
+pub mod Run
+pub mod Kept
+pub mod Laws
+pub mod Marks
+pub mod Hears
+pub mod Heard
+pub mod AtRest
