@@ -16,6 +16,7 @@ use Rattle.grs_node.specs.Node.{NodeState, prepare, star_call, star_need, prepar
 use Rattle.grs_node.specs.Node.{next_order, switch_call, purge_call, turn_call, may_go, is_pending}
 use Rattle.grs_node.specs.Names.{names_of}
 use Rattle.grs_node.specs.Star.{StarPart, send_of, send_to, leave_by, may_leave, gathers, entry_for, entry_asked}
+use Rattle.grs_node.specs.Room.{is_command}
 use Rattle.grs_node.specs.Star.{gathers_asked, manages_if_asked, was_prepared, managing, begun, first_held}
 use Rattle.grs_node.specs.Star.{settle_by, to_tell, tell_by, part_by, owed_to}
 use Rattle.grs_node.specs.declared.prepared.Prepared.TheVariants.{Quiet, Call, Nothing}
@@ -280,6 +281,29 @@ module _ (deck : Deck) (n : NodeState) (reply : Reply) (only : OfDesk reply) whe
   ordered (choices.Part e) k = absurd (star-none (choices.Part e) n.star k)
   ordered (choices.Leave e) k = absurd (star-none (choices.Leave e) n.star k)
 
+  -- and where it was asked by a command of the desk
+  commanded : (choice : Choice) → may_come (prepare deck n choice) reply ≡ true → is_command choice ≡ true
+  unfolding prepare
+  commanded choices.Switch k = refl
+  commanded (choices.Purge s) k = refl
+  commanded (choices.Task t) k = absurd (go (may_go deck n t) k)
+    where
+      go : (b : Bool) → may_come (cond b Quiet Nothing) reply ≡ true → ⊥
+      go true j = cc
+      go false j = cc
+  commanded choices.Turn k = absurd (turn-none n.star k)
+  commanded choices.Rest k = absurd (go (is_pending deck n) k)
+    where
+      go : (b : Bool) → may_come (cond b Nothing (Call (record { known = n.known; act = acts.Rest }))) reply ≡ true → ⊥
+      go true j = cc
+      go false j = true≢false (sym j ∙ only acts.Rest refl)
+  commanded (choices.Send t) k = absurd (star-none (choices.Send t) n.star k)
+  commanded choices.Take k = absurd (star-none choices.Take n.star k)
+  commanded choices.Settle k = absurd (star-none choices.Settle n.star k)
+  commanded (choices.Tell e) k = absurd (star-none (choices.Tell e) n.star k)
+  commanded (choices.Part e) k = absurd (star-none (choices.Part e) n.star k)
+  commanded (choices.Leave e) k = absurd (star-none (choices.Leave e) n.star k)
+
 -- so a system that tells of its desk has a command there that isn't done
 pub switched-orders : (deck : Deck) (n : NodeState) (choice : Choice)
     → may_come (prepare deck n choice) replies.Switched ≡ true
@@ -302,6 +326,16 @@ pub no_such-orders : (deck : Deck) (n : NodeState) (choice : Choice)
 no_such-orders deck n choice h few = omega (arith, ordered deck n replies.NoSuch of-no_such choice h, few)
 
 pub ruleset ordered_desk = (switched-orders, already-orders, purged-orders, no_such-orders)
+
+pub already-commands : (deck : Deck) (n : NodeState) (choice : Choice)
+    → may_come (prepare deck n choice) replies.Already ≡ true → is_command choice ≡ true
+already-commands deck n choice h = commanded deck n replies.Already of-already choice h
+
+pub no_such-commands : (deck : Deck) (n : NodeState) (choice : Choice)
+    → may_come (prepare deck n choice) replies.NoSuch ≡ true → is_command choice ≡ true
+no_such-commands deck n choice h = commanded deck n replies.NoSuch of-no_such choice h
+
+pub ruleset commands = (already-commands, no_such-commands)
 
 -- ---- what a removal that is commanded is of
 order-at : (P : Order → Type 0) (cs : List Desk) (k : ℕ) (o : Order) → All (λ (c : Desk). P c.order) cs

@@ -5,6 +5,7 @@ pub mod Deck
 pub mod Finish
 pub mod Flags
 pub mod Calls
+pub mod Little
 pub mod Keeping
 pub mod Tables
 pub mod SentAgain
@@ -29,3 +30,4 @@ pub mod TableParts
 pub mod ChangeSamples
 pub mod ShowSamples
 pub mod RemovalSamples
+pub mod RoomSamples

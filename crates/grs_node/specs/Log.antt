@@ -9,18 +9,35 @@ use Rattle.grs_wire.specs.declared.seen.TaskEnd.{TaskEnd}
 use Rattle.grs_wire.specs.declared.seen.TaskEnd.TheVariants as ends
 use Rattle.grs_wire.specs.declared.told.ToldLine.{ToldLine}
 use Rattle.grs_node.specs.Node.{NodeState, Step, first_node, finish}
+use Rattle.grs_node.specs.declared.ready.ToldNext.{ToldNext}
 use Rattle.task_state.specs.declared.state.Phase.{Phase}
 use Rattle.task_state.specs.declared.state.Phase.TheVariants as phases
 
--- a system, the deck whose system it is, and its events so far
+-- What a system has ready for a reply: for how many events more the log has room, for how many told lines there is room
+-- in all, for how many that an event told, and who is told next at a lock entry.
+pub record Room : Type 0 where
+  pub steps : ℕ
+  pub lines : ℕ
+  pub told : ℕ
+  pub next : Option ToldNext
+
+-- a system, the deck whose system it is, its events so far, and what it has ready
 pub record NodeView : Type 0 where
   pub deck : Deck
   pub node : NodeState
   pub log : List StepDone
+  pub room : Room
+
+abbrev pub no_room : Room
+no_room = record { steps = 0; lines = 0; told = 0; next = None }
+
+-- a system as definitions speak of it: whatever it has ready is left out of account
+abbrev pub shown : NodeView → NodeView
+shown v = record v { room = no_room }
 
 -- the system of this number of a deck before its first event
 abbrev pub starting : Deck → ℕ → NodeView
-starting deck s = record { deck = deck; node = first_node deck s; log = [] }
+starting deck s = record { deck = deck; node = first_node deck s; log = []; room = no_room }
 
 -- a system after a step that fixed this
 abbrev pub stepped : NodeState → List Fixed → Step
@@ -42,7 +59,7 @@ step_done n choice journalled s = record {
 -- the same with this step behind its events
 abbrev pub logged : NodeView → Choice → Bool → Step → NodeView
 logged v choice journalled
-    s = record { deck = v.deck; node = s.node; log = v.log ++ step_done v.node choice journalled s ∷ [] }
+    s = record v { node = s.node; log = v.log ++ step_done v.node choice journalled s ∷ [] }
 
 -- The system after a choice. What is done without a call goes into the log, and a call exactly where it has an
 -- entry in the journal.

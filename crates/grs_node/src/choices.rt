@@ -4,6 +4,7 @@ ghost use Rattle.std.specs.List.{list_all, list_any};
 ghost use Rattle.std.specs.Option.{option_copied};
 ghost use Rattle.grs_base.specs.Limits.{most_additions};
 ghost use Rattle.grs_node.specs.Names.{names_of};
+ghost use Rattle.grs_node.specs.Room.{told_next};
 ghost use Rattle.grs_node.specs.Node as steps;
 ghost use Rattle.grs_node.specs.Removal.{IsOrderly};
 ghost use Rattle.grs_node.specs.Star.{is_owed_named};
@@ -15,7 +16,7 @@ use super::prepared::Prepared;
 use super::scripts::{Script, is_of_deck, lines_among, system_at};
 use super::star::{Need, StarPart, any_to_send, is_to_send};
 use super::state::NodeState;
-use grs_base::{List, NoMemory, TaskId, copy_all};
+use grs_base::{List, NoMemory, Res, TaskId, copy_all};
 use grs_wire::{Act, Call, Choice, Deck, Req, SystemDef};
 use std::alloc::Global;
 use task_state::TaskState;
@@ -87,6 +88,16 @@ impl NodeState {
         ensures { result ≡ steps.may_send deck.now self.now task }
     {
         self.tasks.has(task) && is_of_deck(deck, task) && is_to_send(self.tasks.phase(task))
+    }
+
+    /// Who is told next at a lock entry.
+    pub(crate) fn told_next(&self, entry: u32) -> Result<Option<(TaskId, Res)>, NoMemory>
+        ensures { IfOk result (λ owner. owner ≡ told_next self.now.star entry) }
+    {
+        match &self.star {
+            None => Ok(None),
+            Some(part) => part.to_tell(entry),
+        }
     }
 
     /// Copies of the requests that a Turn puts in.

@@ -1,5 +1,5 @@
 //! The commands of a system's desk: which one is next, what it asks of the medium, and that it is done.
-ghost use Rattle.std.specs.Prelude.{◌≡◌, ◌≢◌, ◌<◌, ◌∷◌, [], length, replicate, slice_get, IfOk, IfSome, OnOk};
+ghost use Rattle.std.specs.Prelude.{◌≡◌, ◌≢◌, ◌<◌, ◌≤◌, ◌++◌, ◌∷◌, [], length, replicate, slice_get, vec_capacity, IfOk, IfSome, OnOk};
 ghost use Rattle.std.specs.Option.{option_map};
 ghost use Rattle.grs_base.specs.Limits.{most_commands, most_systems};
 ghost use Rattle.grs_wire.specs.declared.deck.Deck.{Deck as DeckValue};
@@ -11,6 +11,7 @@ ghost use Rattle.grs_node.specs.Names.{names_of};
 ghost use Rattle.grs_node.specs.Node as steps;
 
 use super::prepared::Prepared;
+use super::ready::Ready;
 use super::scripts::system_at;
 use super::state::NodeState;
 use grs_base::{List, NoMemory, SysId, TaskId};
@@ -149,5 +150,26 @@ impl NodeState {
         self.tasks.tell(ToldLine::Desk { k, said })?;
         self.done = k;
         Ok(())
+    }
+
+    /// The next command is done, and told like this, where there is room: so it takes no memory. It gives the line that is told.
+    #[tactic(auto, using(crate::proofs::Kept::kept), unfolding(crate::specs::Node::desk_told))]
+    pub(crate) fn desk_told_within(&mut self, said: Said, ready: Ready) -> List<ToldLine>
+        requires desk { self.old.done < most_commands }
+        requires no_lines { ready.lines.items ≡ [] }
+        requires no_told { ready.told.items ≡ [] }
+        requires lines { length self.old.tasks.told < vec_capacity ready.lines }
+        requires told { 1 ≤ vec_capacity ready.told }
+        ensures step { self.new ≡ steps.desk_told self.old said }
+        ensures system { self.new.tasks.system ≡ self.old.tasks.system }
+        ensures told { self.new.tasks.told ≡ self.old.tasks.told ++ result }
+    {
+        let k = self.done + 1;
+        let mut told = ready.told;
+        told.push_reserved(ToldLine::Desk { k, said });
+        self.done += 1;
+        self.tasks
+            .tell_within(ToldLine::Desk { k, said }, ready.lines);
+        List::from_vec(told)
     }
 }

@@ -9,6 +9,7 @@ pub mod laws;
 mod lines;
 mod node;
 mod prepared;
+mod ready;
 mod removal;
 mod replies;
 mod scripts;
@@ -20,5 +21,6 @@ mod turn;
 
 pub use node::Node;
 pub use prepared::Prepared;
+pub use ready::ToldNext;
 pub use replies::leaves_all;
 pub use star::Need;

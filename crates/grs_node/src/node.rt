@@ -9,18 +9,20 @@ ghost use Rattle.grs_node.specs.Node as steps;
 ghost use Rattle.grs_node.specs.Finish.{MayFinish, may_come};
 ghost use Rattle.grs_node.specs.Addressed.{is_addressed};
 ghost use Rattle.grs_wire.specs.Unseen.{unseen};
+ghost use Rattle.grs_node.specs.Room.{needs_no_memory, is_call, next_for, HasRoomFor};
 ghost use Rattle.grs_node.specs.TurnCalls.{turn_of, take_of};
-ghost use Rattle.grs_wire.specs.declared.deck.Choice.TheVariants.{Turn, Take};
+ghost use Rattle.grs_wire.specs.declared.deck.Choice.TheVariants.{Turn, Take, Tell};
 ghost use Rattle.grs_wire.specs.declared.medium.Reply.TheVariants.{Turned};
-ghost use Rattle.grs_node.specs.Log.{starting, stepped, finished, end_in};
+ghost use Rattle.grs_node.specs.Log.{shown, starting, stepped, finished, end_in};
 ghost use Rattle.grs_node.specs.declared.prepared.Prepared.TheVariants.{Quiet, Call, Nothing};
 
 use super::lines::end_by;
 use super::prepared::Prepared;
+use super::ready::{Ready, ToldNext, make_room, needs_no_memory};
 use super::scripts::{Script, names_of, scripts_of};
 use super::state::NodeState;
 use grs_base::{List, NoMemory, SysId, TaskId, copy_all};
-use grs_wire::{Choice, Deck, Fixed, NodeLog, Reply, Req, RingEntry, StepDone, TaskEnd, ToldLine};
+use grs_wire::{Choice, Deck, Fixed, Reply, Req, RingEntry, StepDone, TaskEnd, ToldLine};
 use scope_resolve::Resolver;
 use std::alloc::Global;
 use std::marker::Model;
@@ -33,22 +35,24 @@ pub struct Node<'d> {
     scripts: List<Script<'d>>,
     names: List<TaskId>,
     state: NodeState,
-    log: NodeLog,
+    steps: Vec<StepDone>,
+    ready: Ready,
     alloc: Global,
 }
 
 impl<'d> Model for Node<'d> {
-    ghost use Rattle.std.specs.Prelude.{◌≡◌};
+    ghost use Rattle.std.specs.Prelude.{◌≡◌, ◌-◌, [], vec_len, vec_capacity};
     ghost use Rattle.grs_legal.specs.Asks.{scripts_of};
     ghost use Rattle.grs_node.specs.Addressed.{NodeFits};
     ghost use Rattle.grs_node.specs.Log.{NodeView};
     ghost use Rattle.grs_node.specs.Names.{names_of};
+    ghost use Rattle.grs_node.specs.Room.{IsReady};
 
     ghost Value = { NodeView };
 
-    ghost view = { λ a. record { deck = a.deck.now; node = a.state; log = a.log.steps } };
+    ghost view = { λ a. record { deck = a.deck.now; node = a.state; log = a.steps.items; room = record { steps = vec_capacity a.steps - vec_len a.steps; lines = vec_capacity a.ready.lines; told = vec_capacity a.ready.told; next = a.ready.next } } };
 
-    ghost invariant = { λ a. (a.resolver ≡ a.deck.now.lists) × (a.scripts ≡ scripts_of a.deck.now a.state.tasks.system) × (a.names ≡ names_of a.deck.now a.state.tasks.system) × NodeFits a.deck.now a.state };
+    ghost invariant = { λ a. (a.resolver ≡ a.deck.now.lists) × (a.scripts ≡ scripts_of a.deck.now a.state.tasks.system) × (a.names ≡ names_of a.deck.now a.state.tasks.system) × NodeFits a.deck.now a.state × (a.ready.lines.items ≡ []) × (a.ready.told.items ≡ []) × IsReady a.state.star a.ready.next };
 }
 
 /// The lines from a place on.
@@ -88,7 +92,7 @@ impl<'d> Node<'d> {
     pub fn new(alloc: Global, deck: &'d Deck, system: SysId) -> Result<Node<'d>, NoMemory>
         requires deck { IsBounded deck.now }
         requires system { system.0 < length deck.now.systems }
-        ensures { IfOk result (λ n. n ≡ starting deck.now system.0) }
+        ensures { IfOk result (λ n. shown n ≡ starting deck.now system.0) }
     {
         let scripts = scripts_of(alloc, deck, system)?;
         let names = names_of(alloc, system, scripts.as_slice())?;
@@ -100,20 +104,17 @@ impl<'d> Node<'d> {
             scripts,
             names,
             state,
-            log: NodeLog {
-                steps: List::new(alloc),
-            },
+            steps: Vec::new(alloc),
+            ready: Ready::new(alloc),
             alloc,
         })
     }
 
-    /// What a choice comes to. It changes nothing. A call goes to systems of the deck and to lock entries that there are, and
-    /// removes another system alone.
+    /// What a choice comes to.
     #[tactic(auto, using(crate::proofs::AskFits::prepares))]
-    pub fn prepare(&mut self, choice: &Choice) -> Result<Prepared, NoMemory>
-        ensures prepared { IfOk result (λ prepared. prepared ≡ steps.prepare self.old.deck self.old.node choice.now) }
-        ensures addressed { IfOk result (λ prepared. is_addressed self.old.deck self.old.node.tasks.system prepared ≡ true) }
-        ensures same { self.new ≡ self.old }
+    fn prepared(&self, choice: &Choice) -> Result<Prepared, NoMemory>
+        ensures prepared { IfOk result (λ prepared. prepared ≡ steps.prepare self.now.deck self.now.node choice.now) }
+        ensures addressed { IfOk result (λ prepared. is_addressed self.now.deck self.now.node.tasks.system prepared ≡ true) }
     {
         self.state.prepare(
             self.alloc,
@@ -122,6 +123,106 @@ impl<'d> Node<'d> {
             self.names.as_slice(),
             *choice,
         )
+    }
+
+    /// Whether it is kept who is told next at a lock entry.
+    fn keeps_next(&self, entry: u32) -> bool
+        ensures there { result ≡ true → self.now.room.next ≡ Some (next_for self.now.node.star (Tell entry)) }
+        ensures needed { self.now.room.next ≡ Some (next_for self.now.node.star (Tell entry)) → result ≡ true }
+    {
+        match &self.ready.next {
+            None => false,
+            Some(next) => next.entry == entry,
+        }
+    }
+
+    /// Sees to it that it is kept who is told next at a lock entry.
+    fn keep_next(&mut self, entry: u32) -> Result<(), NoMemory>
+        ensures deck { self.new.deck ≡ self.old.deck }
+        ensures node { self.new.node ≡ self.old.node }
+        ensures log { self.new.log ≡ self.old.log }
+        ensures steps { self.new.room.steps ≡ self.old.room.steps }
+        ensures next { OnOk result (self.new.room.next ≡ Some (next_for self.old.node.star (Tell entry))) }
+        ensures there { self.old.room.next ≡ Some (next_for self.old.node.star (Tell entry)) → IsOk result }
+    {
+        if self.keeps_next(entry) {
+            return Ok(());
+        }
+        let owner = self.state.told_next(entry)?;
+        self.ready.next = Some(ToldNext { entry, owner });
+        Ok(())
+    }
+
+    /// Makes room for the line that tells how a command of the desk ended.
+    fn keep_lines(&mut self) -> Result<(), NoMemory>
+        ensures deck { self.new.deck ≡ self.old.deck }
+        ensures node { self.new.node ≡ self.old.node }
+        ensures log { self.new.log ≡ self.old.log }
+        ensures steps { self.new.room.steps ≡ self.old.room.steps }
+        ensures lines { OnOk result (length self.old.node.tasks.told < self.new.room.lines) }
+        ensures told { OnOk result (1 ≤ self.new.room.told) }
+        ensures there { length self.old.node.tasks.told < self.old.room.lines → 1 ≤ self.old.room.told → IsOk result }
+    {
+        let count = self.state.tasks.told().as_slice().len() + 1;
+        make_room(&mut self.ready.lines, count)?;
+        make_room(&mut self.ready.told, 1)
+    }
+
+    /// Makes room for one step more.
+    fn keep_step(&mut self) -> Result<(), NoMemory>
+        ensures deck { self.new.deck ≡ self.old.deck }
+        ensures node { self.new.node ≡ self.old.node }
+        ensures log { self.new.log ≡ self.old.log }
+        ensures room { OnOk result (1 ≤ self.new.room.steps) }
+        ensures lines { self.new.room.lines ≡ self.old.room.lines }
+        ensures told { self.new.room.told ≡ self.old.room.told }
+        ensures next { self.new.room.next ≡ self.old.room.next }
+        ensures there { 1 ≤ self.old.room.steps → IsOk result }
+    {
+        make_room(&mut self.steps, 1)
+    }
+
+    /// Makes room for a reply to the call that a choice makes, by which little happens. Where there is room, it takes no memory.
+    fn make_ready(&mut self, choice: Choice) -> Result<(), NoMemory>
+        ensures deck { self.new.deck ≡ self.old.deck }
+        ensures node { self.new.node ≡ self.old.node }
+        ensures log { self.new.log ≡ self.old.log }
+        ensures room { OnOk result (HasRoomFor self.new choice) }
+        ensures there { HasRoomFor self.old choice → IsOk result }
+    {
+        self.keep_step()?;
+        match choice {
+            Choice::Switch | Choice::Purge(_) => self.keep_lines(),
+            Choice::Tell(entry) => self.keep_next(entry),
+            Choice::Task(_)
+            | Choice::Turn
+            | Choice::Send(_)
+            | Choice::Take
+            | Choice::Settle
+            | Choice::Part(_)
+            | Choice::Leave(_)
+            | Choice::Rest => Ok(()),
+        }
+    }
+
+    /// What a choice comes to. It changes nothing that is seen of the system. A call goes to systems of the deck and to lock entries
+    /// that there are, and removes another system alone; and for a reply to it by which little happens there is room then.
+    pub fn prepare(&mut self, choice: &Choice) -> Result<Prepared, NoMemory>
+        ensures prepared { IfOk result (λ prepared. prepared ≡ steps.prepare self.old.deck self.old.node choice.now) }
+        ensures addressed { IfOk result (λ prepared. is_addressed self.old.deck self.old.node.tasks.system prepared ≡ true) }
+        ensures deck { self.new.deck ≡ self.old.deck }
+        ensures node { self.new.node ≡ self.old.node }
+        ensures log { self.new.log ≡ self.old.log }
+        ensures room { IfOk result (λ prepared. is_call prepared ≡ true → HasRoomFor self.new choice.now) }
+    {
+        match self.prepared(choice)? {
+            Prepared::Call(call) => {
+                self.make_ready(*choice)?;
+                Ok(Prepared::Call(call))
+            }
+            Prepared::Quiet => Ok(Prepared::Quiet),
+            Prepared::Nothing => Ok(Prepared::Nothing),
+        }
     }
 
     /// The set of the systems that the system knows to be removed, as its Turn says. None exactly in star mode, where a
@@ -174,7 +275,61 @@ impl<'d> Node<'d> {
     {
         let lines = self.state.tasks.told().as_slice();
         let step = step_of(self.alloc, choice, journalled, fixed, lines, place)?;
-        self.log.steps.push(step)
+        match self.steps.push(step) {
+            Ok(()) => Ok(()),
+            Err(_) => Err(NoMemory),
+        }
+    }
+
+    /// Puts an event with an entry in the journal behind the others, which fixed nothing and told this. There is room for it.
+    fn keep_little(&mut self, choice: Choice, told: List<ToldLine>)
+        requires { 1 ≤ self.old.room.steps }
+        ensures log { self.new.log ≡ self.old.log ++ record { choice = choice; journalled = true; fixed = []; told = told } ∷ [] }
+        ensures node { self.new.node ≡ self.old.node }
+        ensures deck { self.new.deck ≡ self.old.deck }
+    {
+        self.steps.push_reserved(StepDone {
+            choice,
+            journalled: true,
+            fixed: List::new(self.alloc),
+            told,
+        });
+    }
+
+    /// What a reply to a call comes to, by which little happens, and what is told by it. There is room for it.
+    #[tactic(auto, using(crate::proofs::Fits::finishes))]
+    fn answered(&mut self, choice: Choice, reply: &Reply) -> List<ToldLine>
+        requires come { may_come (steps.prepare self.old.deck self.old.node choice) reply.now ≡ true }
+        requires little { needs_no_memory reply.now ≡ true }
+        requires room { HasRoomFor self.old choice }
+        ensures step { stepped self.new.node [] ≡ steps.finish_call self.old.deck self.old.node choice reply.now }
+        ensures log { self.new.log ≡ self.old.log }
+        ensures deck { self.new.deck ≡ self.old.deck }
+        ensures system { self.new.node.tasks.system ≡ self.old.node.tasks.system }
+        ensures told { self.new.node.tasks.told ≡ self.old.node.tasks.told ++ result }
+        ensures steps { self.new.room.steps ≡ self.old.room.steps }
+    {
+        let alloc = self.alloc;
+        let deck = self.deck;
+        let ready = std::mem::replace(&mut self.ready, Ready::new(alloc));
+        self.state.answered(alloc, deck, choice, reply, ready)
+    }
+
+    /// Finishes a call that has an entry in the journal with a reply by which little happens. Where there is room for it, that
+    /// takes no memory.
+    #[tactic(auto, using(crate::proofs::Little::told_steps), unfolding(crate::specs::Log::finished, crate::specs::Node::finish))]
+    fn finish_little(&mut self, choice: Choice, reply: &Reply) -> Result<(), NoMemory>
+        requires come { may_come (steps.prepare self.old.deck self.old.node choice) reply.now ≡ true }
+        requires little { needs_no_memory reply.now ≡ true }
+        ensures step { OnOk result (shown self.new ≡ finished (shown self.old) choice (Some (reply.now, true))) }
+        ensures sure { HasRoomFor self.old choice → IsOk result }
+        ensures deck { self.new.deck ≡ self.old.deck }
+        ensures system { self.new.node.tasks.system ≡ self.old.node.tasks.system }
+    {
+        self.make_ready(choice)?;
+        let told = self.answered(choice, reply);
+        self.keep_little(choice, told);
+        Ok(())
     }
 
     /// A choice that is done without a call of the medium.
@@ -188,6 +343,7 @@ impl<'d> Node<'d> {
     {
         let alloc = self.alloc;
         let deck = self.deck;
+        self.ready.next = None;
         match self.state.finish_quiet(
             alloc,
             deck,
@@ -203,10 +359,11 @@ impl<'d> Node<'d> {
         }
     }
 
-    /// What the reply to a call comes to.
+    /// What the reply to a call comes to, by which more than little happens.
     #[tactic(auto, using(crate::proofs::Fits::finishes))]
     fn finish_call(&mut self, choice: Choice, reply: Reply) -> Result<List<Fixed>, NoMemory>
-        requires { may_come (steps.prepare self.old.deck self.old.node choice) reply ≡ true }
+        requires come { may_come (steps.prepare self.old.deck self.old.node choice) reply ≡ true }
+        requires more { needs_no_memory reply ≡ false }
         ensures step { IfOk result (λ fixed. stepped self.new.node fixed ≡ steps.finish_call self.old.deck self.old.node choice reply) }
         ensures log { self.new.log ≡ self.old.log }
         ensures deck { self.new.deck ≡ self.old.deck }
@@ -214,6 +371,7 @@ impl<'d> Node<'d> {
     {
         let alloc = self.alloc;
         let deck = self.deck;
+        self.ready.next = None;
         match self
             .state
             .finish_call(alloc, deck, self.names.as_slice(), choice, reply)
@@ -243,6 +401,7 @@ impl<'d> Node<'d> {
     {
         let alloc = self.alloc;
         let deck = self.deck;
+        self.ready.next = None;
         match self.state.turned_among(
             alloc,
             deck,
@@ -264,7 +423,7 @@ impl<'d> Node<'d> {
     #[tactic(auto, unfolding(crate::specs::Log::finished, crate::specs::Node::finish))]
     fn finish_alone(&mut self, choice: Choice) -> Result<(), NoMemory>
         requires { MayFinish self.old choice None }
-        ensures step { OnOk result (self.new ≡ finished self.old choice None) }
+        ensures step { OnOk result (shown self.new ≡ finished (shown self.old) choice None) }
         ensures deck { self.new.deck ≡ self.old.deck }
         ensures system { self.new.node.tasks.system ≡ self.old.node.tasks.system }
     {
@@ -273,11 +432,13 @@ impl<'d> Node<'d> {
         self.keep(choice, false, fixed, place)
     }
 
-    /// Finishes a call that has an entry in the journal. The event goes into the log.
+    /// Finishes a call that has an entry in the journal with a reply by which more than little happens. The event goes into the
+    /// log.
     #[tactic(auto, unfolding(crate::specs::Log::finished, crate::specs::Node::finish))]
     fn finish_entered(&mut self, choice: Choice, reply: Reply) -> Result<(), NoMemory>
-        requires { may_come (steps.prepare self.old.deck self.old.node choice) reply ≡ true }
-        ensures step { OnOk result (self.new ≡ finished self.old choice (Some (reply, true))) }
+        requires come { may_come (steps.prepare self.old.deck self.old.node choice) reply ≡ true }
+        requires more { needs_no_memory reply ≡ false }
+        ensures step { OnOk result (shown self.new ≡ finished (shown self.old) choice (Some (reply, true))) }
         ensures deck { self.new.deck ≡ self.old.deck }
         ensures system { self.new.node.tasks.system ≡ self.old.node.tasks.system }
     {
@@ -289,22 +450,26 @@ impl<'d> Node<'d> {
     /// Finishes a choice: without a reply what was prepared to be done without a call, else with the reply to
     /// the call that was prepared, and whether the call has an entry in the journal. An event goes into the
     /// log where it made no call, or where its call has such an entry; a call without one leaves all as it was, and
-    /// is never answered NoMemory. After NoMemory the system is to be given up.
+    /// is never answered NoMemory. After NoMemory the system is to be given up. It never comes for a reply by which little
+    /// happens, where there is room for that, as `prepare` makes it.
     #[tactic(auto, using(crate::proofs::Finish::leaving))]
     pub fn finish(&mut self, choice: &Choice, reply: Option<(Reply, bool)>) -> Result<(), NoMemory>
         requires { MayFinish self.old choice.now reply }
-        ensures step { OnOk result (self.new ≡ finished self.old choice.now reply) }
+        ensures step { OnOk result (shown self.new ≡ finished (shown self.old) choice.now reply) }
         ensures unentered { IfSome reply (λ r. r.1 ≡ false → IsOk result) }
+        ensures sure { IfSome reply (λ r. needs_no_memory r.0 ≡ true → HasRoomFor self.old choice.now → IsOk result) }
         ensures deck { self.new.deck ≡ self.old.deck }
         ensures system { self.new.node.tasks.system ≡ self.old.node.tasks.system }
     {
         match reply {
             None => self.finish_alone(*choice),
             Some((reply, entered)) => {
-                if entered {
-                    self.finish_entered(*choice, reply)
-                } else {
+                if !entered {
                     Ok(())
+                } else if needs_no_memory(&reply) {
+                    self.finish_little(*choice, &reply)
+                } else {
+                    self.finish_entered(*choice, reply)
                 }
             }
         }
@@ -322,7 +487,7 @@ impl<'d> Node<'d> {
     ) -> Result<(), NoMemory>
         requires turn { MayFinish self.old Turn (Some (Turned (unseen system entries.now) taken closed, true)) }
         requires system { system.0 < most_systems }
-        ensures step { OnOk result (self.new ≡ finished self.old Turn (Some (Turned (unseen system entries.now) taken closed, true))) }
+        ensures step { OnOk result (shown self.new ≡ finished (shown self.old) Turn (Some (Turned (unseen system entries.now) taken closed, true))) }
         ensures deck { self.new.deck ≡ self.old.deck }
         ensures system { self.new.node.tasks.system ≡ self.old.node.tasks.system }
     {
@@ -340,7 +505,7 @@ impl<'d> Node<'d> {
         ensures node { self.new.node ≡ self.old.node }
         ensures deck { self.new.deck ≡ self.old.deck }
     {
-        self.log.steps.pop()
+        self.steps.pop()
     }
 
     /// The set of the systems that the system knows to be removed.
@@ -358,10 +523,10 @@ impl<'d> Node<'d> {
     }
 
     /// The events so far.
-    pub fn log(&self) -> &NodeLog
-        ensures { result.now.steps ≡ self.now.log }
+    pub fn log(&self) -> &[StepDone]
+        ensures { result.now ≡ self.now.log }
     {
-        &self.log
+        self.steps.as_slice()
     }
 
     /// Whether something is pending: a task that has something to do by itself, a request in the outbox, something of

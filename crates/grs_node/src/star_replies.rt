@@ -5,6 +5,7 @@ ghost use Rattle.std.specs.List.{list_all};
 ghost use Rattle.std.specs.Option.{option_copied};
 ghost use Rattle.contention_mgr.specs.Manager.{after_request, items_of, managed_at};
 ghost use Rattle.grs_base.specs.Limits.{most_systems};
+ghost use Rattle.grs_node.specs.Room.{needs_no_memory, is_tell, next_for};
 ghost use Rattle.grs_node.specs.Names.{names_of};
 ghost use Rattle.grs_node.specs.Node as steps;
 ghost use Rattle.grs_node.specs.Removal.{IsOrderly};
@@ -17,11 +18,12 @@ ghost use Rattle.star_client.specs.Client as client;
 ghost use Rattle.task_state.specs.Replies as replies;
 ghost use Rattle.task_state.specs.View.{is_task, state_of};
 
+use super::ready::ToldNext;
 use super::scripts::is_of_deck;
 use super::star::{StarPart, request_of};
 use super::state::asked_alone;
 use contention_mgr::Manager;
-use grs_base::{List, NoMemory, Row, TaskId};
+use grs_base::{List, NoMemory, Res, Row, TaskId};
 use grs_wire::masks::has_system;
 use grs_wire::{Answer, Choice, Deck, Fixed, Mail, Moved, PartRec, Reply, Req, res_of};
 use queue_table::Outcome;
@@ -239,12 +241,13 @@ impl StarPart {
     }
 
     /// A task's request went to the manager of its entry.
-    #[tactic(auto, using(crate::proofs::Kept::kept))]
+    #[tactic(auto, using(crate::proofs::Kept::kept, crate::proofs::Little::phases))]
     fn sent(&mut self, tasks: &mut Tasks, task: TaskId)
         requires { is_task tasks.old task ≡ true }
         ensures step { starred tasks.new self.new [] ≡ star.sent_to tasks.old self.old task (star.entry_asked self.old (state_of tasks.old task).outstanding) }
         ensures system { tasks.new.system ≡ tasks.old.system }
         ensures count { length tasks.new.tasks ≡ length tasks.old.tasks }
+        ensures told { tasks.new.told ≡ tasks.old.told }
     {
         if let Some(entry) = self.entry_asked(tasks.asked(task)) {
             self.set_interest(entry, true);
@@ -252,7 +255,7 @@ impl StarPart {
         }
     }
 
-    /// What the reply to a request that was sent comes to.
+    /// What the reply to a request that was to be sent comes to, by which more than little happens.
     fn finish_send(
         &mut self,
         alloc: Global,
@@ -260,17 +263,14 @@ impl StarPart {
         task: TaskId,
         reply: &Reply,
     ) -> Result<List<Fixed>, NoMemory>
-        requires { star.was_prepared tasks.old self.old (Send task) ≡ true }
+        requires call { star.was_prepared tasks.old self.old (Send task) ≡ true }
+        requires more { needs_no_memory reply.now ≡ false }
         ensures step { IfOk result (λ fixed. starred tasks.new self.new fixed ≡ star.send_step tasks.old self.old task reply.now) }
         ensures system { tasks.new.system ≡ tasks.old.system }
         ensures count { length tasks.new.tasks ≡ length tasks.old.tasks }
     {
         match reply {
             Reply::Sole => self.begin_own(alloc, tasks, task),
-            Reply::Sent => {
-                self.sent(tasks, task);
-                Ok(List::new(alloc))
-            }
             _ => Ok(List::new(alloc)),
         }
     }
@@ -418,18 +418,6 @@ impl StarPart {
         asked_alone(alloc, req)
     }
 
-    /// An owner of another system was told.
-    fn told(&mut self, entry: u32) -> Result<(), NoMemory>
-        ensures { OnOk result (self.new ≡ star.told_by self.old (star.to_tell self.old entry)) }
-    {
-        if let Some((task, res)) = self.to_tell(entry)? {
-            if self.manager.serves_res(&res) {
-                self.manager.mark_told(task, &res);
-            }
-        }
-        Ok(())
-    }
-
     /// The interest in an entry was given up.
     fn left(&mut self, entry: u32)
         requires { star.is_done_with self.old entry ≡ true }
@@ -437,6 +425,96 @@ impl StarPart {
     {
         give_up(&mut self.manager, entry);
         self.set_interest(entry, false);
+    }
+
+    /// This owner of another system was told, if there is one.
+    fn told_owner(&mut self, owner: Option<(TaskId, Res)>)
+        ensures { self.new ≡ star.told_by self.old owner }
+    {
+        if let Some((task, res)) = owner {
+            if self.manager.serves_res(&res) {
+                self.manager.mark_told(task, &res);
+            }
+        }
+    }
+
+    /// What a reply to a Send comes to, by which little happens.
+    fn send_answered(&mut self, tasks: &mut Tasks, task: TaskId, reply: &Reply)
+        requires task { is_task tasks.old task ≡ true }
+        requires little { needs_no_memory reply.now ≡ true }
+        ensures step { starred tasks.new self.new [] ≡ star.send_step tasks.old self.old task reply.now }
+        ensures system { tasks.new.system ≡ tasks.old.system }
+        ensures count { length tasks.new.tasks ≡ length tasks.old.tasks }
+        ensures told { tasks.new.told ≡ tasks.old.told }
+    {
+        match reply {
+            Reply::Sent => self.sent(tasks, task),
+            Reply::Sole => unreachable!(),
+            _ => {}
+        }
+    }
+
+    /// What a reply to a Tell comes to, by which little happens, where it is known who was told.
+    fn tell_answered(&mut self, tasks: &Tasks, entry: u32, reply: &Reply, next: Option<ToldNext>)
+        requires next { next ≡ Some (record { entry = entry; owner = star.to_tell self.old entry }) }
+        ensures { starred tasks.now self.new [] ≡ star.tell_step tasks.now self.old entry reply.now }
+    {
+        if let Reply::Told = reply {
+            if let Some(next) = next {
+                self.told_owner(next.owner);
+            }
+        }
+    }
+
+    /// What a reply to a Tell that sends a part comes to, by which little happens.
+    fn part_answered(&mut self, tasks: &Tasks, entry: u32, reply: &Reply)
+        ensures { starred tasks.now self.new [] ≡ star.part_step tasks.now self.old entry reply.now }
+    {
+        if let Reply::Told = reply {
+            self.owes.set(entry, None);
+        }
+    }
+
+    /// What a reply to a Leave comes to, by which little happens.
+    fn leave_answered(&mut self, tasks: &Tasks, entry: u32, reply: &Reply)
+        requires { star.may_leave self.old tasks.now entry ≡ true }
+        ensures { starred tasks.now self.new [] ≡ star.leave_step tasks.now self.old entry reply.now }
+    {
+        if let Reply::Left = reply {
+            self.left(entry);
+        }
+    }
+
+    /// What a reply to a call of star mode comes to, by which little happens. It takes no memory.
+    #[tactic(auto, using(crate::proofs::Little::little))]
+    pub(crate) fn answered(
+        &mut self,
+        tasks: &mut Tasks,
+        choice: Choice,
+        reply: &Reply,
+        next: Option<ToldNext>,
+    )
+        requires call { star.was_prepared tasks.old self.old choice ≡ true }
+        requires little { needs_no_memory reply.now ≡ true }
+        requires next { is_tell choice ≡ true → next ≡ Some (next_for (Some self.old) choice) }
+        ensures step { (deck : DeckValue) (known : ℕ) → starred tasks.new self.new [] ≡ steps.star_step deck known tasks.old self.old choice reply.now }
+        ensures system { tasks.new.system ≡ tasks.old.system }
+        ensures count { length tasks.new.tasks ≡ length tasks.old.tasks }
+        ensures told { tasks.new.told ≡ tasks.old.told }
+    {
+        match choice {
+            Choice::Send(task) => self.send_answered(tasks, task, reply),
+            Choice::Tell(entry) => self.tell_answered(tasks, entry, reply, next),
+            Choice::Part(entry) => self.part_answered(tasks, entry, reply),
+            Choice::Leave(entry) => self.leave_answered(tasks, entry, reply),
+            Choice::Take
+            | Choice::Settle
+            | Choice::Task(_)
+            | Choice::Turn
+            | Choice::Switch
+            | Choice::Purge(_)
+            | Choice::Rest => {}
+        }
     }
 
     /// What the reply to a Settle comes to.
@@ -457,36 +535,8 @@ impl StarPart {
         }
     }
 
-    /// What the reply to a Tell comes to.
-    fn finish_tell(&mut self, tasks: &Tasks, entry: u32, reply: &Reply) -> Result<(), NoMemory>
-        ensures { OnOk result (starred tasks.now self.new [] ≡ star.tell_step tasks.now self.old entry reply.now) }
-    {
-        match reply {
-            Reply::Told => self.told(entry),
-            _ => Ok(()),
-        }
-    }
-
-    /// What the reply to a Tell that sends a part comes to.
-    fn finish_part(&mut self, tasks: &Tasks, entry: u32, reply: &Reply)
-        ensures { starred tasks.now self.new [] ≡ star.part_step tasks.now self.old entry reply.now }
-    {
-        if let Reply::Told = reply {
-            self.owes.set(entry, None);
-        }
-    }
-
-    /// What the reply to a Leave comes to.
-    fn finish_leave(&mut self, tasks: &Tasks, entry: u32, reply: &Reply)
-        requires { star.may_leave self.old tasks.now entry ≡ true }
-        ensures { starred tasks.now self.new [] ≡ star.leave_step tasks.now self.old entry reply.now }
-    {
-        if let Reply::Left = reply {
-            self.left(entry);
-        }
-    }
-
-    /// What the reply to a call of star mode other than a Take comes to. Those that say nothing new change nothing.
+    /// What the reply to a call of star mode other than a Take comes to, by which more than little happens.
+    #[tactic(auto, using(crate::proofs::Little::more))]
     fn finish_by(
         &mut self,
         alloc: Global,
@@ -496,6 +546,7 @@ impl StarPart {
     ) -> Result<List<Fixed>, NoMemory>
         requires call { star.was_prepared tasks.old self.old choice ≡ true }
         requires other { choice ≢ Take }
+        requires more { needs_no_memory reply.now ≡ false }
         requires orderly { IsOrderly self.old }
         ensures step { (deck : DeckValue) (known : ℕ) → IfOk result (λ fixed. starred tasks.new self.new fixed ≡ steps.star_step deck known tasks.old self.old choice reply.now) }
         ensures system { tasks.new.system ≡ tasks.old.system }
@@ -504,19 +555,10 @@ impl StarPart {
         match choice {
             Choice::Send(task) => self.finish_send(alloc, tasks, task, reply),
             Choice::Settle => self.finish_settle(alloc, tasks, reply),
-            Choice::Tell(entry) => {
-                self.finish_tell(tasks, entry, reply)?;
-                Ok(List::new(alloc))
-            }
-            Choice::Part(entry) => {
-                self.finish_part(tasks, entry, reply);
-                Ok(List::new(alloc))
-            }
-            Choice::Leave(entry) => {
-                self.finish_leave(tasks, entry, reply);
-                Ok(List::new(alloc))
-            }
-            Choice::Task(_)
+            Choice::Tell(_)
+            | Choice::Part(_)
+            | Choice::Leave(_)
+            | Choice::Task(_)
             | Choice::Turn
             | Choice::Take
             | Choice::Switch
@@ -525,8 +567,8 @@ impl StarPart {
         }
     }
 
-    /// What the reply to a call of star mode comes to, at a system that knows this set of systems to be removed. Those that
-    /// say nothing new change nothing.
+    /// What the reply to a call of star mode comes to, by which more than little happens, at a system that knows this set of
+    /// systems to be removed.
     pub(crate) fn finish(
         &mut self,
         alloc: Global,
@@ -538,6 +580,7 @@ impl StarPart {
         reply: Reply,
     ) -> Result<List<Fixed>, NoMemory>
         requires call { star.was_prepared tasks.old self.old choice ≡ true }
+        requires more { needs_no_memory reply ≡ false }
         requires names { names.now ≡ names_of deck.now tasks.old.system }
         requires orderly { IsOrderly self.old }
         requires few { length deck.now.systems ≤ most_systems }

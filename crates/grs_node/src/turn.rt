@@ -1,5 +1,5 @@
 //! A system's part of a turn: it reads the entries that it hasn't seen, and its requests are put in.
-ghost use Rattle.std.specs.Prelude.{◌≡◌, ◌≢◌, ◌<◌, ◌≤◌, true, take, drop, length, map, slice_get, IfOk, IfSome, OnOk};
+ghost use Rattle.std.specs.Prelude.{◌≡◌, ◌≢◌, ◌<◌, ◌≤◌, ◌++◌, [], Some, true, false, take, drop, length, map, slice_get, vec_capacity, IfOk, IfSome, OnOk};
 ghost use Rattle.grs_base.specs.Limits.{most_systems, most_commands};
 ghost use Rattle.grs_wire.specs.declared.deck.Deck.{Deck as DeckValue};
 ghost use Rattle.grs_wire.specs.declared.medium.RingBody.TheVariants.{Request};
@@ -12,15 +12,17 @@ ghost use Rattle.grs_node.specs.Node as steps;
 ghost use Rattle.grs_node.specs.Node.{are_of_system};
 ghost use Rattle.grs_node.specs.Finish.{may_come};
 ghost use Rattle.grs_node.specs.Log.{stepped};
+ghost use Rattle.grs_node.specs.Room.{needs_no_memory, is_command, is_tell, next_for};
 ghost use Rattle.grs_node.specs.Star.{was_prepared};
 ghost use Rattle.mode_migrate.specs.Migrate.{AreApart};
 
+use super::ready::{Ready, ToldNext};
 use super::removal::without_those;
 use super::scripts::is_of_deck;
 use super::state::NodeState;
 use grs_base::{List, NoMemory, SysId, TaskId};
 use grs_wire::masks::has_system;
-use grs_wire::{Choice, Deck, Fixed, Reply, Req, RingBody, RingEntry, Said};
+use grs_wire::{Choice, Deck, Fixed, Reply, Req, RingBody, RingEntry, Said, ToldLine};
 use ring_mode::on_request;
 use std::alloc::Global;
 use system_purge::remove;
@@ -258,7 +260,7 @@ impl NodeState {
         Ok(fixed)
     }
 
-    /// What the reply to a call of star mode comes to.
+    /// What the reply to a call of star mode comes to, by which more than little happens.
     #[tactic(auto, unfolding(crate::specs::Node::finish_star))]
     fn finish_star(
         &mut self,
@@ -269,6 +271,7 @@ impl NodeState {
         reply: Reply,
     ) -> Result<List<Fixed>, NoMemory>
         requires call { IfSome self.old.star (λ p. was_prepared self.old.tasks p choice ≡ true) }
+        requires more { needs_no_memory reply ≡ false }
         requires names { names.now ≡ names_of deck.now self.old.tasks.system }
         requires orderly { IfSome self.old.star IsOrderly }
         requires few { length deck.now.systems ≤ most_systems }
@@ -291,7 +294,57 @@ impl NodeState {
         }
     }
 
-    /// What the reply to a call comes to. Those that say nothing new change nothing.
+    /// What a reply to a call of star mode comes to, by which little happens, where it is known who is told by it.
+    #[tactic(auto, unfolding(crate::specs::Node::finish_star))]
+    fn answered_in_star(&mut self, choice: Choice, reply: &Reply, next: Option<ToldNext>)
+        requires call { IfSome self.old.star (λ p. was_prepared self.old.tasks p choice ≡ true) }
+        requires little { needs_no_memory reply.now ≡ true }
+        requires next { is_tell choice ≡ true → next ≡ Some (next_for self.old.star choice) }
+        ensures step { (deck : DeckValue) → stepped self.new [] ≡ steps.finish_star deck self.old self.old.star choice reply.now }
+        ensures system { self.new.tasks.system ≡ self.old.tasks.system }
+        ensures told { self.new.tasks.told ≡ self.old.tasks.told }
+    {
+        if let Some(part) = &mut self.star {
+            part.answered(&mut self.tasks, choice, reply, next);
+        }
+    }
+
+    /// What a reply to a call comes to, by which little happens, and what is told by it. Where there is room it takes no memory.
+    #[tactic(auto, using(crate::proofs::Calls::came, crate::proofs::Calls::ordered_desk, crate::proofs::Calls::commands, crate::proofs::Little::little), unfolding(crate::specs::Node::finish_call))]
+    pub(crate) fn answered(
+        &mut self,
+        alloc: Global,
+        deck: &Deck,
+        choice: Choice,
+        reply: &Reply,
+        ready: Ready,
+    ) -> List<ToldLine>
+        requires come { may_come (steps.prepare deck.now self.old choice) reply.now ≡ true }
+        requires little { needs_no_memory reply.now ≡ true }
+        requires few { length deck.now.systems ≤ most_systems }
+        requires desk { steps.desk_count (slice_get deck.now.systems self.old.tasks.system) ≤ most_commands }
+        requires no_lines { ready.lines.items ≡ [] }
+        requires no_told { ready.told.items ≡ [] }
+        requires lines { is_command choice ≡ true → length self.old.tasks.told < vec_capacity ready.lines }
+        requires told { is_command choice ≡ true → 1 ≤ vec_capacity ready.told }
+        requires next { is_tell choice ≡ true → ready.next ≡ Some (next_for self.old.star choice) }
+        ensures step { stepped self.new [] ≡ steps.finish_call deck.now self.old choice reply.now }
+        ensures system { self.new.tasks.system ≡ self.old.tasks.system }
+        ensures told { self.new.tasks.told ≡ self.old.tasks.told ++ result }
+    {
+        match reply {
+            Reply::Already => self.desk_told_within(Said::StarAlready, ready),
+            Reply::NoSuch => self.desk_told_within(Said::VaryNoSuch, ready),
+            Reply::Turned { .. } => List::new(alloc),
+            Reply::Stale { .. } | Reply::Switched | Reply::Purged => unreachable!(),
+            reply => {
+                self.answered_in_star(choice, reply, ready.next);
+                List::new(alloc)
+            }
+        }
+    }
+
+    /// What the reply to a call comes to, by which more than little happens.
     #[tactic(auto, using(crate::proofs::Calls::came, crate::proofs::Calls::ordered_desk), unfolding(crate::specs::Node::finish_call))]
     pub(crate) fn finish_call(
         &mut self,
@@ -302,6 +355,7 @@ impl NodeState {
         reply: Reply,
     ) -> Result<List<Fixed>, NoMemory>
         requires come { may_come (steps.prepare deck.now self.old choice) reply ≡ true }
+        requires more { needs_no_memory reply ≡ false }
         requires few { length deck.now.systems ≤ most_systems }
         requires entries { deck.now.entries ≢ 0 }
         requires desk { steps.desk_count (slice_get deck.now.systems self.old.tasks.system) ≤ most_commands }
@@ -326,15 +380,8 @@ impl NodeState {
                 self.switched(alloc, deck, names)?;
                 Ok(List::new(alloc))
             }
-            Reply::Already => {
-                self.desk_told(Said::StarAlready)?;
-                Ok(List::new(alloc))
-            }
             Reply::Purged => self.purged(alloc, deck, names, choice),
-            Reply::NoSuch => {
-                self.desk_told(Said::VaryNoSuch)?;
-                Ok(List::new(alloc))
-            }
+            Reply::Already | Reply::NoSuch => unreachable!(),
             reply => self.finish_star(alloc, deck, names, choice, reply),
         }
     }

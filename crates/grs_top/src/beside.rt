@@ -23,7 +23,7 @@ fn logs_of<'n>(alloc: Global, nodes: &'n [Node<'_>]) -> Result<Vec<&'n [StepDone
 {
     let mut logs = Vec::new(alloc);
     for node in nodes {
-        if logs.push(node.log().steps.as_slice()).is_err() {
+        if logs.push(node.log()).is_err() {
             return Err(NoMemory);
         }
     }

@@ -4,7 +4,7 @@ use Rattle.std.specs.Prelude.{Option, Some, None}
 use Rattle.std.specs.List.{count_by}
 use Rattle.grs_bus.specs.Seats.{BusValue, SeatValue, IsSameSeat, IsAnswered}
 use Rattle.grs_medium.specs.Medium.{systems_of}
-use Rattle.grs_node.specs.Log.{NodeView, starting, finished}
+use Rattle.grs_node.specs.Log.{NodeView, shown, starting, finished}
 use Rattle.grs_node.specs.Node.{is_pending, prepare}
 use Rattle.grs_node.specs.declared.prepared.Prepared.TheVariants.{Quiet, Call}
 use Rattle.grs_wire.specs.declared.deck.Choice.{Choice}
@@ -23,7 +23,7 @@ pub record Stand : Type 0 where
   pub calls : ℕ
 
 abbrev pub stand : Worker → Stand
-stand w = record { node = w.node; seat = w.seat; calls = w.calls }
+stand w = record { node = shown w.node; seat = w.seat; calls = w.calls }
 
 -- the worker of a deck with this seat before its first round
 abbrev pub first_stand : Deck → SeatValue → Stand

@@ -201,7 +201,9 @@ fn told_task(line: &ToldLine) -> Option<TaskId> {
 /// The choice that there always is: a turn in ring mode, and else a look into the inbox.
 #[tactic(auto, using(crate::proofs::Choices::choices))]
 fn turn_or_take(node: &mut Node<'_>) -> Result<(Choice, Prepared), NoMemory>
-    ensures same { node.new ≡ node.old }
+    ensures deck { node.new.deck ≡ node.old.deck }
+    ensures node { node.new.node ≡ node.old.node }
+    ensures log { node.new.log ≡ node.old.log }
     ensures prepared { IfOk result (λ x. x.1 ≡ prepare node.old.deck node.old.node x.0) }
     ensures some { IfOk result (λ x. x.1 ≢ Nothing) }
     ensures addressed { IfOk result (λ x. is_addressed node.old.deck node.old.node.tasks.system x.1 ≡ true) }
@@ -366,7 +368,7 @@ impl Agenda {
             self.enter_star();
         }
         self.keep_asked()?;
-        let steps = node.log().steps.as_slice();
+        let steps = node.log();
         match steps.last() {
             Some(step) if steps.len() != self.steps => {
                 self.steps = steps.len();
@@ -442,7 +444,9 @@ impl Agenda {
         choice: Choice,
     ) -> Result<Option<(Choice, Prepared)>, NoMemory>
         requires { is_leave choice ≡ false }
-        ensures same { node.new ≡ node.old }
+        ensures deck { node.new.deck ≡ node.old.deck }
+        ensures node { node.new.node ≡ node.old.node }
+        ensures log { node.new.log ≡ node.old.log }
         ensures prepared { IfOk result (λ o. IfSome o (λ x. x.1 ≡ prepare node.old.deck node.old.node x.0)) }
         ensures some { IfOk result (λ o. IfSome o (λ x. x.1 ≢ Nothing)) }
         ensures addressed { IfOk result (λ o. IfSome o (λ x. is_addressed node.old.deck node.old.node.tasks.system x.1 ≡ true)) }
@@ -459,7 +463,9 @@ impl Agenda {
 
     /// The choice where the system is among the tries, if it has something to do. Else it goes on to the next one.
     fn try_here(&mut self, node: &mut Node<'_>) -> Result<Option<(Choice, Prepared)>, NoMemory>
-        ensures same { node.new ≡ node.old }
+        ensures deck { node.new.deck ≡ node.old.deck }
+        ensures node { node.new.node ≡ node.old.node }
+        ensures log { node.new.log ≡ node.old.log }
         ensures prepared { IfOk result (λ o. IfSome o (λ x. x.1 ≡ prepare node.old.deck node.old.node x.0)) }
         ensures some { IfOk result (λ o. IfSome o (λ x. x.1 ≢ Nothing)) }
         ensures addressed { IfOk result (λ o. IfSome o (λ x. is_addressed node.old.deck node.old.node.tasks.system x.1 ≡ true)) }
@@ -476,7 +482,9 @@ impl Agenda {
 
     /// The next of the choices that has something to do. Where nothing is pending none has.
     fn find(&mut self, node: &mut Node<'_>) -> Result<Option<(Choice, Prepared)>, NoMemory>
-        ensures same { node.new ≡ node.old }
+        ensures deck { node.new.deck ≡ node.old.deck }
+        ensures node { node.new.node ≡ node.old.node }
+        ensures log { node.new.log ≡ node.old.log }
         ensures prepared { IfOk result (λ o. IfSome o (λ x. x.1 ≡ prepare node.old.deck node.old.node x.0)) }
         ensures some { IfOk result (λ o. IfSome o (λ x. x.1 ≢ Nothing)) }
         ensures addressed { IfOk result (λ o. IfSome o (λ x. is_addressed node.old.deck node.old.node.tasks.system x.1 ≡ true)) }
@@ -500,7 +508,9 @@ impl Agenda {
         node: &mut Node<'_>,
         task: TaskId,
     ) -> Result<Option<(Choice, Prepared)>, NoMemory>
-        ensures same { node.new ≡ node.old }
+        ensures deck { node.new.deck ≡ node.old.deck }
+        ensures node { node.new.node ≡ node.old.node }
+        ensures log { node.new.log ≡ node.old.log }
         ensures prepared { IfOk result (λ o. IfSome o (λ x. x.1 ≡ prepare node.old.deck node.old.node x.0)) }
         ensures some { IfOk result (λ o. IfSome o (λ x. x.1 ≢ Nothing)) }
         ensures addressed { IfOk result (λ o. IfSome o (λ x. is_addressed node.old.deck node.old.node.tasks.system x.1 ≡ true)) }
@@ -520,7 +530,9 @@ impl Agenda {
         node: &mut Node<'_>,
         task: TaskId,
     ) -> Result<Option<(Choice, Prepared)>, NoMemory>
-        ensures same { node.new ≡ node.old }
+        ensures deck { node.new.deck ≡ node.old.deck }
+        ensures node { node.new.node ≡ node.old.node }
+        ensures log { node.new.log ≡ node.old.log }
         ensures prepared { IfOk result (λ o. IfSome o (λ x. x.1 ≡ prepare node.old.deck node.old.node x.0)) }
         ensures some { IfOk result (λ o. IfSome o (λ x. x.1 ≢ Nothing)) }
         ensures addressed { IfOk result (λ o. IfSome o (λ x. is_addressed node.old.deck node.old.node.tasks.system x.1 ≡ true)) }
@@ -534,7 +546,9 @@ impl Agenda {
 
     /// The first of the tasks that may get on which has something to do.
     fn find_ready(&mut self, node: &mut Node<'_>) -> Result<Option<(Choice, Prepared)>, NoMemory>
-        ensures same { node.new ≡ node.old }
+        ensures deck { node.new.deck ≡ node.old.deck }
+        ensures node { node.new.node ≡ node.old.node }
+        ensures log { node.new.log ≡ node.old.log }
         ensures prepared { IfOk result (λ o. IfSome o (λ x. x.1 ≡ prepare node.old.deck node.old.node x.0)) }
         ensures some { IfOk result (λ o. IfSome o (λ x. x.1 ≢ Nothing)) }
         ensures addressed { IfOk result (λ o. IfSome o (λ x. is_addressed node.old.deck node.old.node.tasks.system x.1 ≡ true)) }
@@ -554,7 +568,9 @@ impl Agenda {
     /// What a manager does: the first request that is held is settled, or else an owner is told in one of the lock entries that were asked
     /// for, if there is something of that to do.
     fn serve(&mut self, node: &mut Node<'_>) -> Result<Option<(Choice, Prepared)>, NoMemory>
-        ensures same { node.new ≡ node.old }
+        ensures deck { node.new.deck ≡ node.old.deck }
+        ensures node { node.new.node ≡ node.old.node }
+        ensures log { node.new.log ≡ node.old.log }
         ensures prepared { IfOk result (λ o. IfSome o (λ x. x.1 ≡ prepare node.old.deck node.old.node x.0)) }
         ensures some { IfOk result (λ o. IfSome o (λ x. x.1 ≢ Nothing)) }
         ensures addressed { IfOk result (λ o. IfSome o (λ x. is_addressed node.old.deck node.old.node.tasks.system x.1 ≡ true)) }
@@ -584,7 +600,9 @@ impl Agenda {
         node: &mut Node<'_>,
         all: bool,
     ) -> Result<Option<(Choice, Prepared)>, NoMemory>
-        ensures same { node.new ≡ node.old }
+        ensures deck { node.new.deck ≡ node.old.deck }
+        ensures node { node.new.node ≡ node.old.node }
+        ensures log { node.new.log ≡ node.old.log }
         ensures prepared { IfOk result (λ o. IfSome o (λ x. x.1 ≡ prepare node.old.deck node.old.node x.0)) }
         ensures some { IfOk result (λ o. IfSome o (λ x. x.1 ≢ Nothing)) }
         ensures addressed { IfOk result (λ o. IfSome o (λ x. is_addressed node.old.deck node.old.node.tasks.system x.1 ≡ true)) }
@@ -606,7 +624,9 @@ impl Agenda {
 
     /// A command of the desk that is due, once since the system changed.
     fn command_due(&mut self, node: &mut Node<'_>) -> Result<Option<(Choice, Prepared)>, NoMemory>
-        ensures same { node.new ≡ node.old }
+        ensures deck { node.new.deck ≡ node.old.deck }
+        ensures node { node.new.node ≡ node.old.node }
+        ensures log { node.new.log ≡ node.old.log }
         ensures prepared { IfOk result (λ o. IfSome o (λ x. x.1 ≡ prepare node.old.deck node.old.node x.0)) }
         ensures some { IfOk result (λ o. IfSome o (λ x. x.1 ≢ Nothing)) }
         ensures addressed { IfOk result (λ o. IfSome o (λ x. is_addressed node.old.deck node.old.node.tasks.system x.1 ≡ true)) }
@@ -621,7 +641,9 @@ impl Agenda {
 
     /// A command of the desk where there is nothing else to do, once since the system was woken.
     fn command_left(&mut self, node: &mut Node<'_>) -> Result<Option<(Choice, Prepared)>, NoMemory>
-        ensures same { node.new ≡ node.old }
+        ensures deck { node.new.deck ≡ node.old.deck }
+        ensures node { node.new.node ≡ node.old.node }
+        ensures log { node.new.log ≡ node.old.log }
         ensures prepared { IfOk result (λ o. IfSome o (λ x. x.1 ≡ prepare node.old.deck node.old.node x.0)) }
         ensures some { IfOk result (λ o. IfSome o (λ x. x.1 ≢ Nothing)) }
         ensures addressed { IfOk result (λ o. IfSome o (λ x. is_addressed node.old.deck node.old.node.tasks.system x.1 ≡ true)) }
@@ -637,7 +659,9 @@ impl Agenda {
     /// The next lock entry in which interest can be given up, where nothing is pending.
     fn leave(&mut self, node: &mut Node<'_>) -> Result<Option<(Choice, Prepared)>, NoMemory>
         requires { is_pending node.old.deck node.old.node ≡ false }
-        ensures same { node.new ≡ node.old }
+        ensures deck { node.new.deck ≡ node.old.deck }
+        ensures node { node.new.node ≡ node.old.node }
+        ensures log { node.new.log ≡ node.old.log }
         ensures prepared { IfOk result (λ o. IfSome o (λ x. x.1 ≡ prepare node.old.deck node.old.node x.0)) }
         ensures some { IfOk result (λ o. IfSome o (λ x. x.1 ≢ Nothing)) }
         ensures addressed { IfOk result (λ o. IfSome o (λ x. is_addressed node.old.deck node.old.node.tasks.system x.1 ≡ true)) }
@@ -660,7 +684,9 @@ impl Agenda {
 
     /// A turn, or a look into the inbox.
     fn turn(&mut self, node: &mut Node<'_>) -> Result<(Choice, Prepared), NoMemory>
-        ensures same { node.new ≡ node.old }
+        ensures deck { node.new.deck ≡ node.old.deck }
+        ensures node { node.new.node ≡ node.old.node }
+        ensures log { node.new.log ≡ node.old.log }
         ensures prepared { IfOk result (λ x. x.1 ≡ prepare node.old.deck node.old.node x.0) }
         ensures some { IfOk result (λ x. x.1 ≢ Nothing) }
         ensures addressed { IfOk result (λ x. is_addressed node.old.deck node.old.node.tasks.system x.1 ≡ true) }
@@ -677,7 +703,9 @@ impl Agenda {
 
     /// A rest, if nothing is pending.
     fn rest(&mut self, node: &mut Node<'_>) -> Result<Option<(Choice, Prepared)>, NoMemory>
-        ensures same { node.new ≡ node.old }
+        ensures deck { node.new.deck ≡ node.old.deck }
+        ensures node { node.new.node ≡ node.old.node }
+        ensures log { node.new.log ≡ node.old.log }
         ensures prepared { IfOk result (λ o. IfSome o (λ x. x.1 ≡ prepare node.old.deck node.old.node x.0)) }
         ensures some { IfOk result (λ o. IfSome o (λ x. x.1 ≢ Nothing)) }
         ensures addressed { IfOk result (λ o. IfSome o (λ x. is_addressed node.old.deck node.old.node.tasks.system x.1 ≡ true)) }
@@ -702,7 +730,9 @@ impl Agenda {
     /// Interest in a lock entry is given up in star mode, where nothing is pending, once all tasks have ended or the system would rest. As
     /// long as they go on they are likely to want the entry again, and to see that they don't use it takes a look at each of them.
     fn leave_if(&mut self, node: &mut Node<'_>) -> Result<Option<(Choice, Prepared)>, NoMemory>
-        ensures same { node.new ≡ node.old }
+        ensures deck { node.new.deck ≡ node.old.deck }
+        ensures node { node.new.node ≡ node.old.node }
+        ensures log { node.new.log ≡ node.old.log }
         ensures prepared { IfOk result (λ o. IfSome o (λ x. x.1 ≡ prepare node.old.deck node.old.node x.0)) }
         ensures some { IfOk result (λ o. IfSome o (λ x. x.1 ≢ Nothing)) }
         ensures addressed { IfOk result (λ o. IfSome o (λ x. is_addressed node.old.deck node.old.node.tasks.system x.1 ≡ true)) }
@@ -721,7 +751,9 @@ impl Agenda {
         &mut self,
         node: &mut Node<'_>,
     ) -> Result<Option<(Choice, Prepared)>, NoMemory>
-        ensures same { node.new ≡ node.old }
+        ensures deck { node.new.deck ≡ node.old.deck }
+        ensures node { node.new.node ≡ node.old.node }
+        ensures log { node.new.log ≡ node.old.log }
         ensures prepared { IfOk result (λ o. IfSome o (λ x. x.1 ≡ prepare node.old.deck node.old.node x.0)) }
         ensures some { IfOk result (λ o. IfSome o (λ x. x.1 ≢ Nothing)) }
         ensures addressed { IfOk result (λ o. IfSome o (λ x. is_addressed node.old.deck node.old.node.tasks.system x.1 ≡ true)) }
@@ -746,7 +778,9 @@ impl Agenda {
         &mut self,
         node: &mut Node<'_>,
     ) -> Result<Option<(Choice, Prepared)>, NoMemory>
-        ensures same { node.new ≡ node.old }
+        ensures deck { node.new.deck ≡ node.old.deck }
+        ensures node { node.new.node ≡ node.old.node }
+        ensures log { node.new.log ≡ node.old.log }
         ensures prepared { IfOk result (λ o. IfSome o (λ x. x.1 ≡ prepare node.old.deck node.old.node x.0)) }
         ensures some { IfOk result (λ o. IfSome o (λ x. x.1 ≢ Nothing)) }
         ensures addressed { IfOk result (λ o. IfSome o (λ x. is_addressed node.old.deck node.old.node.tasks.system x.1 ≡ true)) }
@@ -777,7 +811,9 @@ impl Agenda {
     /// The next choice that has something to do, and what it comes to. Where there is nothing to do until the medium changes it is a
     /// turn or a look into the inbox, by turns with a rest; another thread may run before.
     pub(crate) fn pick(&mut self, node: &mut Node<'_>) -> Result<(Choice, Prepared), NoMemory>
-        ensures same { node.new ≡ node.old }
+        ensures deck { node.new.deck ≡ node.old.deck }
+        ensures node { node.new.node ≡ node.old.node }
+        ensures log { node.new.log ≡ node.old.log }
         ensures prepared { IfOk result (λ x. x.1 ≡ prepare node.old.deck node.old.node x.0) }
         ensures some { IfOk result (λ x. x.1 ≢ Nothing) }
         ensures addressed { IfOk result (λ x. is_addressed node.old.deck node.old.node.tasks.system x.1 ≡ true) }

@@ -90,11 +90,11 @@ fn step<R: Wait, G: Gate>(
     ensures on { OnOk result (IsOn bus.now (stand worker.new)) }
     ensures agrees { OnOk result (Agrees (stand worker.new)) }
 {
-    let steps = worker.node.log().steps.len();
+    let steps = worker.node.log().len();
     let system = worker.seat.system();
     match event_if(rt, bus, worker, gate, sleeper)? {
         Some(goes) => {
-            if worker.node.log().steps.len() != steps {
+            if worker.node.log().len() != steps {
                 sleeper.got_on();
             }
             Ok(goes)

@@ -44,19 +44,24 @@ fn take_done(node: &mut Node<'_>) -> Done
     }
 }
 
+/// A reply to a call, which has an entry in the journal.
+fn journalled(reply: Option<Reply>) -> Option<(Reply, bool)>
+    ensures { result ≡ journalled reply }
+{
+    match reply {
+        None => None,
+        Some(reply) => Some((reply, true)),
+    }
+}
+
 /// A prepared choice is finished, with the reply if a call was made.
-#[tactic(auto, using(crate::proofs::code::Logged::logged_steps))]
 fn finished(node: &mut Node<'_>, choice: &Choice, reply: Option<Reply>) -> Result<Done, NoMemory>
     requires { MayFinish node.old choice.now (journalled reply) }
     ensures ends { IfOk result (Ends node.old (finish_of node.old choice.now reply) node.new) }
     ensures deck { node.new.deck ≡ node.old.deck }
     ensures number { node.new.node.tasks.system ≡ node.old.node.tasks.system }
 {
-    let reply = match reply {
-        None => None,
-        Some(reply) => Some((reply, true)),
-    };
-    node.finish(choice, reply)?;
+    node.finish(choice, journalled(reply))?;
     Ok(take_done(node))
 }
 
@@ -72,7 +77,7 @@ fn nothing_done(alloc: Global) -> Done
 
 /// A reply to a call that was prepared. One that leaves the system as it is, as most do where systems look into empty
 /// inboxes, costs nothing more.
-#[tactic(auto, using(crate::proofs::code::Logged::logged_steps, crate::proofs::code::Logged::leaving_steps))]
+#[tactic(auto, using(crate::proofs::code::Logged::leaving_steps))]
 fn replied(
     alloc: Global,
     node: &mut Node<'_>,
@@ -237,7 +242,7 @@ fn take(
 }
 
 /// A choice of a system: it is prepared, makes at most one call of the medium, and is finished.
-#[tactic(auto, using(crate::proofs::code::Logged::logged_steps), unfolding(crate::specs::World::chosen, crate::specs::World::carry_out))]
+#[tactic(auto, using(crate::proofs::code::Logged::nothing_told), unfolding(crate::specs::World::chosen, crate::specs::World::carry_out))]
 fn choose(
     alloc: Global,
     medium: &mut Medium,

@@ -1,5 +1,5 @@
 //! The tasks of a system. Each call changes one task, or tells one line.
-ghost use Rattle.std.specs.Prelude.{◌≡◌, ◌<◌, ◌+◌, ◌++◌, ◌∷◌, [], true, length, map, sum, None, IsTrue, ◌↔◌, IfOk, OnOk, OnErr};
+ghost use Rattle.std.specs.Prelude.{◌≡◌, ◌<◌, ◌+◌, ◌++◌, ◌∷◌, [], true, length, map, sum, vec_len, vec_capacity, None, IsTrue, ◌↔◌, IfOk, OnOk, OnErr};
 ghost use Rattle.std.specs.Option.{option_copied, option_map};
 ghost use Rattle.grs_base.specs.Limits.{most_lines};
 ghost use Rattle.task_state.specs.Units.{counted, reserved_of};
@@ -84,6 +84,21 @@ fn end_code(phase: &Phase, old: u16) -> u16
         Phase::Ending(code) => *code,
         _ => old,
     }
+}
+
+/// Lines and one more behind them, moved to where there is room for all of them, so that no memory is taken.
+fn moved_with(lines: Vec<ToldLine>, line: ToldLine, room: Vec<ToldLine>) -> Vec<ToldLine>
+    requires none { room.items ≡ [] }
+    requires room { vec_len lines < vec_capacity room }
+    ensures { result.items ≡ lines.items ++ line ∷ [] }
+{
+    let mut lines = lines;
+    let mut all = room;
+    match all.append(&mut lines) {
+        Ok(()) => all.push_reserved(line),
+        Err(_) => unreachable!(),
+    }
+    all
 }
 
 /// Puts rows behind others. Without memory there are as many as before.
@@ -353,5 +368,15 @@ impl Tasks {
         ensures err { OnErr result (self.new ≡ self.old) }
     {
         self.told.push(line)
+    }
+
+    /// Tells one more line. All lines move to a vector that has room for them, so no memory is taken.
+    pub fn tell_within(&mut self, line: ToldLine, room: Vec<ToldLine>)
+        requires none { room.items ≡ [] }
+        requires room { length self.old.told < vec_capacity room }
+        ensures { self.new ≡ telling self.old line }
+    {
+        let lines = std::mem::replace(&mut self.told, List::new(self.alloc)).into_vec();
+        self.told = List::from_vec(moved_with(lines, line, room));
     }
 }

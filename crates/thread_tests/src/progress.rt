@@ -26,7 +26,7 @@ impl Progress {
 
     /// The system's worker is lent. Of its log those steps alone are gone through that are new.
     pub fn keep(&self, worker: &Worker<'_>) {
-        let steps = worker.node.log().steps.as_slice();
+        let steps = worker.node.log();
         let mut told = self.told.load();
         for place in self.steps.load() as usize..steps.len() {
             told = told.saturating_add(steps[place].told.len() as u64);

@@ -34,7 +34,7 @@ const ANSWERS: u64 = 590;
 /// How many turns a worker's system made that its log has.
 fn turns_of(worker: &Worker<'_>) -> u64 {
     let mut turns = 0u64;
-    for step in worker.node.log().steps.as_slice() {
+    for step in worker.node.log() {
         turns = turns.saturating_add(u64::from(matches!(step.choice, Choice::Turn)));
     }
     turns

@@ -1,7 +1,7 @@
 -- What the event that is taken out of a log fixed and told.
 use Rattle.grs_world.proofs.Common.{[], ◌++◌, ◌∙◌, ◌∷◌, ◌≡◌, ap, Choice, drop, false, finish, length, List, NodeView}
 use Rattle.grs_world.proofs.Common.{None, Option, refl, Reply, Some, sym, true}
-use Rattle.grs_node.specs.Log.{step_done, finished}
+use Rattle.grs_node.specs.Log.{shown, step_done, finished}
 use Rattle.std.specs.Prelude.{◌≢◌}
 use Rattle.grs_wire.specs.declared.log.StepDone.{StepDone}
 use Rattle.grs_wire.specs.Replies.{leaves_all}
@@ -13,7 +13,7 @@ pub drop-all : {X : Type 0} (xs : List X) → drop (length xs) xs ≡ []
 drop-all [] = refl
 drop-all (x ∷ xs) = drop-all xs
 
-pub finished-node : (v : NodeView) (choice : Choice) (reply : Option Reply)
+finished-node : (v : NodeView) (choice : Choice) (reply : Option Reply)
     → (finished v choice (journalled reply)).node ≡ (finish v.deck v.node choice reply).node
 unfolding finished
 finished-node v choice None = refl
@@ -26,7 +26,7 @@ last_done-behind (s ∷ []) step = refl
 last_done-behind (s ∷ t ∷ ts) step = last_done-behind (t ∷ ts) step
 
 -- of the log of a system that finished a choice
-pub finished-done : (v : NodeView) (choice : Choice) (reply : Option Reply)
+finished-done : (v : NodeView) (choice : Choice) (reply : Option Reply)
     → last_done (finished v choice (journalled reply)).log ≡ done_by v.node (finish v.deck v.node choice reply)
 unfolding finished
 finished-done v choice None = last_done-behind v.log (step_done v.node choice false (finish v.deck v.node choice None))
@@ -38,12 +38,27 @@ some-behind : (log : List StepDone) (step : StepDone) → log ++ step ∷ [] ≢
 some-behind [] step h = absurd (cc)
 some-behind (s ∷ log) step h = absurd (cc)
 
-pub finished-some : (v : NodeView) (choice : Choice) (reply : Option Reply)
+finished-some : (v : NodeView) (choice : Choice) (reply : Option Reply)
     → (finished v choice (journalled reply)).log ≢ []
 unfolding finished
 finished-some v choice None = some-behind v.log (step_done v.node choice false (finish v.deck v.node choice None))
 finished-some v choice (Some reply) =
     some-behind v.log (step_done v.node choice true (finish v.deck v.node choice (Some reply)))
+
+-- the same of the system that was finished, whatever room both have
+pub shown-node : (v w : NodeView) (choice : Choice) (reply : Option Reply)
+    → shown w ≡ finished (shown v) choice (journalled reply) → w.node ≡ (finish v.deck v.node choice reply).node
+shown-node v w choice reply is = ap (λ (u : NodeView). u.node) is ∙ finished-node (shown v) choice reply
+
+pub shown-done : (v w : NodeView) (choice : Choice) (reply : Option Reply)
+    → shown w ≡ finished (shown v) choice (journalled reply)
+    → last_done w.log ≡ done_by v.node (finish v.deck v.node choice reply)
+shown-done v w choice reply is = ap (λ (u : NodeView). last_done u.log) is ∙ finished-done (shown v) choice reply
+
+pub shown-some : (v w : NodeView) (choice : Choice) (reply : Option Reply)
+    → shown w ≡ finished (shown v) choice (journalled reply) → w.log ≢ []
+shown-some v w choice reply is h =
+    finished-some (shown v) choice reply (sym (ap (λ (u : NodeView). u.log) is) ∙ h)
 
 -- a reply that leaves the system as it is
 pub left-node : (v : NodeView) (choice : Choice) (reply : Reply) → leaves_all reply ≡ true
@@ -60,4 +75,4 @@ pub ruleset leaving_steps = (left-node, left-done)
 
 pub ruleset taken_steps = (last_done-behind)
 
-pub ruleset logged_steps = (finished-node, finished-done, finished-some, drop-all)
+pub ruleset nothing_told = (drop-all)

@@ -1,14 +1,14 @@
 use Rattle.grs_world.proofs.Common.{◌≡◌, cond, length, most_additions, refl, Some, take, Turn, unseen}
 use Rattle.grs_wire.specs.declared.medium.Reply.TheVariants.{Turned}
-use Rattle.grs_world.proofs.code.Logged.{finished-node, finished-done, finished-some}
+use Rattle.grs_world.proofs.code.Logged.{shown-node, shown-done, shown-some}
 use Rattle.grs_world.proofs.code.Turns.{chosen-given}
 use Rattle.grs_world.proofs.chosen.turned.Goals as goal
 
 pub take_done-requires : goal.take_done-requires
 take_done-requires c =
-    rw c.in_ok-finish_turn.ensures.step
-    (finished-some c.args.node.now Turn
-    (Some (Turned (unseen c.args.system c.entries.result.now) c.taken_of-taken.result c.is_closed-closed.result)))
+    shown-some c.args.node.now c.finish_turn.new.self Turn
+    (Some (Turned (unseen c.args.system c.entries.result.now) c.taken_of-taken.result c.is_closed-closed.result))
+    c.in_ok-finish_turn.ensures.step
 
 pub returns-clause-ends : goal.returns-clause-ends
 returns-clause-ends c =
@@ -28,13 +28,14 @@ returns-clause-ends c =
     rw (
       c.take_done.ensures.node,
       c.take_done.ensures.done,
-      c.in_ok-finish_turn.ensures.step,
       chosen-given c.args.node.now.deck c.args.medium.now.state c.args.system c.args.node.now.node c.args.known
           c.requires.prepared c.requires.given,
       ← reply,
     ) (
-      finished-node c.args.node.now Turn
-          (Some (Turned (unseen c.args.system c.entries.result.now) c.taken_of-taken.result c.is_closed-closed.result)),
-      finished-done c.args.node.now Turn
-          (Some (Turned (unseen c.args.system c.entries.result.now) c.taken_of-taken.result c.is_closed-closed.result)),
+      shown-node c.args.node.now c.finish_turn.new.self Turn
+          (Some (Turned (unseen c.args.system c.entries.result.now) c.taken_of-taken.result c.is_closed-closed.result))
+          c.in_ok-finish_turn.ensures.step,
+      shown-done c.args.node.now c.finish_turn.new.self Turn
+          (Some (Turned (unseen c.args.system c.entries.result.now) c.taken_of-taken.result c.is_closed-closed.result))
+          c.in_ok-finish_turn.ensures.step,
     )

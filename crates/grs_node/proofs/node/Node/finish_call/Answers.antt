@@ -12,12 +12,15 @@ pub invariant_of-self : goal.invariant_of-self
 invariant_of-self c =
     let comes =
     subst (λ (v : NodeView). may_come (prepare v.deck v.node c.args.choice) c.args.reply ≡ true) (sym c.self.view_is)
-    c.requires in (
+    c.requires.come in (
       c.self.invariant.0,
       c.self.invariant.1 ∙ ap (scripts_of c.self.inside.deck.now) (sym c.finish_call.ensures.system),
       c.self.invariant.2 ∙ ap (names_of c.self.inside.deck.now) (sym c.finish_call.ensures.system),
       call-fits-after c.self.inside.deck.now c.self.inside.state c.finish_call.new.self c.args.choice c.args.reply
           c.in-Ok.fixed c.self.invariant.3 comes c.in-Ok.ensures.system c.in-Ok.ensures.step,
+      c.self.invariant.4,
+      c.self.invariant.5,
+      tt,
     )
 
 pub finish_call-requires-clause-few : goal.finish_call-requires-clause-few
@@ -36,7 +39,7 @@ pub finish_call-requires-clause-target : goal.finish_call-requires-clause-target
 finish_call-requires-clause-target c =
     let comes =
     subst (λ (v : NodeView). may_come (prepare v.deck v.node c.args.choice) c.args.reply ≡ true) (sym c.self.view_is)
-    c.requires in
+    c.requires.come in
     target-fits c.self.inside.deck.now c.self.inside.state c.args.choice c.args.reply c.self.invariant.3 comes
 
 pub finish_call-requires-clause-orderly : goal.finish_call-requires-clause-orderly

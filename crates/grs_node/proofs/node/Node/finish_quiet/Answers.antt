@@ -16,4 +16,7 @@ invariant_of-self c =
       c.self.invariant.2 ∙ ap (names_of c.self.inside.deck.now) (sym c.finish_quiet.ensures.system),
       quiet-fits-after c.self.inside.deck.now c.self.inside.state c.finish_quiet.new.self c.args.choice c.in-Ok.fixed
           c.self.invariant.3 asked c.in-Ok.ensures.system c.in-Ok.ensures.step,
+      c.self.invariant.4,
+      c.self.invariant.5,
+      tt,
     )

@@ -13,6 +13,9 @@ invariant_of-self c = (
   turned-fits-after c.self.inside.deck.now c.self.inside.state c.turned_among.new.self
       (unseen c.args.system c.args.entries.now) c.args.taken c.args.closed c.in-Ok.fixed c.self.invariant.3
       c.in-Ok.ensures.system c.in-Ok.ensures.step,
+  c.self.invariant.4,
+  c.self.invariant.5,
+  tt,
 )
 
 pub turned_among-requires-clause-entries : goal.turned_among-requires-clause-entries

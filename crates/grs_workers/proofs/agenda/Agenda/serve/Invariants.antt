@@ -2,4 +2,8 @@ use Rattle.std.proofs.Common.{◌≡◌}
 use Rattle.grs_workers.proofs.agenda.Agenda.serve.Given as goal
 
 abbrev pub invariant-loop : goal.invariant-loop
-invariant-loop l = record { node : l.node ≡ l.fn.node }
+invariant-loop l = record {
+  deck : l.node.deck ≡ l.fn.node.deck;
+  node : l.node.node ≡ l.fn.node.node;
+  log : l.node.log ≡ l.fn.node.log;
+}

@@ -9,7 +9,7 @@ use Rattle.grs_node.specs.Node.{NodeState, prepare}
 use Rattle.grs_node.specs.declared.prepared.Prepared.{Prepared}
 use Rattle.grs_wire.specs.declared.deck.Choice.{Choice}
 use Rattle.grs_wire.specs.declared.deck.Deck.{Deck}
-use Rattle.grs_node.proofs.node.Node.prepare.Goals as goal
+use Rattle.grs_node.proofs.node.Node.prepared.Goals as goal
 
 -- so does what is prepared
 addressed : {E : Type 0} (deck : Deck) (n : NodeState) (choice : Choice) (r : Result Prepared E) → NodeFits deck n
