@@ -25,7 +25,7 @@ ghost use Rattle.grs_world.specs.World.{run};
 /// Every run is sound, in ring mode and in star mode and where it changes from the one to the other, at whatever event: its
 /// history is legal, and what is told agrees with it, by systems that weren't removed. So it is wherever systems are removed
 /// in ring mode, and as long as none is removed in star mode that manages a lock entry, and none before all live ones have
-/// changed (`NoneTakesEntries`). Those that are may have elements, and whatever their tasks asked may be under way, held or
+/// changed (`NoneTakesEntries`; such a run is spared). Those that are may have elements, and whatever their tasks asked may be under way, held or
 /// settled; the others get to know of the removal at any later event. Of a deck whose runs may be in star mode it needs the bounds of
 /// systems and lock entries, and of each deck that no desk commands the removal of its own system, or of one that isn't
 /// there.
@@ -44,18 +44,18 @@ pub fn decks_without_removals_are_spared()
     ensures { (deck : Deck) → may_remove deck ≡ false → (events : List Event) → NoneInStar deck events }
 {}
 
-/// And a run that removes no system in star mode takes no lock entry from its manager there.
+/// And a run that removes no system in star mode is spared.
 pub fn spared_runs_take_no_entries()
     ensures { (deck : Deck) → (events : List Event) → NoneInStar deck events → NoneTakesEntries deck events }
 {}
 
-/// In every run of such a deck that removes none in star mode that manages a lock entry, and none there before all live ones
-/// have changed, what is kept of each Systems resource is the list that the history leads to, though a manager that doesn't
-/// know of a removal yet still has that one's elements. In ring mode each live system keeps it: its table has that list once the entries that it hasn't
-/// seen are processed. In star mode the manager of the resource's lock entry does, in its table as long as it hasn't
-/// changed; where there is none, the history has nothing on the resource. What is kept behind the removal of a manager, as
-/// long as the lists of its entries have still to be gathered, `kept` says too; that it is the history's list is a law right
-/// behind the event of the first such removal, and so far shown by worked runs behind any other event.
+/// In every spared run of such a deck what is kept of each Systems resource is the list that the history leads to, though a
+/// manager that doesn't know of a removal yet still has that one's elements. In ring mode each live system keeps it: its table has
+/// that list once the entries that it hasn't seen are processed. In star mode the manager of the resource's lock entry does, in its
+/// table as long as it hasn't changed; where there is none, the history has nothing on the resource. What is kept behind the removal
+/// of a manager, as long as the lists of its entries have still to be gathered, `kept` says too; that it is the history's list is a
+/// law right behind the event of a run's first removal in star mode, of a manager or not, and so far shown by worked runs behind any
+/// other removal of a manager.
 pub fn kept_are_places()
     ensures { (deck : Deck) → (may_be_star deck ≡ true → FitsStar deck) → (events : List Event) → NoneTakesEntries deck events → KeptArePlaces deck events }
 {}
@@ -94,7 +94,7 @@ pub fn what_events_fix()
     ensures { (deck : Deck) → (events : List Event) → (next : Event) → EventFixes deck events next }
 {}
 
-/// In every run of such a deck that takes no lock entry from its manager in star mode the table that each live system keeps of the Systems
+/// In every spared run of such a deck the table that each live system keeps of the Systems
 /// resources, as long as it hasn't changed to star mode, is that of a front of the history: of what was fixed before the
 /// first entry of the message that the system has still to process.
 pub fn tables_are_fronts()
@@ -102,7 +102,7 @@ pub fn tables_are_fronts()
 {}
 
 /// Wherever a run is in star mode, a lock word names a manager exactly where its set isn't empty, who is in it. And wherever
-/// one is that takes no lock entry from its manager in that mode, the words go with the systems: the set of an entry's word holds a system
+/// a spared one is, the words go with the systems: the set of an entry's word holds a system
 /// exactly where that system is live and has interest in the entry, and it names a system as the manager exactly where that
 /// system is live and manages the entry. A system that hasn't changed has interest in what its table leads to, and manages
 /// that, once it has processed what it hasn't seen.
@@ -111,7 +111,7 @@ pub fn words_go_with_systems()
     ensures systems { (deck : Deck) → (may_be_star deck ≡ true → FitsStar deck) → (events : List Event) → NoneTakesEntries deck events → (run deck events).medium.star ≡ true → WordsGoWithSystems deck events }
 {}
 
-/// In every run of such a deck that takes no lock entry from its manager in star mode each system that is in that mode keeps well what it
+/// In every spared run of such a deck each system that is in star mode keeps well what it
 /// manages: ranks rise along the list of each resource, so that what is kept of it is in the order of ranks; and each owner
 /// that is still to be told owns and is of another system.
 pub fn managers_keep_well()
@@ -132,7 +132,7 @@ pub fn answers_come_last()
     ensures told { (deck : Deck) → deck.star ≡ false → (may_be_star deck ≡ true → FitsStar deck) → (events : List Event) (next : Event) → AnsweredLast deck events next }
 {}
 
-/// In every run of such a deck that takes no lock entry from its manager in star mode nothing that is passed is left untold, of whichever
+/// In every spared run of such a deck nothing that is passed is left untold, of whichever
 /// system and whatever the others do: each line that a task has passed has its code line, a WAIT and what waited too, or
 /// its rows; who has ended has its END line; and each line of a desk that is done is told there.
 pub fn passed_is_told()
