@@ -52,6 +52,15 @@ free_dead [] q h = absurd (cc)
 free_dead (x ∷ hs) zero h = grind (arith, h)
 free_dead (x ∷ hs) (suc q) h = free_dead hs q h
 
+-- as many heads, of which those of the same queues are in use, have the same queues free
+pub free_same : (gs hs : List Head) (q : ℕ) → length gs ≡ length hs
+    → ((i : ℕ) → (head_at gs i).live ≡ (head_at hs i).live) → is_free_at gs q ≡ is_free_at hs q
+free_same [] [] q l e = refl
+free_same [] (h ∷ hs) q l e = absurd (omega arith)
+free_same (g ∷ gs) [] q l e = absurd (omega arith)
+free_same (g ∷ gs) (h ∷ hs) zero l e = ap not (e zero)
+free_same (g ∷ gs) (h ∷ hs) (suc q) l e = free_same gs hs q (omega arith) (λ i. e (suc i))
+
 -- one that isn't there, or isn't in use
 pub head_at-past : (hs : List Head) (q : ℕ) → length hs ≤ q → head_at hs q ≡ no_head
 head_at-past [] q l = refl

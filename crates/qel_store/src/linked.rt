@@ -454,12 +454,13 @@ impl LinkedQueues {
         first_in(&self.elements, &self.tasks, task, steps)
     }
 
-    /// Takes out every element of a task, and tells how many there were. All others keep their order, and a queue that
-    /// gets empty stays in use.
+    /// Takes out every element of a task, and tells how many there were. All others keep their order, a queue that gets
+    /// empty stays in use, and a queue can be made without `reserve` exactly where one could before.
     pub fn end_task<L: Ledger>(&mut self, task: TaskId, steps: &mut Steps<L>) -> u32
         ensures count { result ≡ length (queued_by (⟦<LinkedQueues as Queues>⟧.elements self.old) task) }
         ensures elements { ⟦<LinkedQueues as Queues>⟧.elements self.new ≡ without_task (⟦<LinkedQueues as Queues>⟧.elements self.old) task }
         ensures live { (q : ℕ) → ⟦<LinkedQueues as Queues>⟧.is_live self.new q ≡ ⟦<LinkedQueues as Queues>⟧.is_live self.old q }
+        ensures room { ⟦<LinkedQueues as Queues>⟧.queue_room self.new ≡ ⟦<LinkedQueues as Queues>⟧.queue_room self.old }
         ensures steps { steps.new ≤ steps.old + (8 * result + 2) }
     {
         let ring = task_ring(&self.tasks, task);

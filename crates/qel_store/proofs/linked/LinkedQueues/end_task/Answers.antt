@@ -5,6 +5,7 @@ use Rattle.qel_store.specs.declared.rings.Ring.{Ring}
 use Rattle.qel_store.specs.Items.{members, is_of}
 use Rattle.qel_store.specs.Tasks.{ring_of}
 use Rattle.qel_store.proofs.EndLemmas.{ends-cleared, ends-held}
+use Rattle.qel_store.proofs.HeadLemmas.{free_same}
 use Rattle.qel_store.proofs.TakeLemmas.{count_of, none_of, task_circle}
 use Rattle.qel_store.proofs.TaskLemmas.{ring_known}
 use Rattle.qel_store.proofs.WalkLemmas.{circle-length}
@@ -57,3 +58,9 @@ invariant_of-self-clause-linked g c =
     c.change_task_ring.ensures t
     ∙ ap (λ (r : Ring). cond (same_task c.args.task t) r (ring_of c.args.self.now.tasks.circles.entries t))
     c.empty.ensures)
+
+pub returns-clause-room : goal.returns-clause-room
+returns-clause-room g c =
+    ap (λ b. cond b 1 0)
+    (free_same c.end_in.new.heads.items c.args.self.now.heads.items c.args.self.now.free c.end_in.ensures.len
+    c.end_in.ensures.live)
