@@ -12,7 +12,7 @@ use super::ends::ends_of;
 use grs_base::{List, NoMemory, SysId, TaskId};
 use grs_history::{answers, queues_after};
 use grs_wire::{Deck, Event, HistEntry, Seen, TaskEnd, Told};
-use grs_world::replay;
+use grs_world::{World, replay};
 use std::alloc::Global;
 
 /// What is seen of a run itself: its history, what was told, the units that are reserved, the lock words and the
@@ -27,6 +27,35 @@ pub(crate) struct Run {
     pub(crate) ended: List<(TaskId, TaskEnd)>,
 }
 
+/// What is seen of the last world of a run.
+#[derive(Drop)]
+struct Last {
+    units: List<(SysId, u16, u32)>,
+    words: List<u32>,
+    star: bool,
+    ended: List<(TaskId, TaskEnd)>,
+}
+
+/// What is seen of a world of a deck.
+fn last_of(alloc: Global, deck: &Deck, world: &World<'_>) -> Result<Last, NoMemory>
+    requires { IsDeck deck.now }
+    ensures units { IfOk result (λ last. last.units ≡ units_of world.now.world.nodes) }
+    ensures words { IfOk result (λ last. last.words ≡ world.now.world.medium.words) }
+    ensures star { IfOk result (λ last. last.star ≡ world.now.world.medium.star) }
+    ensures ended { IfOk result (λ last. last.ended ≡ ends_at world.now.world.medium.removed world.now.world.nodes (tasks_of deck.now)) }
+{
+    let units = world.units()?;
+    let words = world.medium().words().copy(alloc)?;
+    let star = world.medium().star();
+    let ended = ends_of(alloc, deck, world.medium().removed(), world.nodes())?;
+    Ok(Last {
+        units,
+        words,
+        star,
+        ended,
+    })
+}
+
 /// The run of these events.
 #[tactic(auto, using(grs_wire::proofs::DeckLaws::bounds))]
 pub(crate) fn run_of(alloc: Global, deck: &Deck, events: &[Event]) -> Result<Run, NoMemory>
@@ -39,19 +68,16 @@ pub(crate) fn run_of(alloc: Global, deck: &Deck, events: &[Event]) -> Result<Run
     ensures ended { IfOk result (λ seen. seen.ended ≡ ends_at (run deck.now events.now).medium.removed (run deck.now events.now).nodes (tasks_of deck.now)) }
 {
     let world = replay(alloc, deck, events)?;
-    let units = world.units()?;
-    let words = world.medium().words().copy(alloc)?;
-    let star = world.medium().star();
-    let ended = ends_of(alloc, deck, world.medium().removed(), world.nodes())?;
+    let last = last_of(alloc, deck, &world)?;
     let log = world.into_log();
     let hist = answers(alloc, log.fixed.as_slice())?;
     Ok(Run {
         hist,
         told: log.told,
-        units,
-        words,
-        star,
-        ended,
+        units: last.units,
+        words: last.words,
+        star: last.star,
+        ended: last.ended,
     })
 }
 

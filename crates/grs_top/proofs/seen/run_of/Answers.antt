@@ -15,22 +15,13 @@ pub returns-clause-told : goal.returns-clause-told
 returns-clause-told c = rw (c.into_log-log.ensures.told, c.in_ok-world.ensures) refl
 
 pub returns-clause-ended : goal.returns-clause-ended
-returns-clause-ended c =
-    rw (
-      c.in_ok-ended.ensures,
-      c.removed.ensures,
-      c.medium-3.ensures,
-      c.nodes.ensures.nodes,
-      c.in_ok-world.ensures,
-    )
-    refl
+returns-clause-ended c = rw (c.in_ok-last.ensures.ended, c.in_ok-world.ensures) refl
 
 pub returns-clause-units : goal.returns-clause-units
-returns-clause-units c = rw (c.in_ok-units.ensures, c.in_ok-world.ensures) refl
+returns-clause-units c = rw (c.in_ok-last.ensures.units, c.in_ok-world.ensures) refl
 
 pub returns-clause-words : goal.returns-clause-words
-returns-clause-words c =
-    rw (c.in_ok-words.ensures, c.words.ensures, c.medium.ensures, c.in_ok-world.ensures) refl
+returns-clause-words c = rw (c.in_ok-last.ensures.words, c.in_ok-world.ensures) refl
 
 pub returns-clause-star : goal.returns-clause-star
-returns-clause-star c = rw (c.star-star.ensures, c.medium-2.ensures, c.in_ok-world.ensures) refl
+returns-clause-star c = rw (c.in_ok-last.ensures.star, c.in_ok-world.ensures) refl
