@@ -13,7 +13,7 @@ use Rattle.grs_node.specs.Removal.{members}
 use Rattle.grs_node.specs.Removal.{without_those}
 use Rattle.grs_node.specs.Log.{stepped}
 use Rattle.grs_node.specs.Node.{NodeState, Step, purged, purge_call, desk_of, prepare}
-use Rattle.grs_node.specs.Node.{finish_quiet}
+use Rattle.grs_node.specs.Node.{finish_quiet, only}
 use Rattle.grs_node.specs.Node.{finish_call, finish_star, is_for_deck}
 use Rattle.grs_node.specs.Node.{losing, losing_in, changed, stale, known_from, read_entries, put_in}
 use Rattle.grs_node.specs.Node.{desk_count, next_order, change_to_star, changed_if, turned, desk_told, switched}
@@ -192,6 +192,13 @@ call-fits-after deck n m choice reply fixed fits h same is =
     fits-of deck n m (finish_call deck n choice reply) fixed fits same is (call-table deck n choice reply fits)
     (call-part deck n choice reply fits (sends-call deck n choice reply fits h) (came-called deck n choice reply h)
     (ap (λ (x : Step). x.node.tasks.system) (sym is) ∙ same))
+
+pub stale-fits-after : (deck : Deck) (n m : NodeState) (choice : Choice) (set : ℕ)
+    → NodeFits deck n → may_come (prepare deck n choice) (replies.Stale set) ≡ true → m.tasks.system ≡ n.tasks.system
+    → m ≡ stale deck n set → NodeFits deck m
+unfolding finish_call
+stale-fits-after deck n m choice set fits h same is =
+    call-fits-after deck n m choice (replies.Stale set) [] fits h same (ap only is)
 
 pub turned-fits-after :
     (deck : Deck) (n m : NodeState) (es : List RingEntry) (taken : ℕ) (closed : Bool) (fixed : List Fixed)

@@ -1,7 +1,9 @@
 -- After which replies a system wants no memory where it has made room, reply by reply, as the rules of the service ask.
-use Rattle.std.proofs.Common.{◌≡◌, ℕ, Bool, true, false, List, [], ◌∷◌, map, replicate, Option, refl}
+use Rattle.std.proofs.Common.{◌≡◌, ℕ, Bool, true, false, List, [], ◌∷◌, map, replicate, Option, Some, None, refl}
 use Rattle.grs_base.specs.declared.resource.SysId.{SysId}
-use Rattle.grs_node.specs.Room.{needs_no_memory}
+use Rattle.grs_node.specs.Node.{NodeState}
+use Rattle.grs_node.specs.Room.{needs_no_memory, takes_no_memory}
+use Rattle.grs_node.specs.Star.{StarPart}
 use Rattle.grs_wire.specs.declared.medium.Mail.{Mail}
 use Rattle.grs_wire.specs.declared.medium.Reply.TheVariants as replies
 use Rattle.grs_wire.specs.declared.medium.RingEntry.{RingEntry}
@@ -23,3 +25,9 @@ more : (entry : RingEntry) (entries : List RingEntry) (mail : Mail) (taken set :
     ∷ replies.Sole ∷ replies.Taken mail ∷ replies.Settled ∷ replies.Switched ∷ replies.Purged ∷ replies.Stale set ∷ []
     ) ≡ replicate 9 false
 more entry entries mail taken set closed = refl
+
+-- in ring mode it takes no memory to be told who is removed; in star mode the system loses them
+stale : (n : NodeState) (part : StarPart) (set : ℕ)
+    → map (λ (star : Option StarPart). takes_no_memory (record n { star = star }) (replies.Stale set))
+    (None ∷ Some part ∷ []) ≡ true ∷ false ∷ []
+stale n part set = refl

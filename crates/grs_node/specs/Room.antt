@@ -1,5 +1,5 @@
 -- What a system makes ready ahead of a call, so that a reply by which little happens takes no memory.
-use Rattle.std.specs.Prelude.{◌≡◌, ◌<◌, ◌≤◌, ℕ, Bool, true, false, length, Option, None, Some}
+use Rattle.std.specs.Prelude.{◌≡◌, ◌<◌, ◌≤◌, ℕ, Bool, true, false, length, is_none, Option, None, Some}
 use Rattle.grs_base.specs.declared.resource.Res.{Res}
 use Rattle.grs_base.specs.declared.resource.TaskId.{TaskId}
 use Rattle.grs_wire.specs.Replies.{leaves_all}
@@ -8,6 +8,7 @@ use Rattle.grs_wire.specs.declared.deck.Choice.TheVariants as choices
 use Rattle.grs_wire.specs.declared.medium.Reply.{Reply}
 use Rattle.grs_wire.specs.declared.medium.Reply.TheVariants as replies
 use Rattle.grs_node.specs.Log.{NodeView}
+use Rattle.grs_node.specs.Node.{NodeState}
 use Rattle.grs_node.specs.Star.{StarPart, to_tell}
 use Rattle.grs_node.specs.declared.prepared.Prepared.{Prepared}
 use Rattle.grs_node.specs.declared.prepared.Prepared.TheVariants.{Quiet, Call, Nothing}
@@ -22,6 +23,12 @@ needs_no_memory replies.Left = true
 needs_no_memory replies.Already = true
 needs_no_memory replies.NoSuch = true
 needs_no_memory reply = leaves_all reply
+
+-- Whether a system takes no memory for a reply, where it has made room: little happens by it, or a system of a ring is
+-- told by it who is removed. In star mode the system loses these, and tells who gains control.
+abbrev pub takes_no_memory : NodeState → Reply → Bool
+takes_no_memory n (replies.Stale set) = is_none n.star
+takes_no_memory n reply = needs_no_memory reply
 
 -- whether a choice is a command of the desk
 abbrev pub is_command : Choice → Bool

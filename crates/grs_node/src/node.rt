@@ -9,10 +9,10 @@ ghost use Rattle.grs_node.specs.Node as steps;
 ghost use Rattle.grs_node.specs.Finish.{MayFinish, may_come};
 ghost use Rattle.grs_node.specs.Addressed.{is_addressed};
 ghost use Rattle.grs_wire.specs.Unseen.{unseen};
-ghost use Rattle.grs_node.specs.Room.{needs_no_memory, is_call, next_for, HasRoomFor};
+ghost use Rattle.grs_node.specs.Room.{needs_no_memory, takes_no_memory, is_call, next_for, HasRoomFor};
 ghost use Rattle.grs_node.specs.TurnCalls.{turn_of, take_of};
 ghost use Rattle.grs_wire.specs.declared.deck.Choice.TheVariants.{Turn, Take, Tell};
-ghost use Rattle.grs_wire.specs.declared.medium.Reply.TheVariants.{Turned};
+ghost use Rattle.grs_wire.specs.declared.medium.Reply.TheVariants.{Turned, Stale};
 ghost use Rattle.grs_node.specs.Log.{shown, starting, stepped, finished, end_in};
 ghost use Rattle.grs_node.specs.declared.prepared.Prepared.TheVariants.{Quiet, Call, Nothing};
 
@@ -447,17 +447,67 @@ impl<'d> Node<'d> {
         self.keep(choice, true, fixed, place)
     }
 
+    /// A system in ring mode is told which systems are removed.
+    #[tactic(auto, using(crate::proofs::Fits::finishes))]
+    fn informed(&mut self, choice: Choice, set: u32)
+        requires come { may_come (steps.prepare self.old.deck self.old.node choice) (Stale set) ≡ true }
+        requires ring { self.old.node.star ≡ None }
+        ensures step { self.new.node ≡ steps.stale self.old.deck self.old.node set }
+        ensures log { self.new.log ≡ self.old.log }
+        ensures deck { self.new.deck ≡ self.old.deck }
+        ensures system { self.new.node.tasks.system ≡ self.old.node.tasks.system }
+        ensures told { self.new.node.tasks.told ≡ self.old.node.tasks.told }
+        ensures steps { self.new.room.steps ≡ self.old.room.steps }
+    {
+        let deck = self.deck;
+        self.ready.next = None;
+        self.state.informed(deck, set);
+    }
+
+    /// Finishes a call that has an entry in the journal, by which a system in ring mode is told which systems are removed. Where
+    /// there is room for a step, that takes no memory.
+    #[tactic(auto, using(crate::proofs::Little::told_steps), unfolding(crate::specs::Log::finished, crate::specs::Node::finish, crate::specs::Node::finish_call))]
+    fn finish_informed(&mut self, choice: Choice, set: u32) -> Result<(), NoMemory>
+        requires come { may_come (steps.prepare self.old.deck self.old.node choice) (Stale set) ≡ true }
+        requires ring { self.old.node.star ≡ None }
+        ensures step { OnOk result (shown self.new ≡ finished (shown self.old) choice (Some (Stale set, true))) }
+        ensures sure { 1 ≤ self.old.room.steps → IsOk result }
+        ensures deck { self.new.deck ≡ self.old.deck }
+        ensures system { self.new.node.tasks.system ≡ self.old.node.tasks.system }
+    {
+        self.keep_step()?;
+        self.informed(choice, set);
+        self.keep_little(choice, List::new(self.alloc));
+        Ok(())
+    }
+
+    /// Finishes a call that has an entry in the journal with a reply by which more than little happens.
+    fn finish_more(&mut self, choice: Choice, reply: Reply) -> Result<(), NoMemory>
+        requires come { may_come (steps.prepare self.old.deck self.old.node choice) reply ≡ true }
+        requires more { needs_no_memory reply ≡ false }
+        ensures step { OnOk result (shown self.new ≡ finished (shown self.old) choice (Some (reply, true))) }
+        ensures sure { takes_no_memory self.old.node reply ≡ true → HasRoomFor self.old choice → IsOk result }
+        ensures deck { self.new.deck ≡ self.old.deck }
+        ensures system { self.new.node.tasks.system ≡ self.old.node.tasks.system }
+    {
+        let is_in_ring = self.state.star.is_none();
+        match reply {
+            Reply::Stale { set } if is_in_ring => self.finish_informed(choice, set),
+            reply => self.finish_entered(choice, reply),
+        }
+    }
+
     /// Finishes a choice: without a reply what was prepared to be done without a call, else with the reply to
     /// the call that was prepared, and whether the call has an entry in the journal. An event goes into the
     /// log where it made no call, or where its call has such an entry; a call without one leaves all as it was, and
     /// is never answered NoMemory. After NoMemory the system is to be given up. It never comes for a reply by which little
-    /// happens, where there is room for that, as `prepare` makes it.
+    /// happens, nor in ring mode for one that tells who is removed, where there is room for that, as `prepare` makes it.
     #[tactic(auto, using(crate::proofs::Finish::leaving))]
     pub fn finish(&mut self, choice: &Choice, reply: Option<(Reply, bool)>) -> Result<(), NoMemory>
         requires { MayFinish self.old choice.now reply }
         ensures step { OnOk result (shown self.new ≡ finished (shown self.old) choice.now reply) }
         ensures unentered { IfSome reply (λ r. r.1 ≡ false → IsOk result) }
-        ensures sure { IfSome reply (λ r. needs_no_memory r.0 ≡ true → HasRoomFor self.old choice.now → IsOk result) }
+        ensures sure { IfSome reply (λ r. takes_no_memory self.old.node r.0 ≡ true → HasRoomFor self.old choice.now → IsOk result) }
         ensures deck { self.new.deck ≡ self.old.deck }
         ensures system { self.new.node.tasks.system ≡ self.old.node.tasks.system }
     {
@@ -469,7 +519,7 @@ impl<'d> Node<'d> {
                 } else if needs_no_memory(&reply) {
                     self.finish_little(*choice, &reply)
                 } else {
-                    self.finish_entered(*choice, reply)
+                    self.finish_more(*choice, reply)
                 }
             }
         }

@@ -1,5 +1,5 @@
 //! A system's part of a turn: it reads the entries that it hasn't seen, and its requests are put in.
-ghost use Rattle.std.specs.Prelude.{◌≡◌, ◌≢◌, ◌<◌, ◌≤◌, ◌++◌, [], Some, true, false, take, drop, length, map, slice_get, vec_capacity, IfOk, IfSome, OnOk};
+ghost use Rattle.std.specs.Prelude.{◌≡◌, ◌≢◌, ◌<◌, ◌≤◌, ◌++◌, [], None, Some, true, false, take, drop, length, map, slice_get, vec_capacity, IfOk, IfSome, OnOk};
 ghost use Rattle.grs_base.specs.Limits.{most_systems, most_commands};
 ghost use Rattle.grs_wire.specs.declared.deck.Deck.{Deck as DeckValue};
 ghost use Rattle.grs_wire.specs.declared.medium.RingBody.TheVariants.{Request};
@@ -209,6 +209,18 @@ impl NodeState {
         let more = without_those(self.known, known);
         self.known = known;
         self.lose(alloc, names, more)
+    }
+
+    /// A system in ring mode is told which systems are removed, for which it takes no memory.
+    #[tactic(auto, unfolding(crate::specs::Node::stale, crate::specs::Node::losing))]
+    pub(crate) fn informed(&mut self, deck: &Deck, set: u32)
+        requires few { length deck.now.systems ≤ most_systems }
+        requires ring { self.old.star ≡ None }
+        ensures step { self.new ≡ steps.stale deck.now self.old set }
+        ensures system { self.new.tasks.system ≡ self.old.tasks.system }
+        ensures told { self.new.tasks.told ≡ self.old.tasks.told }
+    {
+        self.known = known_from(deck, self.known, set);
     }
 
     /// What a Turn at the message comes to, of which these entries were given. Where the message is closed the system
