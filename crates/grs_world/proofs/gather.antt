@@ -13,4 +13,5 @@ pub mod Acts
 pub mod InBoxes
 pub mod Notices
 pub mod Again
+pub mod StaysSent
 pub mod way

@@ -12,4 +12,5 @@ pub mod RemovalSamples
 pub mod InStarSamples
 pub mod GatherSamples
 pub mod LossSamples
+pub mod WaySamples
 pub mod StopSamples

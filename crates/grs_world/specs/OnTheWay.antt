@@ -32,6 +32,7 @@ pub record Stance : Type 0 where
   pub notice : Option Moved
   pub coming : ℕ → List (List PartRec)
 
+-- the item of the last notice of an inbox that names the entry: its first one of that entry
 abbrev pub or_else : Option Moved → Option Moved → Option Moved
 or_else (Some x) o = Some x
 or_else None o = o
@@ -40,6 +41,7 @@ abbrev pub last_item : ℕ → List Mail → Option Moved
 last_item e [] = None
 last_item e (y ∷ ms) = or_else (last_item e ms) (slice_get (items_in e y) 0)
 
+-- the parts of the entry under way from system u, in their order
 abbrev pub part_from : ℕ → ℕ → Mail → List (List PartRec)
 part_from e u (Part x from records) = cond ((x == e) && (from.0 == u)) (records ∷ []) []
 part_from e u mail = []
@@ -47,6 +49,7 @@ part_from e u mail = []
 abbrev pub parts_from : ℕ → List Mail → ℕ → List (List PartRec)
 parts_from e ms u = flat_map (part_from e u) ms
 
+-- by a system's part and inbox
 abbrev pub stance_of : ℕ → StarPart → List Mail → Stance
 stance_of e p ms = record {
   manages = manages p e;

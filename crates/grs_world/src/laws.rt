@@ -3,7 +3,7 @@ ghost use Rattle.std.specs.Prelude.{◌≡◌, true, false, length, List};
 ghost use Rattle.grs_wire.specs.Decks.{IsBounded, AreOrders};
 ghost use Rattle.grs_wire.specs.declared.deck.Deck.{Deck};
 ghost use Rattle.grs_wire.specs.declared.deck.Event.{Event};
-ghost use Rattle.grs_world.specs.Again.{NoticesSendAgain};
+ghost use Rattle.grs_world.specs.Again.{NoticesSendAgain, SentStays};
 ghost use Rattle.grs_world.specs.Agree.{Sound, RemovedTellNothing};
 ghost use Rattle.grs_world.specs.AtRest.{RestsInTheEnd};
 ghost use Rattle.grs_world.specs.Changing.{ChangesFixNothing};
@@ -202,6 +202,12 @@ pub fn parts_are_on_the_way()
 /// gathers that; of any other task that has sent one the request is still sent.
 pub fn notices_send_again()
     ensures { (deck : Deck) → (events : List Event) (next : Event) → NoticesSendAgain deck events next }
+{}
+
+/// At a system in star mode, a task that has sent its request, which isn't answered yet, stays so and asks the same by every
+/// event of that system that takes neither a notice nor an answer to a task of its place.
+pub fn sent_requests_stay()
+    ensures { (deck : Deck) → (events : List Event) (next : Event) → SentStays deck events next }
 {}
 
 /// No line is told by a system that was removed before that event, to a task or at its desk.

@@ -36,7 +36,7 @@ use Rattle.task_state.specs.declared.state.Phase.TheVariants as phases
 use Rattle.grs_world.proofs.run.Came as any
 
 -- a task in this phase isn't held, by an answer or at a WAIT line
-abbrev IsFree : Phase → Type 0
+abbrev pub IsFree : Phase → Type 0
 IsFree p = (is_held p ≡ false) × ((q : Res) → is_held_for q p ≡ false)
 
 -- so control that it is told leaves its phase, and what it asks
@@ -55,12 +55,12 @@ state-at v t u same = ap (λ i. get_or v.tasks i new_task) same
 
 module _ (t : TaskId) (a : Option Asked) where
   -- It stands in this phase, and asks for this.
-  record Stands (phase : Phase) (v : TasksView) : Type 0 where
-    here : is_task v t ≡ true
-    is : (state_of v t).phase ≡ phase
-    asks : (state_of v t).outstanding ≡ a
+  pub record Stands (phase : Phase) (v : TasksView) : Type 0 where
+    pub here : is_task v t ≡ true
+    pub is : (state_of v t).phase ≡ phase
+    pub asks : (state_of v t).outstanding ≡ a
 
-  told-stands : (phase : Phase) → IsFree phase → (v : TasksView) (r : Res) (u : TaskId) → Stands phase v
+  pub told-stands : (phase : Phase) → IsFree phase → (v : TasksView) (r : Res) (u : TaskId) → Stands phase v
       → Stands phase (tell_control v r u)
   unfolding tell_control
   told-stands phase free v r u h = go (is_task v u) refl
@@ -151,7 +151,7 @@ module _ (t : TaskId) (a : Option Asked) where
           }
 
   -- whether an item says so
-  abbrev says : StarPart → Moved → Bool
+  abbrev pub says : StarPart → Moved → Bool
   says p m = is_news p m.entry && asks_in p m.entry a
 
   -- an item of an entry in which the task doesn't ask changes nothing of what the others say
@@ -261,7 +261,7 @@ module _ (t : TaskId) (a : Option Asked) where
       (λ ns y e k. tasks-each (Stands phase) (told-stands phase free) (own_owners (installing ns y e) e) y.tasks k)
       (λ y s k. tasks-each (Stands phase) (told-stands phase free) _ y.tasks k) names x [] h
 
-  notice-sent : (known : ℕ) (names : List TaskId) (x : Standing) (ms : List Moved) → Stands phases.Sent x.tasks
+  pub notice-sent : (known : ℕ) (names : List TaskId) (x : Standing) (ms : List Moved) → Stands phases.Sent x.tasks
       → Stands (cond (list_any (says x.part) ms) phases.ToSend phases.Sent) (took_notice known names x ms).tasks
   notice-sent known names x ms h =
       up-stands (cond (list_any (says x.part) ms) phases.ToSend phases.Sent) (free (list_any (says x.part) ms)) names
@@ -340,7 +340,7 @@ module _ (deck : Deck) (m : MediumState) (c : SysId) (n : NodeState) (p : StarPa
   came-tasks choice b o (acted q is k r x acts) e = acts-tasks q is k r x acts e
 
 -- the system after the event
-node-after : (deck : Deck) (w : World) (e : Event) (n : NodeState) → slice_get w.nodes e.system.0 ≡ Some n
+pub node-after : (deck : Deck) (w : World) (e : Event) (n : NodeState) → slice_get w.nodes e.system.0 ≡ Some n
     → has w.medium.removed e.system.0 ≡ false
     → slice_get (happens deck w e).nodes e.system.0
     ≡ Some (chosen deck w.medium e.system n e.choice).step.node

@@ -103,7 +103,7 @@ abbrev pub part_sent : List Event
 part_sent = it_gathers ++ takes 2 ∷ takes 2 ∷ takes 2 ∷ parts 2 ∷ []
 
 -- With that the second has the lists (21). It tells the third's task, and settles the request that was sent again (26).
-abbrev all_there : List Event
+abbrev pub all_there : List Event
 all_there = part_sent ++ takes 1 ∷ []
 
 abbrev pub goes_on : List Event
@@ -284,7 +284,7 @@ one_gone = four_asked ++ purges 2 0 ∷ []
 abbrev pub one_part : List Event
 one_part = one_gone ++ takes 1 ∷ takes 1 ∷ takes 2 ∷ parts 2 ∷ takes 1 ∷ []
 
-abbrev two_gone : List Event
+abbrev pub two_gone : List Event
 two_gone = one_part ++ purges 3 1 ∷ purges 3 1 ∷ []
 
 -- The fourth takes its answer and both notices (28); to the second it can send no part any more (27), and it sends one
