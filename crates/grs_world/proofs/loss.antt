@@ -6,6 +6,7 @@ pub mod Words
 pub mod View
 pub mod Without
 pub mod Purging
+pub mod Ranks
 pub mod Removed
 pub mod Views
 pub mod Steps
@@ -18,3 +19,4 @@ pub mod Marks
 pub mod Hears
 pub mod Heard
 pub mod AtRest
+pub mod Shown

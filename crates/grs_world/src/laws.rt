@@ -60,13 +60,13 @@ pub fn kept_are_places()
     ensures { (deck : Deck) → (may_be_star deck ≡ true → FitsStar deck) → (events : List Event) → NoneTakesEntries deck events → KeptArePlaces deck events }
 {}
 
-/// Once a run of a deck is in star mode, and as long as it has removed no system there, the live systems show together what is
-/// kept: once each has changed and taken the mail of its inbox, what their tasks have on record of a Systems resource is, by
-/// its ranks, the list that the history leads to. And these ranks are those that the resource's manager keeps, one by one; they
-/// rise, so that no two are equal. The deck needs the bounds of a deck that was read: an answer with a rank past the last
-/// number has no effect.
+/// Once a spared run of a deck is in star mode the live systems show together what is kept: once each has changed and
+/// taken the mail of its inbox, what their tasks have on record of a Systems resource is, by its ranks, the list that the
+/// history leads to. As long as the run has removed no system in star mode, these ranks are those that the resource's
+/// manager keeps, one by one; they rise, so that no two are equal. The deck needs the bounds of a deck that was read: an
+/// answer with a rank past the last number has no effect.
 pub fn shown_are_places()
-    ensures places { (deck : Deck) → IsBounded deck → (events : List Event) → NoneInStar deck events → (run deck events).medium.star ≡ true → ShownArePlaces deck events }
+    ensures places { (deck : Deck) → IsBounded deck → (events : List Event) → NoneTakesEntries deck events → (run deck events).medium.star ≡ true → ShownArePlaces deck events }
     ensures ranks { (deck : Deck) → IsBounded deck → (events : List Event) → NoneInStar deck events → (run deck events).medium.star ≡ true → ShownHaveRanks deck events }
 {}
 

@@ -2,7 +2,7 @@
 use Rattle.grs_world.proofs.Common.{◌≡◌, at_rest, Deck, Event, false, FitsStar, has, IsHistory, items, List}
 use Rattle.grs_world.proofs.Common.{may_be_star, NodeState, NoneInStar, run, slice_get, Some, true, ℕ}
 use Rattle.grs_wire.specs.Decks.{IsBounded}
-use Rattle.grs_world.proofs.move.Sound.{GoodRun, every_run, good_history, good_told, in_ring, in_star}
+use Rattle.grs_world.proofs.move.Sound.{GoodRun, in_ring, in_star}
 use Rattle.grs_world.proofs.at_rest.AtEnd.{IsStill, displays-told, owners-told, replies-told, tasks-wait}
 use Rattle.grs_world.proofs.at_rest.Full.{full_run}
 use Rattle.grs_world.proofs.at_rest.RingEnd.{still-ring}
@@ -11,10 +11,9 @@ use Rattle.grs_world.proofs.at_rest.StarEnd.{still-star}
 use Rattle.grs_world.proofs.at_rest.StarRun.{restful_run}
 use Rattle.grs_world.proofs.at_rest.Units.{units-reserved}
 use Rattle.grs_world.proofs.run.Runs.{GoodTold}
-use Rattle.grs_world.specs.AtRest.{NothingIsLost, RestsInTheEnd}
+use Rattle.grs_world.specs.AtRest.{NothingIsLost}
 use Rattle.grs_world.specs.Passed.{PassedIsTold}
 use Rattle.grs_world.proofs.at_rest.Homes.{homes_run}
-use Rattle.grs_world.proofs.at_rest.Passing.{passed-told}
 
 module _ (deck : Deck) (bounds : IsBounded deck) (es : List Event) where
   fits : may_be_star deck ≡ true → FitsStar deck
@@ -42,9 +41,3 @@ module _ (deck : Deck) (bounds : IsBounded deck) (es : List Event) where
     tasks = tasks-wait deck es right told bounds.orders still;
     units = units-reserved deck es right (full_run deck es) (homes_run deck es) still;
   }
-
-pub rests : (deck : Deck) → IsBounded deck → (es : List Event) → NoneInStar deck es → RestsInTheEnd deck es
-rests deck bounds es none rest =
-    let good = every_run deck (fits deck bounds es) es none in
-    rests-by deck bounds es (good_history deck es (run deck es) good) (good_told deck es (run deck es) good)
-    (passed-told deck (fits deck bounds es) bounds.orders es none) (still-good deck bounds es none rest good)

@@ -1,16 +1,16 @@
 -- What is passed is told: of each system's tasks and of its desk, in every run.
 use Rattle.grs_world.proofs.Common.{[], ◌-◌, ◌<◌, ◌==◌, ◌∙◌, ◌∷◌, ◌≡◌, ◌≤◌, and_from, ap, arith, Bool, Deck, eq-eqb}
-use Rattle.grs_world.proofs.Common.{Event, false, first_node, FitsStar, get_or, has_code, is_code_at, is_code_of}
-use Rattle.grs_world.proofs.Common.{is_line_of, is_task, length, lines_of, lines_of_told, List, list_any, lt-ltb}
-use Rattle.grs_world.proofs.Common.{may_be_star, Meaning, nat_lt, node_at, NodeState, None, NoneInStar, Option}
-use Rattle.grs_world.proofs.Common.{OrdersFit, refl, run, scripts_of, slice_get, slice_get_within, Some, state_of}
-use Rattle.grs_world.proofs.Common.{subst, suc, sym, SysId, TaskId, TaskState, ToldLine, true, World, zero, ℕ}
+use Rattle.grs_world.proofs.Common.{Event, false, first_node, get_or, has_code, is_code_at, is_code_of, is_line_of}
+use Rattle.grs_world.proofs.Common.{is_task, length, lines_of, lines_of_told, List, list_any, lt-ltb, Meaning, nat_lt}
+use Rattle.grs_world.proofs.Common.{node_at, NodeState, None, Option, OrdersFit, refl, run, scripts_of, slice_get}
+use Rattle.grs_world.proofs.Common.{slice_get_within, Some, state_of, subst, suc, sym, SysId, TaskId, TaskState}
+use Rattle.grs_world.proofs.Common.{ToldLine, true, World, zero, ℕ}
 use Rattle.grs_known.specs.Told.{is_end_of}
 use Rattle.std.proofs.lemmas.Option.{get_or_from_slice_get}
 use Rattle.grs_known.specs.Passed.{has_ended, lines_passed}
 use Rattle.std.proofs.lemmas.Map.Views.{any-filter_same}
 use Rattle.grs_known.proofs.system.Ours.{script_at}
-use Rattle.grs_world.proofs.move.Sound.{GoodRun, every_run, good_told, in_ring, in_star}
+use Rattle.grs_world.proofs.move.Sound.{GoodRun, in_ring, in_star}
 use Rattle.grs_world.proofs.at_rest.EndLines.{code-exact, code-home, end-exact, end-home}
 use Rattle.grs_world.proofs.at_rest.Full.{full_run}
 use Rattle.grs_world.proofs.at_rest.Homes.{homes_run}
@@ -111,9 +111,3 @@ module _ (deck : Deck) (fit : OrdersFit deck) (es : List Event) (g : GoodTold de
 
   pub passed-by : PassedIsTold deck es
   passed-by = record { lines = lines-told; ends = ends-told; desks = desks-told }
-
-pub passed-told : (deck : Deck) → (may_be_star deck ≡ true → FitsStar deck) → OrdersFit deck → (es : List Event)
-    → NoneInStar deck es → PassedIsTold deck es
-passed-told deck fits fit es none =
-    let here = every_run deck fits es none in
-    passed-by deck fit es (good_told deck es (run deck es) here) (good_desks deck es (run deck es) here)

@@ -1,14 +1,13 @@
 -- Where a star that lost systems which manage no lock entry is at rest nothing is lost: each live system knows then who
 -- was removed, so it is what is shown of it.
 use Rattle.grs_world.proofs.Common.{[], ◌&&◌, ◌++◌, ◌+◌, ◌==◌, ◌||◌, ◌∙◌, ◌≡◌, ◌⊎◌, and_parts, ap, arith, askers}
-use Rattle.grs_world.proofs.Common.{at_rest, Bool, Deck, eqb-true, Event, false, FitsStar, goes_on, has, has_res}
-use Rattle.grs_world.proofs.Common.{inbox, inbox_of, inl, inr, IsOurs, is_among, is_marked, is_pending, is_res_of}
-use Rattle.grs_world.proofs.Common.{is_sent, is_systems, is_to_send, is_unsent, items, items_of, length, List, lists}
-use Rattle.grs_world.proofs.Common.{list_any, list_of, list_of-part, managed_of, map, may_be_star, Meaning}
-use Rattle.grs_world.proofs.Common.{medium_at_end, members, NodeState, None, not, no_truth, Option, or_other, or_parts}
-use Rattle.grs_world.proofs.Common.{owns, owns-may, Phase, refl, Res, run, RunItem, same_Some, slice_get}
-use Rattle.grs_world.proofs.Common.{slice_get-past, slice_get_within, Some, StarPart, state_of, subst, sym, TaskId}
-use Rattle.grs_world.proofs.Common.{true, without_those, World, ℕ}
+use Rattle.grs_world.proofs.Common.{at_rest, Bool, Deck, eqb-true, Event, false, FitsStar, goes_on, has, has_res, inbox}
+use Rattle.grs_world.proofs.Common.{inbox_of, inl, inr, is_among, is_marked, is_pending, is_res_of, is_sent, is_systems}
+use Rattle.grs_world.proofs.Common.{is_to_send, is_unsent, IsOurs, items, items_of, length, List, list_any, list_of}
+use Rattle.grs_world.proofs.Common.{list_of-part, lists, managed_of, map, may_be_star, Meaning, medium_at_end, members}
+use Rattle.grs_world.proofs.Common.{no_truth, NodeState, None, not, Option, or_other, or_parts, owns, owns-may, Phase}
+use Rattle.grs_world.proofs.Common.{refl, Res, run, RunItem, same_Some, slice_get, slice_get-past, slice_get_within}
+use Rattle.grs_world.proofs.Common.{Some, StarPart, state_of, subst, sym, TaskId, true, without_those, World, ℕ}
 use Rattle.contention_mgr.specs.Manager.{any_untold_at}
 use Rattle.grs_known.proofs.system.Good.{ours-home}
 use Rattle.grs_medium.specs.Inboxes.{is_empty}

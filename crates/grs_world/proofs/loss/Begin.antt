@@ -1,10 +1,10 @@
 -- A star that lost nobody, once all its systems have changed, is shown as it is: of a system that was removed before
 -- nothing is kept.
-use Rattle.grs_world.proofs.Common.{[], ◌++◌, ◌+◌, ◌||◌, ◌∙◌, ◌∷◌, ◌≡◌, ◌≤◌, and_parts, Answered, ap, arith, Bool}
-use Rattle.grs_world.proofs.Common.{cond, Deck, false, Granted, has, inbox, is_some, items, List, Mail, NodeState}
-use Rattle.grs_world.proofs.Common.{None, not, Notice, no_truth, Option, or_left, Part, refl, Req, Res, RunItem}
-use Rattle.grs_world.proofs.Common.{same_Some, slice_get, slice_get-past, Some, subst, suc, sym, TaskId, true}
-use Rattle.grs_world.proofs.Common.{without_those, World, zero, ℕ}
+use Rattle.grs_world.proofs.Common.{[], ◌++◌, ◌+◌, ◌||◌, ◌∙◌, ◌∷◌, ◌≡◌, ◌≤◌, and_parts, Answered, ap, arith, Bool, cond}
+use Rattle.grs_world.proofs.Common.{Deck, false, Granted, has, inbox, is_some, items, List, Mail, no_truth, NodeState}
+use Rattle.grs_world.proofs.Common.{None, not, Notice, Option, or_left, Part, refl, Req, Res, RunItem, same_Some}
+use Rattle.grs_world.proofs.Common.{slice_get, slice_get-past, Some, subst, suc, sym, TaskId, true, without_those}
+use Rattle.grs_world.proofs.Common.{World, zero, ℕ}
 use Rattle.grs_wire.specs.declared.medium.Mail.TheVariants.{Request}
 use Rattle.grs_world.specs.InStar.{have_changed}
 use Rattle.grs_world.proofs.at_rest.Alike.{heard-alike, same-nodes}
@@ -138,6 +138,7 @@ module _ (deck : Deck) (w : World) (g : IsChanging deck w) (knows : KnownAreRemo
   pub begins-hearing : IsRestful deck w → HearsOn deck w begins-losing
   begins-hearing h = record {
     dated = h.dated;
+    ranked = h.ranked g;
     heard =
         heard-alike deck shown shown (same-nodes deck shown shown refl (λ s live. refl) (λ s. refl) refl)
         (sent_of w.nodes) (sent_all w.nodes) (had_of deck w.medium.message.entries w.nodes)

@@ -1,7 +1,7 @@
 -- What is still to be heard in a star that lost systems which manage no lock entry: it is that of what is shown, where
 -- an own task counts as told that comes to own by what its system has still to lose.
 use Rattle.grs_world.proofs.Common.{[], ◌++◌, ◌==◌, ◌||◌, ◌∙◌, ◌≡◌, ◌≢◌, ◌≤◌, ap, Bool, Deck, eqb-false, eqb-true}
-use Rattle.grs_world.proofs.Common.{false, fixed_by, has, has_res, is_home_at, is_systems, items, List, lists, list_of}
+use Rattle.grs_world.proofs.Common.{false, fixed_by, has, has_res, is_home_at, is_systems, items, List, list_of, lists}
 use Rattle.grs_world.proofs.Common.{Mail, NodeState, None, Option, or-false, refl, Res, same_Some, set, slice_get}
 use Rattle.grs_world.proofs.Common.{slice_get-set, slice_get-set_other, Some, StarPart, state_of, subst, sym, SysId}
 use Rattle.grs_world.proofs.Common.{TaskId, TasksView, true, Turnout, World, ℕ}
@@ -11,6 +11,7 @@ use Rattle.grs_world.proofs.at_rest.StarTasks.{IsDated}
 use Rattle.grs_world.proofs.loss.Hears.{gets, none-gets}
 use Rattle.grs_world.proofs.loss.View.{IsLosing, unknown, viewed_by}
 use Rattle.grs_world.proofs.run.Placed.{by_node, by_set, world_then}
+use Rattle.grs_world.proofs.star.ranks.Ranked.{AreShown}
 use Rattle.grs_world.proofs.star.Heard.{enq_count, had_by, had_with, IsHeard, sent_by, sent_with}
 use Rattle.grs_world.proofs.star.hearing.Gentle.{Gentle}
 use Rattle.grs_world.proofs.star.hearing.Ranks.{HaveRank}
@@ -34,10 +35,11 @@ sent_all ns s t = sent_at (slice_get ns s) t
 abbrev pub had_all : ℕ → List NodeState → ℕ → TaskId → Res → Bool
 had_all removed ns s t r = had_at removed (slice_get ns s) t r
 
--- each live system's tasks are up to date, and nothing is lost
+-- each live system's tasks are up to date, nothing is lost, and each element has its rank
 pub record HearsOn (deck : Deck) (w : World) (g : IsLosing deck w) : Type 0 where
   pub dated : (s : ℕ) (n : NodeState) → slice_get w.nodes s ≡ Some n → has w.medium.removed s ≡ false → IsDated deck s n
   pub heard : IsHeard deck (viewed_by w g.view g.boxes) (sent_all w.nodes) (had_all w.medium.removed w.nodes)
+  pub ranked : AreShown deck (viewed_by w g.view g.boxes)
 
 -- who knows all has nothing to lose, so only who was told counts
 pub had-known : (removed : ℕ) (n : NodeState) (t : TaskId) (r : Res) → unknown removed n ≡ []

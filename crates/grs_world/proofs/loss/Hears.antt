@@ -2,11 +2,10 @@
 -- is marked, where its element is on record.
 use Rattle.grs_world.proofs.Common.{[], ◌&&◌, ◌==◌, ◌||◌, ◌∙◌, ◌∷◌, ◌≡◌, and_from, and_parts, ap, Bool, Deck, Elem}
 use Rattle.grs_world.proofs.Common.{entry_of_res, false, has_res, is_marked, is_systems, is_task, items_of, kept_at}
-use Rattle.grs_world.proofs.Common.{kept_for, length, List, list_any, list_of, Managed, managed_of, None, not}
-use Rattle.grs_world.proofs.Common.{no_truth, Option, or_left, or_right, owns, plain, refl, remove_state, Res}
-use Rattle.grs_world.proofs.Common.{same_res, same_res-exact, same_task, same_task-exact, Some, StarPart, State}
-use Rattle.grs_world.proofs.Common.{state_of, subst, suc, sym, SysId, TaskId, TasksView, tell_control, tell_each, true}
-use Rattle.grs_world.proofs.Common.{zero, ℕ}
+use Rattle.grs_world.proofs.Common.{kept_for, length, List, list_any, list_of, Managed, managed_of, no_truth, None, not}
+use Rattle.grs_world.proofs.Common.{Option, or_left, or_right, owns, plain, refl, remove_state, Res, same_res}
+use Rattle.grs_world.proofs.Common.{same_res-exact, same_task, same_task-exact, Some, StarPart, State, state_of, subst}
+use Rattle.grs_world.proofs.Common.{suc, sym, SysId, TaskId, TasksView, tell_control, tell_each, true, zero, ℕ}
 use Rattle.contention_mgr.proofs.GainLemmas.{gained_are_freed}
 use Rattle.contention_mgr.specs.Laws.{owns_by}
 use Rattle.contention_mgr.specs.LoseLaws.{is_freed}

@@ -2,7 +2,7 @@
 -- the systems, managers keep well what they have, tables are those of fronts, and what is passed is told.
 use Rattle.grs_world.proofs.Common.{◌&&◌, ◌∙◌, ◌≡◌, and_parts, ap, arith, Bool, Deck, Event, false, FitsStar, has}
 use Rattle.grs_world.proofs.Common.{has_interest, is_interested, is_live, is_none, length, List, lives, manages}
-use Rattle.grs_world.proofs.Common.{may_be_star, NodeState, None, no_truth, Option, OrdersFit, refl, run, same_Some}
+use Rattle.grs_world.proofs.Common.{may_be_star, no_truth, NodeState, None, Option, OrdersFit, refl, run, same_Some}
 use Rattle.grs_world.proofs.Common.{slice_get, slice_get-past, slice_index_or, Some, StarPart, sym, SysId, true, World}
 use Rattle.grs_world.proofs.Common.{ℕ}
 use Rattle.grs_world.specs.InStar.{NoneTakesEntries}

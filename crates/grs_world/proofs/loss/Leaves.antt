@@ -1,20 +1,19 @@
 -- What the removal of a system that manages no lock entry leaves of each other system: of its part, of its tasks, and
 -- of the requests in its hands.
-use Rattle.grs_world.proofs.Common.{[], ◌&&◌, ◌++◌, ◌<◌, ◌==◌, ◌||◌, ◌∙◌, ◌∷◌, ◌≡◌, ◌≢◌, and_parts, Answered, ap}
-use Rattle.grs_world.proofs.Common.{arith, Bool, Coming, cond, Deck, Elem, eqb-true, false, false_by, filter, Granted}
-use Rattle.grs_world.proofs.Common.{has, is_interested, is_of, is_systems, items_of, length, List, lists, list_any}
-use Rattle.grs_world.proofs.Common.{list_any-append, list_of, lt-ltb, ltb-true, Mail, managed_at, manages, members}
-use Rattle.grs_world.proofs.Common.{members_below, mine, most_systems, nat_lt, ne_eqb, NodeState, not, Notice}
-use Rattle.grs_world.proofs.Common.{no_truth, or-false, Part, plain, refl, removes_system_of, remove_state, Req, Res}
-use Rattle.grs_world.proofs.Common.{rounds, RunItem, slice_index_or, StarPart, State, suc, sym, SysId, TaskId, true}
-use Rattle.grs_world.proofs.Common.{without_those, zero, ℕ}
+use Rattle.grs_world.proofs.Common.{[], ◌&&◌, ◌++◌, ◌<◌, ◌==◌, ◌||◌, ◌∙◌, ◌∷◌, ◌≡◌, ◌≢◌, and_parts, Answered, ap, arith}
+use Rattle.grs_world.proofs.Common.{Bool, Coming, cond, Deck, Elem, eqb-true, false, false_by, filter, Granted, has}
+use Rattle.grs_world.proofs.Common.{is_interested, is_of, is_systems, items_of, length, List, list_any, list_any-append}
+use Rattle.grs_world.proofs.Common.{list_of, lists, lt-ltb, ltb-true, Mail, managed_at, manages, members, members_below}
+use Rattle.grs_world.proofs.Common.{mine, most_systems, nat_lt, ne_eqb, no_truth, NodeState, not, Notice, or-false}
+use Rattle.grs_world.proofs.Common.{Part, plain, refl, remove_state, removes_system_of, Req, Res, rounds, RunItem}
+use Rattle.grs_world.proofs.Common.{slice_index_or, StarPart, State, suc, sym, SysId, TaskId, true, without_those, zero}
+use Rattle.grs_world.proofs.Common.{ℕ}
 use Rattle.contention_mgr.specs.Laws.{AreWellKept}
 use Rattle.grs_base.specs.State.{is_of_other}
 use Rattle.grs_known.proofs.known.Blank.{blank, coming-other}
 use Rattle.grs_known.specs.Known.{Known, learns_control, learns_item}
 use Rattle.grs_wire.proofs.RemoveLaws.{by_systems, list_of-remove, list_of-remove_other}
 use Rattle.grs_wire.specs.declared.medium.Mail.TheVariants.{Request}
-use Rattle.grs_wire.specs.declared.request.Fixed.TheVariants as fixing
 use Rattle.grs_world.proofs.loss.Losing.{calm-lost, filter-both, in-those, is_in, left_of, list-narrow, list-without}
 use Rattle.grs_world.proofs.loss.Losing.{lists-lost, lose_part, lose_parts, lost-count, lost-interest, lost-system}
 use Rattle.grs_world.proofs.loss.Losing.{manages-lost, well-lost}
@@ -27,6 +26,7 @@ use Rattle.grs_world.proofs.star.Systems.{right-late, system-words}
 use Rattle.grs_world.proofs.star.Under.{in_entry, list-under, none-under, under}
 use Rattle.grs_world.proofs.star.Worlds.{AllHands, Hands}
 use Rattle.grs_world.proofs.system.AtNode.{mine-left, seen-removal}
+use Rattle.grs_wire.specs.declared.request.Fixed.TheVariants as fixing
 
 -- ---- lists of an entry
 module _ (entries e : ℕ) (L : State) (n : ℕ) (r : Res) where

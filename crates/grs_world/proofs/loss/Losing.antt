@@ -5,10 +5,10 @@ use Rattle.grs_world.proofs.Common.{Deck, Elem, entry_of_res, eqb-true, false, f
 use Rattle.grs_world.proofs.Common.{is_systems, items_of, kept_at, kept_for, length, length-map, List, list_any}
 use Rattle.grs_world.proofs.Common.{list_any-append, list_of, lose_each, losing, losing_in, Managed, managed_at}
 use Rattle.grs_world.proofs.Common.{managed_of, ManagerView, manages, map, members, members_below, most_systems}
-use Rattle.grs_world.proofs.Common.{names_of, NodeState, None, not, no_truth, Option, option_map, or-false, or_parts}
-use Rattle.grs_world.proofs.Common.{owns, plain, refl, remove_state, Res, same_res, same_task, Some, Standing}
-use Rattle.grs_world.proofs.Common.{standing, StarPart, State, suc, sym, SysId, take_up_all, TaskId, TasksView}
-use Rattle.grs_world.proofs.Common.{tell_each, true, without_those, zero, ℕ}
+use Rattle.grs_world.proofs.Common.{names_of, no_truth, NodeState, None, not, Option, option_map, or-false, or_parts}
+use Rattle.grs_world.proofs.Common.{plain, refl, remove_state, Res, same_res, same_task, Some, Standing, standing}
+use Rattle.grs_world.proofs.Common.{StarPart, State, suc, sym, SysId, take_up_all, TaskId, TasksView, tell_each, true}
+use Rattle.grs_world.proofs.Common.{without_those, zero, ℕ}
 use Rattle.contention_mgr.proofs.GainLemmas.{gained_are_freed}
 use Rattle.contention_mgr.proofs.LoseLawProofs.{losing_keeps_well, lost_lists}
 use Rattle.contention_mgr.specs.Laws.{AreWellKept, owns_by}

@@ -1,10 +1,10 @@
 -- Who has still to be told by a manager that loses systems, one after the other: who had before, as far as they are
 -- left, and who comes to own by what is left; so it is no matter in which order they are lost.
 use Rattle.grs_world.proofs.Common.{[], ◌&&◌, ◌==◌, ◌||◌, ◌∙◌, ◌∷◌, ◌≡◌, ◌⊎◌, and_from, and_parts, ap, Bool, cond}
-use Rattle.grs_world.proofs.Common.{false, false_by, has_task, inl, inr, is_systems, List, list_of, Managed}
-use Rattle.grs_world.proofs.Common.{managed_at, None, not, not-true, no_truth, Option, option_map, or_left, or_parts}
-use Rattle.grs_world.proofs.Common.{or_right, owns-has, plain, refl, remove_state, Res, same_res, same_task, Some}
-use Rattle.grs_world.proofs.Common.{StarPart, State, sym, SysId, TaskId, true, ℕ}
+use Rattle.grs_world.proofs.Common.{false, false_by, has_task, inl, inr, is_systems, List, list_of, Managed, managed_at}
+use Rattle.grs_world.proofs.Common.{no_truth, None, not, not-true, Option, option_map, or_left, or_parts, or_right}
+use Rattle.grs_world.proofs.Common.{owns-has, plain, refl, remove_state, Res, same_res, same_task, Some, StarPart}
+use Rattle.grs_world.proofs.Common.{State, sym, SysId, TaskId, true, ℕ}
 use Rattle.contention_mgr.proofs.LoseLawProofs.{lost_lists, lost_untold}
 use Rattle.contention_mgr.proofs.LoseLemmas.{holds-remove}
 use Rattle.contention_mgr.specs.Elements.{holds}

@@ -2,20 +2,18 @@
 -- others goes on as a star that lost nobody, without that one's elements.
 use Rattle.grs_world.proofs.Common.{[], ◌++◌, ◌<◌, ◌==◌, ◌||◌, ◌∙◌, ◌∷◌, ◌≡◌, ◌≢◌, ◌≤◌, and_from, and_parts, ap, arith}
 use Rattle.grs_world.proofs.Common.{Bool, Deck, departed, desk_told, eq-eqb, eqb-true, false, false_by, fixed_by, has}
-use Rattle.grs_world.proofs.Common.{has-with_other, has-with_same, history, inbox, inbox_of, IsHistory, is_interested}
-use Rattle.grs_world.proofs.Common.{is_manager, items, items-append, length, length-map, length-set, List, lists}
-use Rattle.grs_world.proofs.Common.{lists-push, lives, lt-ltb, ltb-true, made_item, Mail, manager_at, manages, members}
-use Rattle.grs_world.proofs.Common.{most_systems, nat_lt, ne_eqb, NodeState, not, not-true, no_truth, option_map}
+use Rattle.grs_world.proofs.Common.{has-with_other, has-with_same, history, inbox, inbox_of, is_interested, is_manager}
+use Rattle.grs_world.proofs.Common.{IsHistory, items, items-append, length, length-map, length-set, List, lists}
+use Rattle.grs_world.proofs.Common.{lists-push, lives, lt-ltb, ltb-true, made_item, Mail, manager_at, members}
+use Rattle.grs_world.proofs.Common.{most_systems, nat_lt, ne_eqb, no_truth, NodeState, not, not-true, option_map}
 use Rattle.grs_world.proofs.Common.{or-false, or_parts, Purged, purged, refl, remove_state, RunItem, same_Some, set}
 use Rattle.grs_world.proofs.Common.{slice_get, Some, StarPart, State, subst, sym, SysId, systems_of, told-news}
-use Rattle.grs_world.proofs.Common.{ToldNews, true, Turnout, VaryDone, without_in_star, without_those, with_also}
-use Rattle.grs_world.proofs.Common.{World, ℕ}
+use Rattle.grs_world.proofs.Common.{ToldNews, true, Turnout, VaryDone, with_also, without_in_star, without_those, World}
+use Rattle.grs_world.proofs.Common.{ℕ}
 use Rattle.grs_known.proofs.known.Histories.{follows-purge, MayPurge}
 use Rattle.grs_medium.proofs.SpaceLaws.{length-posted}
 use Rattle.grs_medium.specs.Apply.{is_live, moved_by}
 use Rattle.grs_medium.specs.Inboxes.{emptied}
-use Rattle.grs_wire.specs.declared.deck.Choice.TheVariants as choices
-use Rattle.grs_wire.specs.declared.request.Fixed.TheVariants as fixing
 use Rattle.lock_structure.proofs.Purges.{purge_keeps_all_managed}
 use Rattle.lock_structure.specs.Purge.{purged_word, purged_words}
 use Rattle.grs_world.proofs.loss.Leaves.{hands-left, in-more, mail_without, part-removed, system-left, system-removed}
@@ -36,6 +34,7 @@ use Rattle.grs_world.proofs.star.Systems.{IsSystem, Keeps}
 use Rattle.grs_world.proofs.star.Under.{under}
 use Rattle.grs_world.proofs.star.Worlds.{are_live, Hands, in_hands, IsWhole}
 use Rattle.grs_world.proofs.loss.Without.{hands-more, near-left, none-left, system-desk, system-part}
+use Rattle.grs_wire.specs.declared.deck.Choice.TheVariants as choices
 
 -- A system that manages no lock entry is removed by another one, which knows all who were removed before.
 pub record IsRemoval (deck : Deck) (w : World) (g : IsLosing deck w) (c : SysId) (n : NodeState) (t : SysId) : Type 0
@@ -343,7 +342,7 @@ module _ {deck : Deck} {w : World} {g : IsLosing deck w} {c : SysId} {n : NodeSt
   lists-then = ap lists grown ∙ lists-push T x
 
   -- each system behind the event, by whether it is that of the event
-  each-then : (P : ℕ → NodeState → Type 0) → P c.0 after
+  pub each-then : (P : ℕ → NodeState → Type 0) → P c.0 after
       → ((s : ℕ) (z : NodeState) → slice_get w.nodes s ≡ Some z → has gone s ≡ false → P s (left_node gone z))
       → (s : ℕ) (k : NodeState) → IsThere nodes gone s k → P s k
   each-then P own others s k u =

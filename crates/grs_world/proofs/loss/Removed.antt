@@ -3,28 +3,26 @@ use Rattle.grs_world.proofs.Common.{[], ◌&&◌, ◌++◌, ◌==◌, ◌||◌, 
 use Rattle.grs_world.proofs.Common.{arith, askers, Bool, Deck, departed, desk_told, Elem, entry_of_res, eq-eqb}
 use Rattle.grs_world.proofs.Common.{eqb-false, eqb-true, false, false_by, first_node, fixed_by, get_or, has, has_res}
 use Rattle.grs_world.proofs.Common.{has_task, inbox, inbox_of, inl, inr, is_among, is_home_at, is_some, is_systems}
-use Rattle.grs_world.proofs.Common.{is_task, items, items_of, kept_for, List, lists, list_any, list_of, made_item}
-use Rattle.grs_world.proofs.Common.{Mail, Managed, managed_at, manager_at, manages, MediumState, members, ne_eqb}
-use Rattle.grs_world.proofs.Common.{NodeState, None, not, no_truth, Option, option_map, or_left, or_right, owns}
-use Rattle.grs_world.proofs.Common.{owns-has, plain, Purged, refl, remove_state, Res, RunItem, same_Some, set}
-use Rattle.grs_world.proofs.Common.{slice_get, slice_get-past, slice_get-set, slice_get-set_other, slice_get_within}
-use Rattle.grs_world.proofs.Common.{Some, StarPart, State, state_of, subst, suc, sym, SysId, TaskId, true, Turnout}
-use Rattle.grs_world.proofs.Common.{VaryDone, without_in_star, without_those, with_also, World, ℕ}
+use Rattle.grs_world.proofs.Common.{is_task, items, items_of, kept_for, List, list_any, list_of, lists, made_item, Mail}
+use Rattle.grs_world.proofs.Common.{Managed, managed_at, manager_at, manages, MediumState, members, ne_eqb, no_truth}
+use Rattle.grs_world.proofs.Common.{NodeState, None, not, Option, option_map, or_left, or_right, owns, owns-has, plain}
+use Rattle.grs_world.proofs.Common.{Purged, refl, remove_state, Res, RunItem, same_Some, set, slice_get, slice_get-past}
+use Rattle.grs_world.proofs.Common.{slice_get-set, slice_get-set_other, slice_get_within, Some, StarPart, State}
+use Rattle.grs_world.proofs.Common.{state_of, subst, suc, sym, SysId, TaskId, true, Turnout, VaryDone, with_also}
+use Rattle.grs_world.proofs.Common.{without_in_star, without_those, World, ℕ}
 use Rattle.contention_mgr.specs.Laws.{is_elsewhere, owns_by, untold_at}
-use Rattle.grs_wire.specs.declared.deck.Choice.TheVariants as choices
-use Rattle.grs_wire.specs.declared.request.Fixed.TheVariants as fixing
 use Rattle.lock_structure.specs.Purge.{purged_words}
 use Rattle.grs_world.proofs.at_rest.StarTasks.{dated-by, IsDated, keeps-telling, keeps-then}
 use Rattle.grs_world.proofs.loss.Heard.{gets_at, had-known, had_all, had_at, HearsOn, sent_all, sent_at}
 use Rattle.grs_world.proofs.loss.Hears.{gentle-losses, gets, keeps-losses, lists_by, losses-marked, owns-left}
 use Rattle.grs_world.proofs.loss.Hears.{owns-more}
 use Rattle.grs_world.proofs.loss.Marks.{kept-each, lost_each, marks-more}
-use Rattle.grs_world.proofs.star.Heard.{AreAddressed, enq_count, had_by, hears, IsHeard, IsInHands, IsUntold}
-use Rattle.grs_world.proofs.star.Heard.{is_timely}
+use Rattle.grs_world.proofs.star.Heard.{AreAddressed, enq_count, had_by, hears, IsHeard, IsInHands, IsUntold, is_timely}
 use Rattle.grs_world.proofs.star.hearing.Elements.{recorded-here}
 use Rattle.grs_world.proofs.star.hearing.Gentle.{Gentle, gentle-line_told, gentle-then}
 use Rattle.grs_world.proofs.star.hearing.Passing.{enq_count-grown, hand-found}
 use Rattle.grs_world.proofs.loss.Losing.{is_in, lose_parts, lost-system, manages-lost, none-unknown}
+use Rattle.grs_world.proofs.loss.Ranks.{ranked-then}
 use Rattle.grs_world.proofs.loss.View.{IsLeft, IsLosing, left-from, left-there, left_node, unknown, unknown-free}
 use Rattle.grs_world.proofs.loss.View.{viewed_by}
 use Rattle.grs_world.proofs.run.Placed.{by_node, world_then}
@@ -33,12 +31,12 @@ use Rattle.grs_world.proofs.star.Members.{has_manager, IsMember, IsPart, manager
 use Rattle.grs_world.proofs.star.Systems.{IsSystem}
 use Rattle.grs_world.proofs.star.Under.{entry-same, in_entry, list-under, under, wide-entry}
 use Rattle.grs_world.proofs.star.Worlds.{are_live, in_hands, live-site, manager-live}
-use Rattle.grs_world.proofs.loss.Purging as now
 use Rattle.grs_world.proofs.loss.Purging.{after-fits, after-left, box-then, gone-is, grown, in-view, IsRemoval}
 use Rattle.grs_world.proofs.loss.Purging.{its-member, its-part, its-star, lists-then, losing-then, near-same, one-more}
 use Rattle.grs_world.proofs.loss.Purging.{other-fits, own-fits, own-left, own-live, roles-then, was-live}
 use Rattle.grs_world.proofs.loss.Without.{addressed-left, among-left, hands-more, hears-left, left-has, next-each}
 use Rattle.grs_world.proofs.loss.Without.{timely-left}
+use Rattle.grs_world.proofs.loss.Purging as now
 
 module _ {deck : Deck} {w : World} {g : IsLosing deck w} {c : SysId} {n : NodeState} {t : SysId}
     (event : IsRemoval deck w g c n t) where
@@ -681,6 +679,7 @@ module _ {deck : Deck} {w : World} {g : IsLosing deck w} {c : SysId} {n : NodeSt
             (addressed-left (λ v. t.0 == v) deck (inbox_of g.boxes s) (H.mails s));
         ranks = ranks-then;
       };
+      ranked = ranked-then event h.ranked;
     }
       where
         now : (u : TaskId) (r : Res) → owns (list_of (lists (items (w.fixed ++ fixed_by c (Purged t ∷ [])))) r) u ≡ true

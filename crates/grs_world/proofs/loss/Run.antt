@@ -1,24 +1,21 @@
 -- Every run of which no event removes, in star mode, a system that manages a lock entry is sound.
 use Rattle.grs_world.proofs.Common.{[], ◌&&◌, ◌++◌, ◌<◌, ◌==◌, ◌∙◌, ◌∷◌, ◌≡◌, ◌≢◌, and_from, and_parts, ap, Bool}
 use Rattle.grs_world.proofs.Common.{call_at, call_in, Choice, chosen, cond, counted, Deck, desk_told, entries_some}
-use Rattle.grs_world.proofs.Common.{eqb-false, Event, false, FitsStar, fixed_by, happens, has, history, IsHistory}
-use Rattle.grs_world.proofs.Common.{is_purged, items, items_are_history, length, List, list_any, lt-ltb, made_item}
-use Rattle.grs_world.proofs.Common.{may_be_star, MediumState, nat_lt, next_order, NodeState, None, NoneInStar, not}
-use Rattle.grs_world.proofs.Common.{not-true, no_truth, OrdersFit, placed, prepare, Purged, purged, refl, removes}
+use Rattle.grs_world.proofs.Common.{eqb-false, Event, false, FitsStar, fixed_by, happens, has, history, is_purged}
+use Rattle.grs_world.proofs.Common.{IsHistory, items, items_are_history, length, List, list_any, lt-ltb, made_item}
+use Rattle.grs_world.proofs.Common.{may_be_star, MediumState, nat_lt, next_order, no_truth, NodeState, None, NoneInStar}
+use Rattle.grs_world.proofs.Common.{not, not-true, OrdersFit, placed, prepare, Purged, purged, refl, removes}
 use Rattle.grs_world.proofs.Common.{removes_in_star, reply_by, reply_of, run, slice_get, slice_get_within, Some, subst}
 use Rattle.grs_world.proofs.Common.{sym, SysId, take, true, Turnout, without_in_star, World}
 use Rattle.grs_known.proofs.known.Histories.{MayPurge}
 use Rattle.grs_legal.specs.Legal.{commands_removal, MayRemove}
 use Rattle.grs_medium.specs.Apply.{is_live}
-use Rattle.grs_wire.specs.declared.deck.Choice.TheVariants as choices
-use Rattle.grs_wire.specs.declared.deck.Order.TheVariants as orders
-use Rattle.grs_wire.specs.declared.medium.Reply.TheVariants as replies
 use Rattle.grs_world.specs.Agree.{Sound}
 use Rattle.grs_world.specs.InStar.{have_changed, manages_any, NoneTakesEntries, spares_entries, takes_entries}
 use Rattle.grs_world.specs.Running.{is_live as is_live_in}
 use Rattle.grs_world.proofs.at_rest.Homes.{homes_run}
 use Rattle.grs_wire.specs.Decks.{IsBounded}
-use Rattle.grs_world.proofs.at_rest.Alike.{heard-alike, same-nodes}
+use Rattle.grs_world.proofs.at_rest.Alike.{heard-alike, same-nodes, shown-alike}
 use Rattle.grs_world.proofs.at_rest.Few.{ranks-few}
 use Rattle.grs_world.proofs.at_rest.StarRun.{restful_run}
 use Rattle.grs_world.proofs.loss.Begin.{begins-hearing, begins-losing}
@@ -29,7 +26,6 @@ use Rattle.grs_world.proofs.loss.Steps.{goes-informed, goes-nothing, goes-remova
 use Rattle.grs_world.proofs.loss.View.{IsLosing, viewed_by}
 use Rattle.grs_world.proofs.loss.Views.{acts-heard, is_heard, knows-all, quiet, seen-acts}
 use Rattle.grs_world.proofs.move.Sound.{first_run, GoodRun, good_history, good_told, in_ring, in_star, next_good}
-use Rattle.grs_world.proofs.run.Came as any
 use Rattle.grs_world.proofs.run.Came.{acts-keep, Came, no_part, Result, result_of}
 use Rattle.grs_world.proofs.run.Chosen.{came, reply-in, reply_in}
 use Rattle.grs_world.proofs.run.Desks.{desk-agrees, desks-after, desks-counted, GoodDesks}
@@ -42,6 +38,10 @@ use Rattle.grs_world.proofs.run.Runs.{GoodTold, told-after, told-counted}
 use Rattle.grs_world.proofs.run.Sound.{sound-of}
 use Rattle.grs_world.proofs.run.Site.{at_site}
 use Rattle.grs_world.proofs.star.Worlds.{whole-counted}
+use Rattle.grs_wire.specs.declared.deck.Choice.TheVariants as choices
+use Rattle.grs_wire.specs.declared.deck.Order.TheVariants as orders
+use Rattle.grs_wire.specs.declared.medium.Reply.TheVariants as replies
+use Rattle.grs_world.proofs.run.Came as any
 
 -- What holds of the world w after these events: nobody was removed in star mode, or systems were that managed no lock
 -- entry.
@@ -81,6 +81,11 @@ module _ (deck : Deck) (f : FitsStar deck) (es : List Event) (e : Event) (g : Is
   hears-counted : IsBounded deck → HearsOn deck (counted w) losing-counted
   hears-counted bounds = let h = rest bounds in record {
     dated = h.dated;
+    ranked =
+        shown-alike deck (viewed_by w g.view g.boxes) (viewed_by (counted w) g.view g.boxes)
+        (same-nodes deck (viewed_by w g.view g.boxes) (viewed_by (counted w) g.view g.boxes) refl (λ s live. refl)
+        (λ s. refl) refl)
+        h.ranked;
     heard =
         heard-alike deck (viewed_by w g.view g.boxes) (viewed_by (counted w) g.view g.boxes)
         (same-nodes deck (viewed_by w g.view g.boxes) (viewed_by (counted w) g.view g.boxes) refl (λ s live. refl)

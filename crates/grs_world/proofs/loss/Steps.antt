@@ -2,22 +2,19 @@
 -- with the history.
 use Rattle.grs_world.proofs.Common.{[], ◌&&◌, ◌++◌, ◌<◌, ◌==◌, ◌||◌, ◌∙◌, ◌∷◌, ◌≡◌, ◌≢◌, ◌≤◌, and_parts, ap, arith}
 use Rattle.grs_world.proofs.Common.{Bool, cond, Deck, desk_told, entry_of_res, false, Fixed, fixed_by, has, HistEntry}
-use Rattle.grs_world.proofs.Common.{history, inbox_of, is_home_at, is_manager, is_systems, is_task, items}
-use Rattle.grs_world.proofs.Common.{items-append, items_of, kept_for, last_number, length, length-set, lines_of, List}
-use Rattle.grs_world.proofs.Common.{lists, list_of, losing, made_item, Mail, Managed, managed_at, manager, manager_at}
-use Rattle.grs_world.proofs.Common.{may_go, Meaning, members, Message, most_systems, nat_lt, next_order, NodeState}
-use Rattle.grs_world.proofs.Common.{None, not, no_truth, only, Option, or_left, or_parts, or_right, owns-has, placed}
-use Rattle.grs_world.proofs.Common.{plain, Purged, purged, refl, Res, same_Some, set, slice_get, slice_get-set}
-use Rattle.grs_world.proofs.Common.{slice_get-set_other, slice_get_within, Some, stale, StarPart, stays-task, Step}
-use Rattle.grs_world.proofs.Common.{still-told, subst, suc, sym, SysId, TaskId, task_step, told-news, ToldNews, true}
-use Rattle.grs_world.proofs.Common.{Turnout, VaryDone, without_in_star, without_those, World, zero, ℕ}
+use Rattle.grs_world.proofs.Common.{history, inbox_of, is_home_at, is_manager, is_systems, is_task, items, items-append}
+use Rattle.grs_world.proofs.Common.{items_of, kept_for, last_number, length, length-set, lines_of, List, list_of, lists}
+use Rattle.grs_world.proofs.Common.{losing, made_item, Mail, Managed, managed_at, manager, manager_at, may_go, Meaning}
+use Rattle.grs_world.proofs.Common.{members, Message, most_systems, nat_lt, next_order, no_truth, NodeState, None, not}
+use Rattle.grs_world.proofs.Common.{only, Option, or_left, or_parts, or_right, owns-has, placed, plain, Purged, purged}
+use Rattle.grs_world.proofs.Common.{refl, Res, same_Some, set, slice_get, slice_get-set, slice_get-set_other}
+use Rattle.grs_world.proofs.Common.{slice_get_within, Some, stale, StarPart, stays-task, Step, still-told, subst, suc}
+use Rattle.grs_world.proofs.Common.{sym, SysId, task_step, TaskId, told-news, ToldNews, true, Turnout, VaryDone}
+use Rattle.grs_world.proofs.Common.{without_in_star, without_those, World, zero, ℕ}
 use Rattle.std.specs.Prelude.{◌^◌}
 use Rattle.grs_known.proofs.known.Histories.{MayPurge}
 use Rattle.grs_medium.specs.Apply.{is_live}
 use Rattle.grs_node.proofs.Keeping.{shared-task}
-use Rattle.grs_wire.specs.declared.deck.Choice.TheVariants as choices
-use Rattle.grs_wire.specs.declared.deck.Order.TheVariants as orders
-use Rattle.grs_wire.specs.declared.medium.Reply.TheVariants as replies
 use Rattle.grs_world.specs.InStar.{manages_any}
 use Rattle.grs_world.specs.Kept.{IsKeptBy}
 use Rattle.contention_mgr.specs.Laws.{owns_by}
@@ -40,7 +37,6 @@ use Rattle.grs_world.proofs.loss.Removed.{heard-then}
 use Rattle.grs_world.proofs.loss.Tells.{part-owns, system-loses}
 use Rattle.grs_world.proofs.loss.View.{IsLeft, IsLosing, left-same, unknown, viewed_by}
 use Rattle.grs_world.proofs.loss.Views.{AreShownBoxes, IsSeen}
-use Rattle.grs_world.proofs.run.Came as any
 use Rattle.grs_world.proofs.run.Desks.{EventTells, tells_already, tells_done, tells_lost, tells_no_such, tells_removed}
 use Rattle.grs_world.proofs.run.Desks.{tells_tasks}
 use Rattle.grs_world.proofs.run.Knowing.{KnownAreRemoved}
@@ -50,15 +46,19 @@ use Rattle.grs_world.proofs.run.Site.{at_site, Site}
 use Rattle.grs_world.proofs.star.Events.{good_came}
 use Rattle.grs_world.proofs.star.Ghosts.{ghosted, shows-task}
 use Rattle.grs_world.proofs.star.Members.{all_lists, IsMember, IsPart, IsStep, stays}
-use Rattle.grs_world.proofs.star.Plain as plainly
 use Rattle.grs_world.proofs.star.Plain.{came-usual}
 use Rattle.grs_world.proofs.star.Sound.{came-outcome}
 use Rattle.grs_world.proofs.star.Tasks.{task-quiet}
 use Rattle.grs_world.proofs.star.Usual.{usual}
 use Rattle.grs_world.proofs.star.Worlds.{are_live, Hands, in_hands, IsWhole, items-none, none_fixed, StaysWhole}
 use Rattle.grs_world.proofs.star.Worlds.{whole-placed}
+use Rattle.grs_world.proofs.star.ranks.Quiet.{ranked-still}
+use Rattle.grs_world.proofs.star.ranks.Ranked.{AreShown}
 use Rattle.grs_world.proofs.star.steps.Outcome.{IsOutcome}
 use Rattle.grs_world.proofs.system.Desks.{desk-told}
+use Rattle.grs_wire.specs.declared.deck.Choice.TheVariants as choices
+use Rattle.grs_wire.specs.declared.deck.Order.TheVariants as orders
+use Rattle.grs_world.proofs.star.Plain as plainly
 
 -- ---- a task's step leaves the part
 -- a system with another part
@@ -121,7 +121,8 @@ pub record GoesOn (deck : Deck) (w : World) (g : IsLosing deck w) (c : SysId) (n
   where
     pub losing : IsLosing deck (world_then w c n o)
     pub news :
-        EventTells deck c (history (items (w.fixed ++ fixed_by c o.step.fixed))) o.step.fixed n o.step.node w.medium.star
+        EventTells deck c (history (items (w.fixed ++ fixed_by c o.step.fixed))) o.step.fixed n o.step.node
+        w.medium.star
         o.medium.star
     pub rests : HearsOn deck w g → enq_count (items (w.fixed ++ fixed_by c o.step.fixed)) ≤ last_number
         → HearsOn deck (world_then w c n o) losing
@@ -235,7 +236,8 @@ module _ (deck : Deck) (some : 0 < deck.entries) (few_systems : length deck.syst
       (HearsOn deck w g → enq_count (items (w.fixed ++ fixed_by c o.step.fixed)) ≤ last_number
       → IsDated deck c.0 o.step.node
       × IsHeard deck (viewed_by (world_then w c n o) (set g.view c.0 z) boxes)
-      (sent_all (set w.nodes c.0 o.step.node)) (had_all o.medium.removed (set w.nodes c.0 o.step.node)))
+      (sent_all (set w.nodes c.0 o.step.node)) (had_all o.medium.removed (set w.nodes c.0 o.step.node))
+      × AreShown deck (viewed_by (world_then w c n o) (set g.view c.0 z) boxes))
       → GoesOn deck w g c n o
   goes-by o z boxes whole same message count left mail news rests = record {
     losing = losing-placed o z boxes whole same message count left mail;
@@ -245,6 +247,7 @@ module _ (deck : Deck) (some : 0 < deck.entries) (few_systems : length deck.syst
           by_node w.nodes c.0 n o.step.node at (λ s v. has o.medium.removed s ≡ false → IsDated deck s v) (λ live. y.0)
           (λ s v ne found live. h.dated s v found (sym (ap (λ r. has r s) same) ∙ live));
       heard = y.1;
+      ranked = y.2;
     };
   }
 
@@ -279,6 +282,8 @@ module _ (deck : Deck) (some : 0 < deck.entries) (few_systems : length deck.syst
         calm-hears deck w g c n at k there refl
             (record { medium = record w.medium { rest = flags }; step = only n }) refl k refl refl (gentle-none n.tasks)
             (λ r wide. none-lists r) none-more (λ t r home wide e. e) h.heard,
+        ranked-still deck V g.whole c k site (record V.medium { rest = flags }) refl refl k (gentle-none n.tasks) refl
+            (sent_all w.nodes) (had_all w.medium.removed w.nodes) h.heard h.ranked,
       ))
 
   -- ---- a task goes on
@@ -378,6 +383,7 @@ module _ (deck : Deck) (some : 0 < deck.entries) (few_systems : length deck.syst
             (record (task_step deck.limit n t (lines_of deck t)).node { star = Some q }) refl refl (gentle t may)
             (λ r wide. (task-leaves t may).0 r wide) (task-leaves t may).1
             (λ u r home wide e. task-had t may u r wide e) h.heard,
+        out.ranked out.stays.whole (sent_all w.nodes) (had_all w.medium.removed w.nodes) h.heard h.ranked,
       ))
     where
       task-dated : IsOutcome deck V g.whole c k (record {
@@ -485,6 +491,9 @@ module _ (deck : Deck) (some : 0 < deck.entries) (few_systems : length deck.syst
         calm-hears deck w g c n at k there refl (record { medium = w.medium; step = only told_all }) refl told_all refl
             refl (gentle-losses (unknown w.medium.removed n) p n.tasks) (λ r wide. none-lists r) none-more
             (λ u r home wide e. told-had u r home wide e) h.heard,
+        ranked-still deck V g.whole c k site V.medium refl refl told_all
+            (gentle-losses (unknown w.medium.removed n) p n.tasks) refl (sent_all w.nodes)
+            (had_all w.medium.removed w.nodes) h.heard h.ranked,
       ))
 
   -- a set with systems outside the deck has no effect
@@ -570,6 +579,7 @@ module _ (deck : Deck) (some : 0 < deck.entries) (few_systems : length deck.syst
               (out.heard out.stays.whole (sent_all w.nodes) (had_all w.medium.removed w.nodes) few
               (acts-before deck w g c n at n in-view refl o same knows-now
               (ap (λ r. members (without_those o.step.node.known r)) same ∙ knows-then o known) h.heard)),
+          out.ranked out.stays.whole (sent_all w.nodes) (had_all w.medium.removed w.nodes) h.heard h.ranked,
         ))
 
     -- it removes a system that manages no lock entry

@@ -1,12 +1,11 @@
 -- What a system tells its own tasks when it loses others: each of them owns by the history, as long as the lists that
 -- are left are the history's.
 use Rattle.grs_world.proofs.Common.{[], ◌&&◌, ◌++◌, ◌==◌, ◌∙◌, ◌∷◌, ◌≡◌, Alike, and_from, ap, Deck, Elem, entry_of_res}
-use Rattle.grs_world.proofs.Common.{false, gives_back, history, IsHistory, is_some, items_of, List, lists, list_any}
-use Rattle.grs_world.proofs.Common.{list_of, Mail, manages, NodeState, none, Option, or-false, or_left, or_parts}
-use Rattle.grs_world.proofs.Common.{or_right, owns, owns-has, plain, refl, Req, Res, RunItem, same_res}
-use Rattle.grs_world.proofs.Common.{same_res-itself, same_task, same_task-exact, same_task-itself, Some, StarPart}
-use Rattle.grs_world.proofs.Common.{State, subst, sym, SysId, TaskId, TasksView, tell_all, tell_control, tell_each}
-use Rattle.grs_world.proofs.Common.{ToldLine, true, ℕ}
+use Rattle.grs_world.proofs.Common.{false, gives_back, history, is_some, IsHistory, items_of, List, list_any, list_of}
+use Rattle.grs_world.proofs.Common.{lists, Mail, manages, NodeState, none, Option, or-false, or_left, or_parts}
+use Rattle.grs_world.proofs.Common.{or_right, owns, owns-has, plain, refl, Req, Res, RunItem, same_res, same_res-itself}
+use Rattle.grs_world.proofs.Common.{same_task, same_task-exact, same_task-itself, Some, StarPart, State, subst, sym}
+use Rattle.grs_world.proofs.Common.{SysId, TaskId, TasksView, tell_all, tell_control, tell_each, ToldLine, true, ℕ}
 use Rattle.contention_mgr.specs.Loses.{gained}
 use Rattle.grs_world.proofs.loss.Losing.{gains-own, is_in, lose_part, lose_parts, owns-losses, OwnsAt, tell_losses}
 use Rattle.grs_world.proofs.star.Answering.{Taken, tells-owners}

@@ -2,7 +2,7 @@
 -- part has lost all that were removed, whether the system knows of them or not, and of their requests none is in an
 -- inbox. By what is shown the world is a star that lost nobody.
 use Rattle.grs_world.proofs.Common.{[], ◌∙◌, ◌∷◌, ◌≡◌, ap, Bool, Deck, false, false_by, has, inbox, inbox_of, length}
-use Rattle.grs_world.proofs.Common.{List, Mail, map, members, most_systems, NodeState, None, no_truth, Option}
+use Rattle.grs_world.proofs.Common.{List, Mail, map, members, most_systems, no_truth, NodeState, None, Option}
 use Rattle.grs_world.proofs.Common.{option_map, refl, same_Some, slice_get, Some, StarPart, subst, suc, sym, SysId}
 use Rattle.grs_world.proofs.Common.{true, without_those, World, zero, ℕ}
 use Rattle.contention_mgr.specs.Laws.{AreWellKept}

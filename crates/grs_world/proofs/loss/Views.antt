@@ -1,26 +1,26 @@
 -- What a system does by its part in star mode that knows all removed systems is the same in what is shown, where the
 -- inboxes have none of their requests: it takes a mail that is shown, or a request of one of them, which it drops.
 use Rattle.grs_world.proofs.Common.{[], ◌&&◌, ◌++◌, ◌<◌, ◌==◌, ◌||◌, ◌∙◌, ◌∷◌, ◌≡◌, ◌≢◌, ◌≤◌, and-false, and_parts}
-use Rattle.grs_world.proofs.Common.{Answered, answer_for, ap, apply, awake, Bool, Choice, cond, Deck, drop, entry_for}
+use Rattle.grs_world.proofs.Common.{answer_for, Answered, ap, apply, awake, Bool, Choice, cond, Deck, drop, entry_for}
 use Rattle.grs_world.proofs.Common.{eqb-false, eqb-true, false, filter-append, fixing_none, gathers, Granted, has}
 use Rattle.grs_world.proofs.Common.{inbox, inbox_of, is_entry, is_for_deck, is_task, length, length-set, List, lt-ltb}
-use Rattle.grs_world.proofs.Common.{ltb-true, Mail, manages, may_send, MediumState, names_of, nat_lt, NodeState, not}
-use Rattle.grs_world.proofs.Common.{Notice, no_truth, only, Part, part_of, prepare, Prepared, rank_of, refl, reply_to}
-use Rattle.grs_world.proofs.Common.{Req, request_of, row, Some, StarPart, Step, subst, sym, SysId, take_mail, TaskId}
-use Rattle.grs_world.proofs.Common.{took_mail, true, Turnout, without_first, with_mail, with_star, ℕ}
+use Rattle.grs_world.proofs.Common.{ltb-true, Mail, manages, may_send, MediumState, names_of, nat_lt, no_truth}
+use Rattle.grs_world.proofs.Common.{NodeState, not, Notice, only, Part, part_of, prepare, Prepared, rank_of, refl}
+use Rattle.grs_world.proofs.Common.{reply_to, Req, request_of, row, Some, StarPart, Step, subst, sym, SysId, take_mail}
+use Rattle.grs_world.proofs.Common.{TaskId, took_mail, true, Turnout, with_mail, with_star, without_first, ℕ}
 use Rattle.std.proofs.lemmas.List.{set_past}
 use Rattle.grs_node.specs.Star.{with_held}
-use Rattle.grs_node.specs.declared.prepared.Prepared.TheVariants as prepares
-use Rattle.grs_wire.specs.declared.deck.Choice.TheVariants as choices
 use Rattle.grs_wire.specs.declared.medium.Mail.TheVariants.{Request}
-use Rattle.grs_wire.specs.declared.medium.Reply.TheVariants as replies
 use Rattle.grs_wire.specs.declared.medium.Call.{Call}
 use Rattle.grs_world.proofs.gather.Acts.{all_say, Says}
 use Rattle.grs_world.proofs.loss.Leaves.{is_from, mail_without}
 use Rattle.grs_world.proofs.loss.Words.{not-below}
-use Rattle.grs_world.proofs.run.Came as any
 use Rattle.grs_world.proofs.run.Came.{Acts, Came, RemovesNoneInStar, Result, result_of}
 use Rattle.grs_world.proofs.star.Boxes.{its-box, other-box, taken-box, untaken-box}
+use Rattle.grs_node.specs.declared.prepared.Prepared.TheVariants as prepares
+use Rattle.grs_wire.specs.declared.deck.Choice.TheVariants as choices
+use Rattle.grs_wire.specs.declared.medium.Reply.TheVariants as replies
+use Rattle.grs_world.proofs.run.Came as any
 
 -- ---- who is answered anything but which systems were removed knows them
 abbrev pub is_heard : Result → Bool

@@ -1,17 +1,15 @@
 -- What a system, its lists, its inbox and its hands are without the elements and the requests of another one.
 use Rattle.grs_world.proofs.Common.{[], ◌&&◌, ◌++◌, ◌==◌, ◌||◌, ◌∙◌, ◌∷◌, ◌≡◌, ◌≢◌, Answered, ap, askers, Bool, cond}
 use Rattle.grs_world.proofs.Common.{Deck, desk_told, Elem, entry_of, eq-eqb, false, filter, filter-append, Granted}
-use Rattle.grs_world.proofs.Common.{has_task, inbox, is_among, is_interested, is_systems, List, lists, list_any}
-use Rattle.grs_world.proofs.Common.{list_of, Mail, Managed, NodeState, not, Notice, no_truth, Option, or_left}
-use Rattle.grs_world.proofs.Common.{or_right, Part, refl, remove_state, Req, Res, RunItem, Said, same_res, same_task}
-use Rattle.grs_world.proofs.Common.{same_task-exact, slice_of, StarPart, State, sym, SysId, TaskId, true, ℕ}
+use Rattle.grs_world.proofs.Common.{has_task, is_among, is_interested, is_systems, List, list_any, list_of, lists, Mail}
+use Rattle.grs_world.proofs.Common.{Managed, no_truth, NodeState, not, Notice, Option, or_left, or_right, Part, refl}
+use Rattle.grs_world.proofs.Common.{remove_state, Req, Res, RunItem, Said, same_res, same_task, same_task-exact}
+use Rattle.grs_world.proofs.Common.{slice_of, StarPart, State, sym, SysId, TaskId, true, ℕ}
 use Rattle.grs_base.specs.declared.resource.Res.TheVariants.{Step as StepRes, System as SystemRes}
 use Rattle.grs_base.specs.declared.resource.Res.TheVariants.{Systems as SystemsRes}
 use Rattle.grs_base.specs.State.{is_of_other}
 use Rattle.grs_known.proofs.lists.Alike.{alike-none}
 use Rattle.grs_wire.proofs.RemoveLaws.{by_systems, list_of-remove}
-use Rattle.grs_wire.specs.declared.deck.Choice.TheVariants as choices
-use Rattle.grs_wire.specs.declared.request.Fixed.TheVariants as fixing
 use Rattle.contention_mgr.specs.Loses.{lost}
 use Rattle.grs_wire.specs.declared.medium.Mail.TheVariants.{Request}
 use Rattle.grs_world.proofs.loss.Marks.{lost_each}

@@ -1,10 +1,10 @@
 -- The removal of a system that manages no lock entry leaves each entry's manager, takes its interest out of the words,
 -- and puts no notice into any inbox.
-use Rattle.grs_world.proofs.Common.{[], ◌&&◌, ◌++◌, ◌<◌, ◌==◌, ◌∙◌, ◌∷◌, ◌≡◌, ◌≢◌, ◌≤◌, and-true, ap, append-nil}
-use Rattle.grs_world.proofs.Common.{arith, Bool, cond, eq-eqb, false, filter, get_or, has, has-zero, inbox, inbox_of}
-use Rattle.grs_world.proofs.Common.{interest, is_interested, is_manager, length, length-map, List, lt-ltb, ltb-true}
-use Rattle.grs_world.proofs.Common.{Mail, manager, manager_at, map, MediumState, Moved, nat_lt, ne_eqb, not, no_truth}
-use Rattle.grs_world.proofs.Common.{refl, subst, suc, sym, SysId, systems_of, true, without_in_star, word_at, zero, ℕ}
+use Rattle.grs_world.proofs.Common.{[], ◌&&◌, ◌++◌, ◌<◌, ◌==◌, ◌∙◌, ◌∷◌, ◌≡◌, ◌≢◌, ◌≤◌, and-true, ap, append-nil, arith}
+use Rattle.grs_world.proofs.Common.{Bool, cond, eq-eqb, false, filter, get_or, has, has-zero, inbox, inbox_of, interest}
+use Rattle.grs_world.proofs.Common.{is_interested, is_manager, length, length-map, List, lt-ltb, ltb-true, Mail}
+use Rattle.grs_world.proofs.Common.{manager, manager_at, map, MediumState, Moved, nat_lt, ne_eqb, no_truth, not, refl}
+use Rattle.grs_world.proofs.Common.{subst, suc, sym, SysId, systems_of, true, without_in_star, word_at, zero, ℕ}
 use Rattle.grs_medium.proofs.Removals.{inbox-left, told_to}
 use Rattle.grs_medium.specs.Inboxes.{notices_to}
 use Rattle.lock_structure.proofs.Purges.{purge_keeps_others, purge_takes_target}

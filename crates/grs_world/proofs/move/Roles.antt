@@ -1,13 +1,12 @@
 -- In star mode the lock words go with the systems, whether they have changed or not; and each that has changed keeps
 -- well what it manages.
-use Rattle.grs_world.proofs.Common.{◌&&◌, ◌++◌, ◌∙◌, ◌≡◌, ap, arith, Bool, Deck, Event, false, FitsStar, has}
-use Rattle.grs_world.proofs.Common.{has_interest, is_interested, is_live, items, length, List, lists, lives, manages}
-use Rattle.grs_world.proofs.Common.{may_be_star, NodeState, None, NoneInStar, Option, part_by_table, refl, rounds, run}
-use Rattle.grs_world.proofs.Common.{same_Some, slice_get, slice_get-past, Some, StarPart, subst, sym, SysId, true}
-use Rattle.grs_world.proofs.Common.{World, ℕ}
+use Rattle.grs_world.proofs.Common.{◌&&◌, ◌++◌, ◌∙◌, ◌≡◌, ap, arith, Bool, Deck, Event, false, has, has_interest}
+use Rattle.grs_world.proofs.Common.{is_interested, is_live, items, length, List, lists, lives, manages, NodeState, None}
+use Rattle.grs_world.proofs.Common.{Option, part_by_table, refl, rounds, run, same_Some, slice_get, slice_get-past}
+use Rattle.grs_world.proofs.Common.{Some, StarPart, subst, sym, SysId, true, World, ℕ}
 use Rattle.grs_world.proofs.move.Changing.{IsChanging, Shown, has_changed, view-read, view-star, waits_yet}
 use Rattle.grs_world.proofs.move.Moved.{alive}
-use Rattle.grs_world.proofs.move.Sound.{GoodRun, every_run, in_ring, in_star}
+use Rattle.grs_world.proofs.move.Sound.{GoodRun, in_ring, in_star}
 use Rattle.grs_world.proofs.move.Waiting.{reads, whole_now}
 use Rattle.grs_world.proofs.star.Members.{has_manager}
 use Rattle.grs_world.proofs.star.Worlds.{live-below}
@@ -89,10 +88,6 @@ good_words deck es mode (in_star f g told d) = record {
       word_manages deck (run deck es) g e s (is_live (run deck es) s) refl (slice_get (run deck es).nodes s.0) refl;
 }
 
-pub every_word : (deck : Deck) → (may_be_star deck ≡ true → FitsStar deck) → (es : List Event) → NoneInStar deck es
-    → (run deck es).medium.star ≡ true → WordsGoWithSystems deck es
-every_word deck fits es none mode = good_words deck es mode (every_run deck fits es none)
-
 pub good_parts : (deck : Deck) (es : List Event) → GoodRun deck es (run deck es) → ManagersKeepWell deck es
 good_parts deck es (in_ring begins ring g d) s n p at is =
     absurd (let e : None ≡ Some p = sym (ring.alone s n at) ∙ is in cc)
@@ -102,7 +97,3 @@ good_parts deck es (in_star f g told d) s n p at is = by_live (has (run deck es)
     by_live true out = absurd (let e : None ≡ Some p = sym (g.gone s n at out) ∙ is in cc)
     by_live false live =
         let old = g.shown s n at live in kept_well deck (run deck es) g s n old.0 p old.1 live is old.2
-
-pub every_part : (deck : Deck) → (may_be_star deck ≡ true → FitsStar deck) → (es : List Event) → NoneInStar deck es
-    → ManagersKeepWell deck es
-every_part deck fits es none = good_parts deck es (every_run deck fits es none)

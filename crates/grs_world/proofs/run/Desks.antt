@@ -1,12 +1,12 @@
 -- What an event tells at a desk, and what all lines told at desks so far say.
 use Rattle.grs_world.proofs.Common.{[], ◌++◌, ◌+◌, ◌-◌, ◌<◌, ◌==◌, ◌||◌, ◌∙◌, ◌∷◌, ◌≡◌, ◌≢◌, ◌≤◌, ◌⊎◌, and_from}
-use Rattle.grs_world.proofs.Common.{and_parts, ap, append_assoc, arith, Bool, counted, Deck, drop, drop-append_seam, eq-eqb}
-use Rattle.grs_world.proofs.Common.{eqb-false, Event, false, Fixed, fixed_by, HistEntry, inl, inr, is_line_of, length}
-use Rattle.grs_world.proofs.Common.{List, list_all, list_all-append, list_any, list_any-append, lt-ltb, ltb-true}
-use Rattle.grs_world.proofs.Common.{Moment, nat_lt, ne_eqb, next_order, NodeState, None, not, Option, option_map}
-use Rattle.grs_world.proofs.Common.{or-false, or_left, or_right, Order, OrdersFit, placed, Purged, refl, removes, Said}
-use Rattle.grs_world.proofs.Common.{slice_get, Some, subst, sym, SysId, Told, told_by, told_in, ToldLine, ToldNews}
-use Rattle.grs_world.proofs.Common.{true, Turnout, World, ℕ}
+use Rattle.grs_world.proofs.Common.{and_parts, ap, append_assoc, arith, Bool, counted, Deck, drop, drop-append_seam}
+use Rattle.grs_world.proofs.Common.{eq-eqb, eqb-false, Event, false, Fixed, fixed_by, HistEntry, inl, inr, is_line_of}
+use Rattle.grs_world.proofs.Common.{length, List, list_all, list_all-append, list_any, list_any-append, lt-ltb}
+use Rattle.grs_world.proofs.Common.{ltb-true, Moment, nat_lt, ne_eqb, next_order, NodeState, None, not, Option}
+use Rattle.grs_world.proofs.Common.{option_map, or-false, or_left, or_right, Order, OrdersFit, placed, Purged, refl}
+use Rattle.grs_world.proofs.Common.{removes, Said, slice_get, Some, subst, sym, SysId, Told, told_by, told_in, ToldLine}
+use Rattle.grs_world.proofs.Common.{ToldNews, true, Turnout, World, ℕ}
 use Rattle.std.specs.Prelude.{◌&&◌}
 use Rattle.grs_world.specs.Agree.{DeskAgrees, HasCause, purges, is_desk_before, order_in, order_of, tells_star}
 use Rattle.grs_world.specs.Agree.{was_star}

@@ -1,11 +1,11 @@
 -- Each system's table is that of a front of the history, as it is counted by what was fixed.
 use Rattle.grs_world.proofs.Common.{[], ◌++◌, ◌-◌, ◌==◌, ◌∙◌, ◌∷◌, ◌≡◌, after_fixed, and_parts, ap, append-nil}
-use Rattle.grs_world.proofs.Common.{append_assoc, arith, Bodies, Bool, cond, Deck, Event, false, first_number, FitsStar}
-use Rattle.grs_world.proofs.Common.{Fixed, fixed_entries, goes_round, has, is_live, is_none, IsHistory, items}
-use Rattle.grs_world.proofs.Common.{items-append, items_are_history, items_from, length, List, lists, live, lives}
-use Rattle.grs_world.proofs.Common.{may_be_star, nat_lt, NodeState, None, NoneInStar, not, not-true, Option, refl}
-use Rattle.grs_world.proofs.Common.{replay, RingEntry, rounds, run, RunItem, slice_get, Some, StarPart, State, subst}
-use Rattle.grs_world.proofs.Common.{suc, sym, SysId, table-is, take, true, unseen, unwrap_or, World, zero, ℕ}
+use Rattle.grs_world.proofs.Common.{append_assoc, arith, Bodies, Bool, cond, Deck, Event, false, first_number, Fixed}
+use Rattle.grs_world.proofs.Common.{fixed_entries, goes_round, has, is_live, is_none, IsHistory, items, items-append}
+use Rattle.grs_world.proofs.Common.{items_are_history, items_from, length, List, lists, live, lives, nat_lt, NodeState}
+use Rattle.grs_world.proofs.Common.{None, not, not-true, Option, refl, replay, RingEntry, rounds, run, RunItem}
+use Rattle.grs_world.proofs.Common.{slice_get, Some, StarPart, State, subst, suc, sym, SysId, table-is, take, true}
+use Rattle.grs_world.proofs.Common.{unseen, unwrap_or, World, zero, ℕ}
 use Rattle.std.proofs.Common.{ne_eqb}
 use Rattle.grs_wire.specs.History.{answered}
 use Rattle.rsa_message.proofs.Stands.{waits_live, first_number-seen}
@@ -21,7 +21,7 @@ use Rattle.grs_world.proofs.run.Messages.{length-fixeds, given-due}
 use Rattle.grs_world.proofs.run.Runs.{seen_at, GoodMessage}
 use Rattle.grs_world.proofs.move.Changing.{IsChanging, Shown, has_changed, waits_yet}
 use Rattle.grs_world.proofs.move.Moved.{alive}
-use Rattle.grs_world.proofs.move.Sound.{GoodRun, every_run, in_ring, in_star}
+use Rattle.grs_world.proofs.move.Sound.{GoodRun, in_ring, in_star}
 use Rattle.grs_world.proofs.run.Site.{at_site}
 
 -- ---- fronts by number
@@ -171,7 +171,3 @@ good_tables deck es good s n at keeps = by_run good
         table_is deck w g.history g.before (rounds (items w.fixed)) [] (g.later s.0) s n
         (sym (append-nil (rounds (items w.fixed)))) (g.whole s.0) here g.message (g.systems s.0 n at here).shared
     by_run (in_star f g told d) = let old = g.shown s.0 n at unremoved in by_shown g old.0 n at alone old.1 old.2
-
-pub tables_fronts : (deck : Deck) → (may_be_star deck ≡ true → FitsStar deck) → (es : List Event) → NoneInStar deck es
-    → TablesAreFronts deck es
-tables_fronts deck fits es none = good_tables deck es (every_run deck fits es none)

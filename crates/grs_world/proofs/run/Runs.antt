@@ -1,13 +1,13 @@
 -- What holds of the world at every moment of a run, part by part, and how an event of a system keeps it.
-use Rattle.grs_world.proofs.Common.{[], ◌++◌, ◌+◌, ◌-◌, ◌==◌, ◌∙◌, ◌∷◌, ◌≡◌, ◌≢◌, ◌≤◌, and_parts, ap}
-use Rattle.grs_world.proofs.Common.{append-nil, append_assoc, arith, counted, Deck, drop, drop-append_seam, eqb-true}
-use Rattle.grs_world.proofs.Common.{Event, false, false_by, filter, filter-append, first_world, Fixed, fixed_by}
-use Rattle.grs_world.proofs.Common.{happens, has, hist, HistEntry, history, is_line_of, IsHistory, items}
-use Rattle.grs_world.proofs.Common.{items_are_history, length, length-append, lines_of_told, List, list_all, live}
-use Rattle.grs_world.proofs.Common.{map-append, MediumState, Moment, NodeState, OrdersFit, own_requests, placed, put_at}
-use Rattle.grs_world.proofs.Common.{refl, rounds, run, RunItem, Said, same_Some, set, slice_get, slice_get-set}
-use Rattle.grs_world.proofs.Common.{slice_get-set_other, Some, Step, subst, suc, sym, SysId, take, TaskId, Told}
-use Rattle.grs_world.proofs.Common.{told_by, ToldLine, ToldNews, true, Turnout, World, ℕ}
+use Rattle.grs_world.proofs.Common.{[], ◌++◌, ◌+◌, ◌-◌, ◌==◌, ◌∙◌, ◌∷◌, ◌≡◌, ◌≢◌, ◌≤◌, and_parts, ap, append-nil}
+use Rattle.grs_world.proofs.Common.{append_assoc, arith, counted, Deck, drop, drop-append_seam, eqb-true, Event, false}
+use Rattle.grs_world.proofs.Common.{false_by, filter, filter-append, first_world, Fixed, fixed_by, happens, has, hist}
+use Rattle.grs_world.proofs.Common.{HistEntry, history, is_line_of, IsHistory, items, items_are_history, length}
+use Rattle.grs_world.proofs.Common.{length-append, lines_of_told, List, list_all, live, map-append, MediumState, Moment}
+use Rattle.grs_world.proofs.Common.{NodeState, OrdersFit, own_requests, placed, put_at, refl, rounds, run, RunItem}
+use Rattle.grs_world.proofs.Common.{Said, same_Some, set, slice_get, slice_get-set, slice_get-set_other, Some, Step}
+use Rattle.grs_world.proofs.Common.{subst, suc, sym, SysId, take, TaskId, Told, told_by, ToldLine, ToldNews, true}
+use Rattle.grs_world.proofs.Common.{Turnout, World, ℕ}
 use Rattle.std.proofs.Math.Seq.{take-append_seam, take-length}
 use Rattle.grs_known.proofs.system.Says.{AgreesBehind}
 use Rattle.grs_world.specs.Agree.{Agrees, AgreesBy, AllAgree, moment, DeskAgrees}

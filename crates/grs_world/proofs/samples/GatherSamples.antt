@@ -38,10 +38,10 @@ use Rattle.grs_wire.specs.declared.told.Verb.TheVariants as verbs
 abbrev pub parts : ℕ → Event
 parts s = record { system = system s; choice = choices.Part 0 }
 
-abbrev vary : ℕ → Desk
+abbrev pub vary : ℕ → Desk
 vary target = record { at = 0; order = orders.Vary (system target) }
 
-abbrev elem : ℕ → ℕ → Ctl → Elem
+abbrev pub elem : ℕ → ℕ → Ctl → Elem
 elem s n c = record { task = task_of s n; ctl = c }
 
 -- these systems, of which the one of this number has these commands at its desk
@@ -73,7 +73,7 @@ is_rid_of deck s u es =
     option_map_or (λ (p : StarPart). list_all (is_without u) p.manager.entries) n.star true)
     (slice_get (run deck es).nodes s) true
 
-abbrev one : Line
+abbrev pub one : Line
 one = enq 66 E Systems RetNone
 
 abbrev share : Line
@@ -176,7 +176,7 @@ one_answered =
     goes 0 0 ∷ sends 0 0 ∷ goes 1 0 ∷ sends 1 0 ∷ goes 1 1 ∷ sends 1 1 ∷ goes 2 0 ∷ sends 2 0 ∷ takes 0 ∷ takes 0
     ∷ takes 0 ∷ settles 0 ∷ []
 
-abbrev without_asker : List Event
+abbrev pub without_asker : List Event
 without_asker = one_answered ++ purges 2 1 ∷ []
 
 abbrev then_settled : List Event
