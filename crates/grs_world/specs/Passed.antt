@@ -1,5 +1,5 @@
 -- What a system tells of what is done: each line that a task has passed, each end, and each line of its desk. It tells
--- all of it, in whatever run that removes no system in star mode, and whatever the other systems and the medium do.
+-- all of it, in whatever spared run (`NoneTakesEntries`), and whatever the other systems and the medium do.
 use Rattle.std.specs.Prelude.{◌≡◌, ◌<◌, ◌≤◌, ◌-◌, ◌&&◌, ◌==◌, ℕ, Bool, true, false, List, Some}
 use Rattle.std.specs.Prelude.{slice_get}
 use Rattle.std.specs.List.{list_any}

@@ -22,13 +22,13 @@ ghost use Rattle.grs_world.specs.Tables.{TablesAreFronts};
 ghost use Rattle.grs_world.specs.Decks.{FitsStar, may_be_star, may_remove};
 ghost use Rattle.grs_world.specs.World.{run};
 
-/// Every run is sound, in ring mode and in star mode and where it changes from the one to the other, at whatever event: its
-/// history is legal, and what is told agrees with it, by systems that weren't removed. So it is wherever systems are removed
-/// in ring mode, and as long as none is removed in star mode that manages a lock entry, and none before all live ones have
-/// changed (`NoneTakesEntries`; such a run is spared). Those that are may have elements, and whatever their tasks asked may be under way, held or
-/// settled; the others get to know of the removal at any later event. Of a deck whose runs may be in star mode it needs the bounds of
-/// systems and lock entries, and of each deck that no desk commands the removal of its own system, or of one that isn't
-/// there.
+/// Every spared run is sound, in ring mode and in star mode and where it changes from the one to the other, at whatever
+/// event: its history is legal, and what is told agrees with it, by systems that weren't removed. A run is spared
+/// (`NoneTakesEntries`) that removes whichever systems in ring mode, and in star mode none but such as another system
+/// removes, that manage no lock entry, once all live ones have changed. Those may have elements, and whatever their tasks
+/// asked may be under way, held or settled; the others get to know of the removal at any later event. Of a deck whose
+/// runs may be in star mode it needs the bounds of systems and lock entries, and of each deck that no desk commands the
+/// removal of its own system, or of one that isn't there.
 pub fn runs_are_sound()
     ensures { (deck : Deck) → (may_be_star deck ≡ true → FitsStar deck) → AreOrders (length deck.systems) 0 deck.systems → (events : List Event) → NoneTakesEntries deck events → Sound deck events }
 {}
@@ -49,13 +49,14 @@ pub fn spared_runs_take_no_entries()
     ensures { (deck : Deck) → (events : List Event) → NoneInStar deck events → NoneTakesEntries deck events }
 {}
 
-/// In every spared run of such a deck what is kept of each Systems resource is the list that the history leads to, though a
-/// manager that doesn't know of a removal yet still has that one's elements. In ring mode each live system keeps it: its table has
-/// that list once the entries that it hasn't seen are processed. In star mode the manager of the resource's lock entry does, in its
-/// table as long as it hasn't changed; where there is none, the history has nothing on the resource. What is kept behind the removal
-/// of a manager, as long as the lists of its entries have still to be gathered, `kept` says too; that it is the history's list is a
-/// law right behind the event of a run's first removal in star mode, of a manager or not, and so far shown by worked runs behind any
-/// other removal of a manager.
+/// In every spared run of such a deck what is kept of each Systems resource is the list that the history leads to, though
+/// a manager that doesn't know of a removal yet still has that one's elements. In ring mode each live system keeps it:
+/// its table has that list once the entries that it hasn't seen are processed. In star mode the manager of the resource's
+/// lock entry does, in its table as long as it hasn't changed; where there is none, the history has nothing on the
+/// resource. What is kept behind the removal of a manager, as long as the lists of its entries have still to be gathered,
+/// `kept` says too. That it is the history's list is a law right behind the event of a run's first removal in star mode,
+/// of a manager or not, once all live systems have changed; behind later events of a run that isn't spared worked runs
+/// alone show it so far.
 pub fn kept_are_places()
     ensures { (deck : Deck) → (may_be_star deck ≡ true → FitsStar deck) → (events : List Event) → NoneTakesEntries deck events → KeptArePlaces deck events }
 {}
@@ -94,26 +95,26 @@ pub fn what_events_fix()
     ensures { (deck : Deck) → (events : List Event) → (next : Event) → EventFixes deck events next }
 {}
 
-/// In every spared run of such a deck the table that each live system keeps of the Systems
-/// resources, as long as it hasn't changed to star mode, is that of a front of the history: of what was fixed before the
-/// first entry of the message that the system has still to process.
+/// In every spared run of such a deck the table that each live system keeps of the Systems resources, as long as it
+/// hasn't changed to star mode, is that of a front of the history: of what was fixed before the first entry of the
+/// message that the system has still to process.
 pub fn tables_are_fronts()
     ensures { (deck : Deck) → (may_be_star deck ≡ true → FitsStar deck) → (events : List Event) → NoneTakesEntries deck events → TablesAreFronts deck events }
 {}
 
-/// Wherever a run is in star mode, a lock word names a manager exactly where its set isn't empty, who is in it. And wherever
-/// a spared one is, the words go with the systems: the set of an entry's word holds a system
-/// exactly where that system is live and has interest in the entry, and it names a system as the manager exactly where that
-/// system is live and manages the entry. A system that hasn't changed has interest in what its table leads to, and manages
-/// that, once it has processed what it hasn't seen.
+/// Wherever a run is in star mode, a lock word names a manager exactly where its set isn't empty, who is in it. And
+/// wherever a spared run is, the words go with the systems: the set of an entry's word holds a system exactly where that
+/// system is live and has interest in the entry, and it names a system as the manager exactly where that system is live
+/// and manages the entry. A system that hasn't changed has interest in what its table leads to, and manages that, once it
+/// has processed what it hasn't seen.
 pub fn words_go_with_systems()
     ensures managed { (deck : Deck) → (may_be_star deck ≡ true → FitsStar deck) → (events : List Event) → (run deck events).medium.star ≡ true → WordsAreManaged deck events }
     ensures systems { (deck : Deck) → (may_be_star deck ≡ true → FitsStar deck) → (events : List Event) → NoneTakesEntries deck events → (run deck events).medium.star ≡ true → WordsGoWithSystems deck events }
 {}
 
-/// In every spared run of such a deck each system that is in star mode keeps well what it
-/// manages: ranks rise along the list of each resource, so that what is kept of it is in the order of ranks; and each owner
-/// that is still to be told owns and is of another system.
+/// In every spared run of such a deck each system that is in star mode keeps well what it manages: ranks rise along the
+/// list of each resource, so that what is kept of it is in the order of ranks; and each owner that is still to be told
+/// owns and is of another system.
 pub fn managers_keep_well()
     ensures { (deck : Deck) → (may_be_star deck ≡ true → FitsStar deck) → (events : List Event) → NoneTakesEntries deck events → ManagersKeepWell deck events }
 {}
@@ -132,19 +133,19 @@ pub fn answers_come_last()
     ensures told { (deck : Deck) → deck.star ≡ false → (may_be_star deck ≡ true → FitsStar deck) → (events : List Event) (next : Event) → AnsweredLast deck events next }
 {}
 
-/// In every spared run of such a deck nothing that is passed is left untold, of whichever
-/// system and whatever the others do: each line that a task has passed has its code line, a WAIT and what waited too, or
-/// its rows; who has ended has its END line; and each line of a desk that is done is told there.
+/// In every spared run of such a deck nothing that is passed is left untold, of whichever system and whatever the others
+/// do: each line that a task has passed has its code line, a WAIT and what waited too, or its rows; who has ended has its
+/// END line; and each line of a desk that is done is told there.
 pub fn passed_is_told()
     ensures { (deck : Deck) → (may_be_star deck ≡ true → FitsStar deck) → AreOrders (length deck.systems) 0 deck.systems → (events : List Event) → NoneTakesEntries deck events → PassedIsTold deck events }
 {}
 
-/// Where a run of a deck within the bounds ends at rest, in ring mode or in star mode, whichever systems were removed in
-/// ring mode, and none in star mode that managed a lock entry, nor before all had changed, nothing is lost on the live ones: each of their tasks that owns a resource was told
-/// control of it, each of these tasks' ENQs and DEQs that wasn't answered WAIT has its code line, and each display whose
-/// looks all stand its rows; a task of theirs that hasn't ended is shown to wait and has an element that it doesn't own,
-/// for which its last entry waits or the WAIT line at which it stands; and each of their units is reserved as often as
-/// their tasks own a resource on which a RESERVE of the unit queued them.
+/// Where a spared run of a deck within the bounds ends at rest, in ring mode or in star mode, nothing is lost on the live
+/// systems: each of their tasks that owns a resource was told control of it, each of these tasks' ENQs and DEQs that
+/// wasn't answered WAIT has its code line, and each display whose looks all stand its rows; a task of theirs that hasn't
+/// ended is shown to wait and has an element that it doesn't own, for which its last entry waits or the WAIT line at
+/// which it stands; and each of their units is reserved as often as their tasks own a resource on which a RESERVE of the
+/// unit queued them.
 pub fn rests_in_the_end()
     ensures { (deck : Deck) → IsBounded deck → (events : List Event) → NoneTakesEntries deck events → RestsInTheEnd deck events }
 {}
@@ -197,9 +198,9 @@ pub fn parts_are_on_the_way()
     ensures parts { (deck : Deck) → deck.star ≡ true → FitsStar deck → (events : List Event) → PartsAreOnTheWay deck events }
 {}
 
-/// In every run, by an event that takes a notice a task that has sent its request, which isn't answered yet, is to send it
-/// again exactly where the notice names, in an item that the deck has, the request's lock entry, and its system neither manages nor
-/// gathers that; of any other task that has sent one the request is still sent.
+/// In every run, by an event that takes a notice a task that has sent its request, which isn't answered yet, is to send
+/// it again exactly where the notice names, in an item that the deck has, the request's lock entry, and its system
+/// neither manages nor gathers that; of any other task that has sent one the request is still sent.
 pub fn notices_send_again()
     ensures { (deck : Deck) → (events : List Event) (next : Event) → NoticesSendAgain deck events next }
 {}

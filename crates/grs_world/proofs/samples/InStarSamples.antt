@@ -71,6 +71,11 @@ behind = purges 1 3 ∷ purges 1 3 ∷ switches 1 ∷ []
 abbrev last : List Event
 last = purges 1 2 ∷ []
 
+-- Or the second has its Turn first (7), and so has the third, once it is told who was removed (9): by these they change
+-- too, and then the second removes the third (10).
+abbrev all_change : List Event
+all_change = turn 1 ∷ turn 2 ∷ turn 2 ∷ []
+
 -- ---- which decks may remove a system
 -- One does of which a desk orders a removal; the change to star mode is none.
 pub ordered :
@@ -123,12 +128,43 @@ pub samples :
     × (NoneTakesEntries changing (changed ++ behind))
     × (taken_at changing (changed ++ behind ++ last) ≡ 8 ∷ [])
     × (have_changed 8 0 (run changing (changed ++ behind)).nodes ≡ false)
+    -- once they have, the removal of a system in star mode is no such one, though the fourth, which was removed in ring
+    -- mode, never changes
+    × (removed_at changing (changed ++ behind ++ all_change ++ last) ≡ 8 ∷ [])
+    × (NoneTakesEntries changing (changed ++ behind ++ all_change ++ last))
+    × (have_changed 8 0 (run changing (changed ++ behind ++ all_change)).nodes ≡ true)
+    × (have_changed 0 0 (run changing (changed ++ behind ++ all_change)).nodes ≡ false)
     × (told changing (changed ++ behind ++ last)
     ≡ at 1 0 (AtDesk 1 VaryDone) ∷ at 3 0 (AtDesk 2 StarDone) ∷ at 5 1 (AtDesk 1 VaryNoSuch)
     ∷ at 6 1 (AtDesk 2 StarAlready) ∷ at 7 1 (AtDesk 3 VaryDone) ∷ [])
+    × (told changing (changed ++ behind ++ all_change ++ last)
+    ≡ at 1 0 (AtDesk 1 VaryDone) ∷ at 3 0 (AtDesk 2 StarDone) ∷ at 5 1 (AtDesk 1 VaryNoSuch)
+    ∷ at 6 1 (AtDesk 2 StarAlready) ∷ at 10 1 (AtDesk 3 VaryDone) ∷ [])
 unfolding telling is_pending all_sent change_to_star prepare finish_quiet finish_call finish finish_star first_node
     read_entries put_in switched desk_told purged system_turned process process_entry manager lock_word has without
     with_also purged_word purge_row switch_row turn_row row apply unseen any_unseen cleared stamped turn_reply
     wakes rest_after_turn dropped departed turned closed_by first_after first_world carry_out chosen placed happens_at
     happens losing members_below lose_each take_up_below stale tell_each tell_freed
-samples = (refl, refl, refl, refl, refl, refl, refl, refl, refl, refl, refl, refl, refl, refl, refl, refl)
+samples = (
+  refl,
+  refl,
+  refl,
+  refl,
+  refl,
+  refl,
+  refl,
+  refl,
+  refl,
+  refl,
+  refl,
+  refl,
+  refl,
+  refl,
+  refl,
+  refl,
+  refl,
+  refl,
+  refl,
+  refl,
+  refl,
+)
