@@ -126,6 +126,7 @@ fn called(
 /// A Turn that the medium refuses.
 #[tactic(auto, using(crate::proofs::code::Turns::refused))]
 fn refused_turn(
+    alloc: Global,
     medium: &Medium,
     system: SysId,
     node: &mut Node<'_>,
@@ -139,7 +140,7 @@ fn refused_turn(
     ensures deck { node.new.deck ≡ node.old.deck }
     ensures number { node.new.node.tasks.system ≡ node.old.node.tasks.system }
 {
-    finished(node, &Choice::Turn, Some(refusal.into_reply()))
+    replied(alloc, node, &Choice::Turn, refusal.into_reply())
 }
 
 /// How many requests of so many go into the message: none where it is closed.
@@ -200,7 +201,7 @@ fn turn(
         return Ok(nothing_done(alloc));
     };
     match medium.turn_refusal(system, known) {
-        Some(refusal) => refused_turn(medium, system, node, known, refusal),
+        Some(refusal) => refused_turn(alloc, medium, system, node, known, refusal),
         None => turned(medium, system, node, known),
     }
 }

@@ -144,7 +144,8 @@ impl<'d> World<'d> {
     #[tactic(auto, using(crate::proofs::system::First::first), unfolding(crate::specs::World::first_world))]
     pub fn new(alloc: Global, deck: &'d Deck) -> Result<World<'d>, NoMemory>
         requires { IsBounded deck.now }
-        ensures { IfOk result (λ w. w ≡ starting deck.now) }
+        ensures first { IfOk result (λ w. w ≡ starting deck.now) }
+        ensures waits { IfOk result (λ w. WaitsForLive w.world.medium) }
     {
         let systems = deck.systems.len() as u32;
         let medium = Medium::new(alloc, systems, deck.entries, deck.star)?;
@@ -240,8 +241,9 @@ impl<'d> World<'d> {
 
     /// The message goes one lap: it hands out the Turns that were made, each of the system at which the message stood, until
     /// as many got to the message as systems are live. A system that has yet to be told which others were removed is told
-    /// that by one Turn and makes another, so there are at most twice as many. In ring mode none of the entries that stood in
-    /// the message before is left behind it, whatever the systems that were removed have left undone.
+    /// that by one Turn and makes another, so there are at most twice as many. Of a run in ring mode none of the entries that
+    /// stood in the message before is left behind it, whatever the systems that were removed have left undone
+    /// (`laws::laps_end`).
     ///
     /// NoMemory comes where memory is wanting, or there were 2^57 events; the run is then to be given up.
     #[tactic(auto, using(crate::proofs::code::Lapped::lapped))]

@@ -4,8 +4,8 @@ use Rattle.grs_medium.specs.TurnReplies.{refusal_reply}
 use Rattle.grs_world.proofs.code.Turns.{chosen-refused, refused-ends}
 use Rattle.grs_world.proofs.chosen.refused_turn.Goals as goal
 
-pub finished-requires : goal.finished-requires
-finished-requires c =
+pub replied-requires : goal.replied-requires
+replied-requires c =
     rw c.into_reply.ensures (
       refused-ends c.args.node.now.deck c.args.medium.now.state c.args.system c.args.node.now.node c.args.known
           c.requires.prepared (refusal_reply c.args.refusal) c.requires.refused,
@@ -25,4 +25,4 @@ returns-clause-ends c =
           c.requires.prepared (refusal_reply c.args.refusal) c.requires.refused,
       ← c.into_reply.ensures,
     )
-    c.finished.ensures.ends
+    c.replied.ensures.ends
