@@ -2,8 +2,9 @@
 use Rattle.std.proofs.Common.{◌≡◌, ◌<◌, ℕ, Bool, true, false, List, length, get_or, Result, Ok, Err, IfOk, IfErr, sym}
 use Rattle.std.proofs.Common.{◌∙◌, subst}
 use Rattle.std.specs.Prelude.{All}
-use Rattle.std.specs.List.{list_all}
+use Rattle.std.specs.List.{list_all, AllZip}
 use Rattle.std.proofs.lemmas.Bool.{true≢false}
+use Rattle.std.proofs.lemmas.List.Elements.{AllZip-get_or, length_all_zip}
 use Rattle.std.proofs.lemmas.List.Folds.{list_all_at}
 use Rattle.grs_base.specs.declared.fault.NoMemory.{NoMemory}
 use Rattle.grs_bus.specs.Seats.{BusValue}
@@ -22,14 +23,22 @@ worked-grew b v w worked fine = by_outcome w.outcome worked fine
     by_outcome (Ok out) worked fine = went-grew (stand v) out (stand w) worked.0
     by_outcome (Err e) worked fine = absurd fine
 
-pub moved-grew : (b : BusValue) (v w : Worker) → HasMoved b v w → IfErr w.outcome (λ _. ⊥) → Grew (stand v) (stand w)
-moved-grew b v w moved fine = by_outcome w.outcome moved fine
+pub moved-well : (b : BusValue) (v w : Worker) → HasMoved b v w → IfErr w.outcome (λ _. ⊥)
+    → Grew (stand v) (stand w) × IsOn b (stand w) × Agrees (stand w)
+moved-well b v w moved fine = by_outcome w.outcome moved fine
   where
     by_outcome : (o : Result Bool NoMemory)
         → IfOk o (λ out. Grew (stand v) (stand w) × IsOn b (stand w) × Agrees (stand w)) → IfErr o (λ _. ⊥)
-        → Grew (stand v) (stand w)
-    by_outcome (Ok out) moved fine = moved.0
+        → Grew (stand v) (stand w) × IsOn b (stand w) × Agrees (stand w)
+    by_outcome (Ok out) moved fine = moved
     by_outcome (Err e) moved fine = absurd fine
+
+pub all-moved : (b : BusValue) (vs ws : List Worker) → AllZip (HasMoved b) vs ws → All (λ w. IfErr w.outcome (λ _. ⊥)) ws
+    → (i : ℕ) (d : Worker) → i < length vs
+    → Grew (stand (get_or vs i d)) (stand (get_or ws i d)) × IsOn b (stand (get_or ws i d)) × Agrees (stand (get_or ws i d))
+all-moved b vs ws moved fine i d below =
+    moved-well b (get_or vs i d) (get_or ws i d) (AllZip-get_or (HasMoved b) vs ws i d d moved below)
+    (fine i d (subst (λ k. i < k) (length_all_zip (HasMoved b) vs ws moved) below))
 
 -- ---- several rounds
 

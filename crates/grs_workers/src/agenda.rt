@@ -83,7 +83,7 @@ pub(crate) struct Agenda {
     brought: bool,
     /// Since it was woken last, the message came and brought nothing, or the inbox was empty, or all others slept.
     in_vain: bool,
-    /// It has come to rest, and hasn't changed since.
+    /// It has come to rest, and nothing happened since that undoes that in the medium.
     at_rest: bool,
     /// The last call was answered Stale, so that what it asked is to be asked again.
     stale: bool,
@@ -287,6 +287,12 @@ impl Agenda {
         }
     }
 
+    /// Whether a system at rest is so still behind the event that was picked last: behind a rest, and a turn that only passed the message
+    /// on. The message comes to none at rest, so one that took itself for woken wouldn't rest again, and never be told that all is over.
+    fn keeps_rest(&self) -> bool {
+        matches!(self.last, Last::Turn | Last::Rest) && !self.brought
+    }
+
     /// The event that was picked last changed the system, so that each choice may have something to do: also a rest, since one that
     /// changes it was answered Stale, behind which the system may have owners to tell. It fixed or told something, or didn't.
     fn changed(&mut self, got_on: bool) {
@@ -295,7 +301,7 @@ impl Agenda {
             Last::Nothing | Last::Choice | Last::Look => self.busy = true,
             Last::Leave => {}
         }
-        self.at_rest = false;
+        self.at_rest = self.at_rest && self.keeps_rest();
         self.has_changed = true;
         if !matches!(self.last, Last::Leave) {
             self.entry = 0;
@@ -324,6 +330,7 @@ impl Agenda {
     fn enter_star(&mut self) {
         std::mem::swap(&mut self.tries, &mut self.later);
         self.star = true;
+        self.at_rest = false;
         self.next = 0;
         self.left = self.tries.len();
         self.then = Then::Turn;
@@ -419,7 +426,7 @@ impl Agenda {
         };
     }
 
-    /// Whether it has come to rest, and hasn't changed since.
+    /// Whether it has come to rest, and nothing happened since that undoes that.
     pub(crate) fn at_rest(&self) -> bool {
         self.at_rest
     }

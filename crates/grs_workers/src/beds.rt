@@ -1,13 +1,14 @@
 //! Where workers sleep that have nothing to do, and how they wake each other. Each has a bed of its own. Behind a call that is entered
 //! just those are called whom it concerns. No worker waits for a time: who sleeps was told that others are up, and the last one up
-//! calls those that have yet to come to rest. No clause rests on it.
+//! calls those that have yet to come to rest. A worker whose thread was made is up ahead of its first event, since the system lets it
+//! begin; where one wasn't made nobody sleeps. No clause rests on it.
 use crate::gate::Woken;
 use grs_base::{MOST_SYSTEMS, NoMemory, SysId};
 use grs_wire::masks::has_system;
 use std::alloc::Global;
+use std::hint;
 use std::sync::Wait;
 use std::sync::atomic::{AtomicU64, Ordering};
-use std::{hint, thread};
 
 /// How often in a row a worker is called where all others sleep, and has nothing to do, before it gives up.
 const MOST_IN_VAIN: u64 = 8;
@@ -33,6 +34,15 @@ const AT_REST: u64 = 3;
 /// It was called since all others sleep, and has yet to look.
 const ALONE: u64 = 4;
 
+/// Nobody gave up, and no worker wants a thread, as far as is known.
+const NOBODY: u64 = 0;
+
+/// Somebody gave up, and no worker wanted a thread till then.
+const SOMEBODY: u64 = 1;
+
+/// Some worker wants a thread.
+const WANTING: u64 = 2;
+
 /// The beds of all workers.
 #[derive(Drop)]
 pub(crate) struct Beds {
@@ -40,19 +50,16 @@ pub(crate) struct Beds {
     beds: Vec<AtomicU64>,
     /// How many workers are up, or have yet to begin.
     up: AtomicU64,
-    /// How many have yet to begin.
-    missing: AtomicU64,
-    /// 0 until somebody gives up. From then on nobody sleeps.
+    /// Whether somebody gave up, or some worker has no thread: `NOBODY`, `SOMEBODY` or `WANTING`. But for the first of them nobody
+    /// sleeps.
     left: AtomicU64,
     /// 0 until some worker made an event that the log of its system has.
     got_on: AtomicU64,
-    /// How often a worker that would sleep lets other threads run as long as some worker has yet to begin.
-    patience: u64,
 }
 
 impl Beds {
     /// Before so many workers begin.
-    pub(crate) fn new(alloc: Global, workers: usize, patience: u64) -> Result<Beds, NoMemory> {
+    pub(crate) fn new(alloc: Global, workers: usize) -> Result<Beds, NoMemory> {
         let mut beds = Vec::new(alloc);
         for _ in 0..workers {
             if beds.push(AtomicU64::new(UP)).is_err() {
@@ -62,16 +69,14 @@ impl Beds {
         Ok(Beds {
             beds,
             up: AtomicU64::new(workers as u64),
-            missing: AtomicU64::new(workers as u64),
-            left: AtomicU64::new(0),
+            left: AtomicU64::new(NOBODY),
             got_on: AtomicU64::new(0),
-            patience,
         })
     }
 
     /// Whether nobody is to sleep any more.
-    fn was_left(&self) -> bool {
-        self.left.load(Ordering::SeqCst) != 0
+    pub(crate) fn was_left(&self) -> bool {
+        self.left.load(Ordering::SeqCst) != NOBODY
     }
 
     /// Whether some worker made an event.
@@ -131,10 +136,17 @@ impl Beds {
         some
     }
 
-    /// Nobody sleeps from now on.
-    fn leave(&self) {
-        self.left.store(1, Ordering::SeqCst);
+    /// Nobody sleeps from now on, for this reason or an earlier one.
+    fn leave(&self, why: u64) {
+        let _ = self
+            .left
+            .compare_exchange(NOBODY, why, Ordering::SeqCst, Ordering::SeqCst);
         self.call_all(u32::MAX);
+    }
+
+    /// No thread could be made for a worker, which begins only behind the one whose thread is to make its events. So nobody sleeps.
+    pub(crate) fn want_a_thread(&self) {
+        self.leave(WANTING);
     }
 
     /// A worker isn't up any more. Where nobody is, it calls those that have yet to come to rest, and is counted as up for as long;
@@ -147,23 +159,11 @@ impl Beds {
             }
             self.up.fetch_add(1, Ordering::SeqCst);
             if !self.call_those_asleep() {
-                self.leave();
+                self.leave(SOMEBODY);
                 self.up.fetch_sub(1, Ordering::SeqCst);
                 return;
             }
         }
-    }
-
-    /// Waits until all workers have begun, or the one of this bed was called: whether they have. It gives up behind a while, since
-    /// there may be no threads for them.
-    fn all_begin(&self, bed: &AtomicU64) -> bool {
-        for _ in 0..self.patience {
-            if self.missing.load(Ordering::SeqCst) == 0 || bed.load(Ordering::SeqCst) != UP {
-                return true;
-            }
-            thread::yield_now();
-        }
-        self.missing.load(Ordering::SeqCst) == 0
     }
 
     /// Waits some microseconds, or until the worker of this bed was called.
@@ -191,19 +191,25 @@ impl Beds {
         }
     }
 
+    /// How a worker goes on, as nobody is to sleep any more: so, where it isn't for want of a thread.
+    fn given_up(&self, other: Woken) -> Woken {
+        if self.left.load(Ordering::SeqCst) == WANTING {
+            Woken::Late
+        } else {
+            other
+        }
+    }
+
     /// Sleeps in this bed until the worker is called.
     fn sleep<R: Wait>(&self, rt: &R, bed: &AtomicU64, at_rest: bool) -> Woken {
         if self.was_left() {
-            return Woken::Never;
-        }
-        if !self.all_begin(bed) {
-            return Woken::Late;
+            return self.given_up(Woken::Never);
         }
         Beds::look(bed);
         self.lie(rt, bed, if at_rest { AT_REST } else { ASLEEP });
         match bed.swap(UP, Ordering::SeqCst) {
             ALONE => Woken::Alone,
-            _ if self.was_left() => Woken::Left,
+            _ if self.was_left() => self.given_up(Woken::Left),
             _ => Woken::Called,
         }
     }
@@ -223,7 +229,6 @@ pub(crate) struct Sleeper<'b> {
 impl<'b> Sleeper<'b> {
     /// The worker of this place begins.
     pub(crate) fn new(beds: &'b Beds, place: usize) -> Sleeper<'b> {
-        beds.missing.fetch_sub(1, Ordering::SeqCst);
         Sleeper {
             beds,
             place,
@@ -283,7 +288,7 @@ impl<'b> Sleeper<'b> {
     /// The worker is done. Where it gives up, nobody sleeps from then on.
     pub(crate) fn done<R: Wait>(&self, rt: &R, gives_up: bool) {
         if gives_up {
-            self.beds.leave();
+            self.beds.leave(SOMEBODY);
         }
         self.beds.go_down(rt);
     }

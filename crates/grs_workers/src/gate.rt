@@ -3,7 +3,7 @@ use crate::worker::Worker;
 use grs_base::SysId;
 
 /// How a worker's sleep ended, or why it gives a stretch up in place of one. Where each worker has a thread, and whoever has something
-/// to do is called, none is left or gives up.
+/// to do is called, none is left, late or gives up.
 #[derive(Clone, Copy, PartialEq, Eq)]
 pub enum Woken {
     /// It was called by whoever made a call that concerns it.
@@ -12,7 +12,7 @@ pub enum Woken {
     Alone,
     /// It was called since somebody gave up, or since all had come to rest and some weren't told so.
     Left,
-    /// It gives up, since some worker has yet to begin.
+    /// It gives up, since some worker has no thread of its own, and begins late, behind others.
     Late,
     /// It gives up, since others did, or since it was called again and again as all others slept, and had nothing to do.
     Never,

@@ -9,6 +9,7 @@ mod gate;
 mod rounds;
 mod run;
 mod stretch;
+mod threads;
 mod worker;
 
 pub use crew::workers_of;

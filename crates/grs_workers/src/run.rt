@@ -1,5 +1,5 @@
 //! The systems of a deck beside each other, from their first events until all have come to rest.
-ghost use Rattle.std.specs.Prelude.{◌≡◌, true, map, All, IfOk, OnOk};
+ghost use Rattle.std.specs.Prelude.{◌≡◌, true, length, map, All, IfOk};
 ghost use Rattle.grs_wire.specs.Decks.{IsBounded};
 ghost use Rattle.grs_workers.specs.Beside.{medium_of, RanBeside, AllLast, AreFirst, IsOver};
 ghost use Rattle.grs_workers.specs.Rounds.{Grew, Each};
@@ -18,12 +18,6 @@ use grs_wire::{Deck, JEntry};
 use std::alloc::Global;
 use std::sync::Wait;
 use std::thread::Threads;
-
-/// How often a worker that would sleep lets other threads run as long as some worker has yet to begin, in the first stretch, and in
-/// those behind it, where threads were wanting or slow before.
-const FIRST_PATIENCE: u64 = 10_000;
-
-const LATER_PATIENCE: u64 = 300;
 
 /// What systems that ran beside each other leave behind: the medium, the journal of its calls, and the systems in their order,
 /// each with its log.
@@ -50,52 +44,54 @@ fn begin<'d>(alloc: Global, deck: &'d Deck) -> Result<(Bus, Vec<Worker<'d>>), No
     Ok((bus, workers))
 }
 
-/// A stretch, and behind it a round, where each worker was answered Over or Removed, or nobody got on: whether each was answered so in
-/// the round.
+/// A stretch, and behind it a round, where each worker was answered Over or Removed, or nobody got on: the workers, and whether each was
+/// answered so in the round.
 #[tactic(auto, using(crate::proofs::RoundLaws::rounds))]
-fn stretch_and_round<R: Threads + Wait + Sync, G: Gate + Sync>(
+fn stretch_and_round<'d, R: Threads + Wait + Sync, G: Gate + Sync>(
     rt: &R,
     alloc: Global,
     bus: &Bus,
-    workers: &mut [Worker<'_>],
+    workers: Vec<Worker<'d>>,
     gate: &G,
-    patience: u64,
-) -> Result<bool, NoMemory>
-    requires on { All (λ w. IsOn bus.now (stand w)) workers.old }
-    requires agree { All (λ w. Agrees (stand w)) workers.old }
-    ensures grew { OnOk result (Each (λ v w. Grew (stand v) (stand w)) workers.old workers.new) }
-    ensures over { IfOk result (λ over. over ≡ true → All (λ w. IsOver (stand w)) workers.new) }
-    ensures on { OnOk result (All (λ w. IsOn bus.now (stand w)) workers.new) }
-    ensures agree { OnOk result (All (λ w. Agrees (stand w)) workers.new) }
+) -> Result<(Vec<Worker<'d>>, bool), NoMemory>
+    requires on { All (λ w. IsOn bus.now (stand w)) workers.items }
+    requires agree { All (λ w. Agrees (stand w)) workers.items }
+    ensures grew { IfOk result (λ x. Each (λ v w. Grew (stand v) (stand w)) workers.entry.items x.0.items) }
+    ensures count { IfOk result (λ x. length x.0.items ≡ length workers.entry.items) }
+    ensures over { IfOk result (λ x. x.1 ≡ true → All (λ w. IsOver (stand w)) x.0.items) }
+    ensures on { IfOk result (λ x. All (λ w. IsOn bus.now (stand w)) x.0.items) }
+    ensures agree { IfOk result (λ x. All (λ w. Agrees (stand w)) x.0.items) }
 {
-    if !stretch(rt, alloc, bus, workers, gate, patience)? {
-        return Ok(false);
+    let (mut moved, ends) = stretch(rt, alloc, bus, workers, gate)?;
+    if !ends {
+        return Ok((moved, false));
     }
-    let over = round(rt, bus, workers, gate)?;
-    Ok(over)
+    let over = round(rt, bus, moved.as_mut_slice(), gate)?;
+    Ok((moved, over))
 }
 
 /// Stretches and rounds, until each worker is answered Over or Removed in a round.
 #[tactic(auto, using(crate::proofs::RoundLaws::rounds))]
-fn rounds<R: Threads + Wait + Sync, G: Gate + Sync>(
+fn rounds<'d, R: Threads + Wait + Sync, G: Gate + Sync>(
     rt: &R,
     alloc: Global,
     bus: &Bus,
-    workers: &mut [Worker<'_>],
+    workers: Vec<Worker<'d>>,
     gate: &G,
-) -> Result<(), NoMemory>
-    requires on { All (λ w. IsOn bus.now (stand w)) workers.old }
-    requires agree { All (λ w. Agrees (stand w)) workers.old }
-    ensures grew { OnOk result (Each (λ v w. Grew (stand v) (stand w)) workers.old workers.new) }
-    ensures over { OnOk result (All (λ w. IsOver (stand w)) workers.new) }
-    ensures on { OnOk result (All (λ w. IsOn bus.now (stand w)) workers.new) }
+) -> Result<Vec<Worker<'d>>, NoMemory>
+    requires on { All (λ w. IsOn bus.now (stand w)) workers.items }
+    requires agree { All (λ w. Agrees (stand w)) workers.items }
+    ensures grew { IfOk result (λ ws. Each (λ v w. Grew (stand v) (stand w)) workers.entry.items ws.items) }
+    ensures count { IfOk result (λ ws. length ws.items ≡ length workers.entry.items) }
+    ensures over { IfOk result (λ ws. All (λ w. IsOver (stand w)) ws.items) }
 {
-    let mut patience = FIRST_PATIENCE;
+    let mut workers = workers;
     for _ in rt.forever() {
-        if stretch_and_round(rt, alloc, bus, workers, gate, patience)? {
-            return Ok(());
+        let (moved, over) = stretch_and_round(rt, alloc, bus, workers, gate)?;
+        workers = moved;
+        if over {
+            return Ok(workers);
         }
-        patience = LATER_PATIENCE;
     }
     unreachable!()
 }
@@ -129,8 +125,8 @@ pub fn run_workers<'d, R: Threads + Wait + Sync, G: Gate + Sync>(
     ensures ran { IfOk result (λ r. RanBeside deck.now r.medium.state r.journal r.nodes) }
     ensures last { IfOk result (λ r. AllLast deck.now r.journal) }
 {
-    let (bus, mut workers) = begin(alloc, deck)?;
-    rounds(rt, alloc, &bus, workers.as_mut_slice(), gate)?;
+    let (bus, first) = begin(alloc, deck)?;
+    let workers = rounds(rt, alloc, &bus, first, gate)?;
     let (nodes, seats) = apart(alloc, workers)?;
     let (medium, journal) = bus.close(seats);
     Ok(Ran {

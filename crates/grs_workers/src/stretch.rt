@@ -1,5 +1,5 @@
 //! A stretch: all workers at once, each with as many events as it finds to do.
-ghost use Rattle.std.specs.Prelude.{◌≡◌, All, IfOk, IfErr, OnOk};
+ghost use Rattle.std.specs.Prelude.{◌≡◌, All, IfOk, OnOk, length};
 ghost use Rattle.grs_workers.specs.Stands.{stand, IsOn, Agrees};
 ghost use Rattle.grs_workers.specs.Rounds.{Grew, Each, HasMoved};
 
@@ -7,13 +7,13 @@ use crate::agenda::Agenda;
 use crate::beds::{Beds, Sleeper};
 use crate::gate::{Gate, Woken};
 use crate::rounds::{act, all_out};
+use crate::threads::{Work, at_once};
 use crate::worker::Worker;
-use grs_base::{MOST_SYSTEMS, NoMemory, SysId};
+use grs_base::{NoMemory, SysId};
 use grs_bus::Bus;
 use grs_wire::Choice;
 use std::alloc::Global;
 use std::sync::Wait;
-use std::thread;
 use std::thread::Threads;
 
 /// How a worker goes on.
@@ -128,64 +128,80 @@ fn events_in_stretch<R: Wait, G: Gate>(
 }
 
 /// A worker's stretch. It keeps how it went.
-fn work_on<R: Wait, G: Gate>(
+fn work_on<'d, R: Wait, G: Gate>(
     rt: &R,
     bus: &Bus,
-    worker: &mut Worker<'_>,
+    mut worker: Worker<'d>,
     gate: &G,
     beds: &Beds,
     place: usize,
-)
-    requires on { IsOn bus.now (stand worker.old) }
-    requires agrees { Agrees (stand worker.old) }
-    ensures { HasMoved bus.now worker.old worker.new }
+) -> Worker<'d>
+    requires on { IsOn bus.now (stand worker) }
+    requires agrees { Agrees (stand worker) }
+    ensures { HasMoved bus.now worker.entry result }
 {
     let mut sleeper = Sleeper::new(beds, place);
     worker.agenda.wake(false);
-    worker.outcome = events_in_stretch(rt, bus, worker, gate, &mut sleeper);
+    worker.outcome = events_in_stretch(rt, bus, &mut worker, gate, &mut sleeper);
     sleeper.done(rt, !matches!(worker.outcome, Ok(true)));
+    worker
 }
 
-/// All workers at once.
-fn all_work_on<R: Threads + Wait + Sync, G: Gate + Sync>(
-    rt: &R,
-    bus: &Bus,
-    workers: &mut [Worker<'_>],
-    gate: &G,
-    beds: &Beds,
-)
-    requires on { All (λ w. IsOn bus.now (stand w)) workers.old }
-    requires agree { All (λ w. Agrees (stand w)) workers.old }
-    ensures { Each (HasMoved bus.now) workers.old workers.new }
-{
-    thread::for_each_mut(
-        rt,
-        workers,
-        MOST_SYSTEMS,
-        &|place, worker| work_on(rt, bus, worker, gate, beds, place),
-    );
+/// Where workers make a stretch.
+#[derive(Drop)]
+struct Site<'a, R, G> {
+    rt: &'a R,
+    bus: &'a Bus,
+    gate: &'a G,
+    beds: &'a Beds,
+}
+
+impl<'a, 'd, R: Wait, G: Gate> Work<Worker<'d>> for Site<'a, R, G> {
+    ghost use Rattle.grs_workers.specs.Stands.{stand, IsOn, Agrees};
+    ghost use Rattle.grs_workers.specs.Rounds.{HasMoved};
+
+    ghost asks = { λ s w. IsOn s.bus.now (stand w) × Agrees (stand w) };
+
+    ghost gives = { λ s v w. HasMoved s.bus.now v w };
+
+    fn work(&self, place: usize, worker: Worker<'d>) -> Worker<'d> {
+        work_on(self.rt, self.bus, worker, self.gate, self.beds, place)
+    }
+
+    fn want_a_thread(&self) {
+        self.beds.want_a_thread();
+    }
+
+    fn was_left(&self) -> bool {
+        self.beds.was_left()
+    }
 }
 
 /// A stretch, for which it waits: all workers at once, each with as many events as it finds to do, until it is answered Over or Removed,
-/// or gives up, as where there are no threads for all: whether a round is to follow, since each was answered so, or nobody got on. A
-/// worker that would sleep lets other threads run so often as long as some worker has yet to begin. After NoMemory the run is to be
-/// given up.
-pub(crate) fn stretch<R: Threads + Wait + Sync, G: Gate + Sync>(
+/// or gives up, as where there are no threads for all; and whether a round is to follow, since each was answered so, or nobody got on.
+/// After NoMemory the run is to be given up.
+pub(crate) fn stretch<'d, R: Threads + Wait + Sync, G: Gate + Sync>(
     rt: &R,
     alloc: Global,
     bus: &Bus,
-    workers: &mut [Worker<'_>],
+    workers: Vec<Worker<'d>>,
     gate: &G,
-    patience: u64,
-) -> Result<bool, NoMemory>
-    requires on { All (λ w. IsOn bus.now (stand w)) workers.old }
-    requires agree { All (λ w. Agrees (stand w)) workers.old }
-    ensures grew { OnOk result (Each (λ v w. Grew (stand v) (stand w)) workers.old workers.new) }
-    ensures on { OnOk result (All (λ w. IsOn bus.now (stand w)) workers.new) }
-    ensures agree { OnOk result (All (λ w. Agrees (stand w)) workers.new) }
+) -> Result<(Vec<Worker<'d>>, bool), NoMemory>
+    requires on { All (λ w. IsOn bus.now (stand w)) workers.items }
+    requires agree { All (λ w. Agrees (stand w)) workers.items }
+    ensures grew { IfOk result (λ x. Each (λ v w. Grew (stand v) (stand w)) workers.entry.items x.0.items) }
+    ensures count { IfOk result (λ x. length x.0.items ≡ length workers.entry.items) }
+    ensures on { IfOk result (λ x. All (λ w. IsOn bus.now (stand w)) x.0.items) }
+    ensures agree { IfOk result (λ x. All (λ w. Agrees (stand w)) x.0.items) }
 {
-    let beds = Beds::new(alloc, workers.len(), patience)?;
-    all_work_on(rt, bus, workers, gate, &beds);
-    let all = all_out(workers)?;
-    Ok(all || !beds.got_on())
+    let beds = Beds::new(alloc, workers.len())?;
+    let site = Site {
+        rt,
+        bus,
+        gate,
+        beds: &beds,
+    };
+    let moved = at_once(rt, &site, workers);
+    let all = all_out(moved.as_slice())?;
+    Ok((moved, all || !beds.got_on()))
 }

@@ -82,7 +82,7 @@ fn one_run<R: Threads + Wait + Sync>(
     Ok((end, Outcome::of(&gate.systems).is_right()))
 }
 
-/// Whether one of a few is, as a thread that begins late is waited for by looks.
+/// Whether one of a few is.
 fn is_right_once<R: Threads + Wait + Sync>(
     rt: &R,
     alloc: Global,

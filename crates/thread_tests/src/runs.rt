@@ -1,5 +1,5 @@
 //! Decks made from parts, and runs of their systems beside each other; and how a gate waits.
-use crate::sleeps::{End, Sleeps};
+use crate::sleeps::{End, RIGHT, Sleeps};
 use crossbeam_utils::atomic::AtomicCell;
 use grs_base::{List, MOST_SYSTEMS, NoMemory};
 use grs_io::{MemSink, MemSource};
@@ -78,13 +78,13 @@ pub fn ran<R: Threads + Wait + Sync, G: Gate + Sync>(
 }
 
 /// Whether one of a few runs is right, where other work of the machine may keep threads from getting on at the same time. Each ends as
-/// a run does that is right, in which a thread may begin late.
+/// a run does that is right.
 pub fn once<F: Fn() -> Result<(End, bool), NoMemory>>(run: &F) -> Result<bool, NoMemory>
     requires { F.IsAlwaysCallable run.now }
 {
     for _ in 0..TRIES {
         let (end, is_right) = run()?;
-        if !end.is_right_or_late() {
+        if end != RIGHT {
             return Ok(false);
         }
         if is_right {

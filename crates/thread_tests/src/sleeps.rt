@@ -14,28 +14,18 @@ use std::alloc::Global;
 #[derive(Clone, Copy, Debug, PartialEq, Eq)]
 pub struct End {
     pub status: Status,
-    /// How often a worker gave up since some worker had yet to begin.
-    pub late: u64,
-    /// How often, as long as none had, one gave up else, or was called since one did, or since all had come to rest and weren't told so.
+    /// How often a worker gave up, or was called since one did or has no thread, or since all had come to rest and weren't told so.
     pub left: u64,
     /// How many lines tasks were told behind a call of their system's worker since all others slept.
     pub lost: u64,
 }
 
-/// The end of a run that is right, in which no worker falls asleep before all have begun.
+/// The end of a run that is right, in which each worker has a thread.
 pub const RIGHT: End = End {
     status: Status::Done,
-    late: 0,
     left: 0,
     lost: 0,
 };
-
-impl End {
-    /// Whether a run is right in which some worker may begin so late that another gives up.
-    pub fn is_right_or_late(&self) -> bool {
-        self.status == Status::Done && self.left == 0 && self.lost == 0
-    }
-}
 
 /// What a system's tasks are told behind a call of its worker since all others slept. Nobody had anything to do then but commands of
 /// a desk, of which none is left by then in these decks, so no task is told anything any more.
@@ -75,7 +65,6 @@ impl Behind {
 pub struct Sleeps<'g, G> {
     gate: &'g G,
     systems: Vec<Behind>,
-    late: AtomicCell<u64>,
     left: AtomicCell<u64>,
 }
 
@@ -91,7 +80,6 @@ impl<'g, G: Gate> Sleeps<'g, G> {
         Ok(Sleeps {
             gate,
             systems,
-            late: AtomicCell::new(0),
             left: AtomicCell::new(0),
         })
     }
@@ -104,7 +92,6 @@ impl<'g, G: Gate> Sleeps<'g, G> {
         }
         End {
             status,
-            late: self.late.load(),
             left: self.left.load(),
             lost,
         }
@@ -139,11 +126,8 @@ impl<'g, G: Gate> Gate for Sleeps<'g, G> {
         match how {
             Woken::Called => {}
             Woken::Alone => self.was_alone(system),
-            Woken::Late => {
-                self.late.fetch_add(1);
-            }
-            Woken::Left | Woken::Never => {
-                self.left.fetch_add(u64::from(self.late.load() == 0));
+            Woken::Late | Woken::Left | Woken::Never => {
+                self.left.fetch_add(1);
             }
         }
     }

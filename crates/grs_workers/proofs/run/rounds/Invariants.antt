@@ -6,8 +6,8 @@ use Rattle.grs_workers.proofs.run.rounds.Given as goal
 
 abbrev pub invariant-loop : goal.invariant-loop
 invariant-loop g l = record {
-  on : All (λ w. IsOn l.bus (stand w)) l.workers;
-  agree : All (λ w. Agrees (stand w)) l.workers;
-  grew : Each (λ v w. Grew (stand v) (stand w)) l.fn.workers l.workers;
-  count : length l.workers ≡ length l.fn.workers;
+  on : All (λ w. IsOn l.bus (stand w)) l.workers.items;
+  agree : All (λ w. Agrees (stand w)) l.workers.items;
+  grew : Each (λ v w. Grew (stand v) (stand w)) l.fn.workers.items l.workers.items;
+  count : length l.workers.items ≡ length l.fn.workers.items;
 }
