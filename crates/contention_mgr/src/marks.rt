@@ -10,7 +10,7 @@ ghost use Rattle.indexmap.specs.IndexMap.{spare, values};
 ghost use Rattle.grs_base.specs.Same.{same_res, same_task};
 ghost use Rattle.grs_base.specs.declared.resource.Res.{Res as ResValue};
 ghost use Rattle.grs_base.specs.declared.resource.TaskId.{TaskId as TaskValue};
-ghost use Rattle.contention_mgr.specs.Marks.{same_spot, mark_at, mark_in, numbered_from, untold_in, is_told, with_told};
+ghost use Rattle.contention_mgr.specs.Marks.{same_spot, mark_at, mark_in, mark_under, numbered_from, untold_in, is_told, with_told};
 ghost use Rattle.contention_mgr.specs.Removed.{is_wide, is_removed};
 ghost use Rattle.grs_base.specs.State.{is_systems};
 ghost use Rattle.contention_mgr.specs.Untold.{is_to_tell};
@@ -199,11 +199,18 @@ impl Marks {
         }
     }
 
-    /// The mark of a task's element on a resource.
-    pub(crate) fn get(&self, res: &Res, task: TaskId) -> Option<Mark>
-        ensures { result ≡ mark_in self.now.names.entries self.now.marks.entries res.now task }
+    /// The number of a resource, if it has one.
+    pub(crate) fn number_of(&self, res: &Res) -> Option<usize>
+        ensures { result ≡ lookup (same_res res.now) self.now.names.entries }
     {
-        match find_number(&self.names, res) {
+        find_number(&self.names, res)
+    }
+
+    /// The mark of a task's element on the resource of this number, if it has one.
+    pub(crate) fn get(&self, number: Option<usize>, task: TaskId) -> Option<Mark>
+        ensures { result ≡ mark_under (mark_at self.now.marks.entries) number task }
+    {
+        match number {
             Some(number) => find_mark(&self.marks, Spot { number, task }),
             None => None,
         }

@@ -101,9 +101,10 @@ pub(crate) fn least_number(
 pub(crate) fn first_in(marks: &Marks, home: SysId, res: &Res, elems: &[Elem]) -> Option<TaskId>
     ensures { result ≡ first_to_tell home.0 (mark_in marks.now.names.entries marks.now.marks.entries) res.now elems.now }
 {
+    let number = marks.number_of(res);
     let mut rest = elems;
     'elems: while let Some((elem, tail)) = rest.split_first() {
-        if to_tell(home, elem.task, marks.get(res, elem.task)) {
+        if to_tell(home, elem.task, marks.get(number, elem.task)) {
             return Some(elem.task);
         }
         rest = tail;
