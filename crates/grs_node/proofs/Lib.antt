@@ -16,6 +16,7 @@ pub mod RemovalSteps
 pub mod ChangeFits
 pub mod Owed
 pub mod Loading
+pub mod RankParts
 pub mod Settled
 pub mod Decided
 pub mod AskFits

@@ -14,7 +14,7 @@ use Rattle.grs_wire.specs.declared.request.Req.{Req}
 use Rattle.grs_wire.specs.declared.request.Want.{Want}
 use Rattle.grs_wire.specs.declared.request.Want.TheVariants.{Enq, Deq, Release, Look}
 use Rattle.lock_structure.specs.RankedRows.{RankedRow}
-use Rattle.mode_migrate.specs.Migrate.{managed_by_table, part_by, interest_by_table, part_of}
+use Rattle.mode_migrate.specs.Migrate.{managed_by_table, part_by, interest_by_table, part_at}
 use Rattle.grs_node.specs.Star.{StarPart}
 use Rattle.task_state.specs.View.{TasksView, is_task, state_of, with_rank, with_outstanding}
 use Rattle.task_state.specs.declared.state.Asked.{Asked}
@@ -37,25 +37,25 @@ part_by_table entries s t = record {
 }
 
 -- ---- the same by what a system is told of its table: which entries it manages, in which it has interest, and the
--- ranked rows
+-- rows of each entry with their ranks
 
 -- whether an entry is one of these
 abbrev pub is_among : List ℕ → ℕ → Bool
 is_among es e = list_any (λ k. k == e) es
 
 -- what a system keeps of an entry
-abbrev pub entry_by_roles : ℕ → List ℕ → List RankedRow → ℕ → Option Managed
-entry_by_roles entries managed ranked e = cond (is_among managed e) (Some (loaded (part_of entries e ranked))) None
+abbrev pub entry_by_roles : List ℕ → List (List RankedRow) → ℕ → Option Managed
+entry_by_roles managed parts e = cond (is_among managed e) (Some (loaded (part_at parts e))) None
 
 -- a manager that has taken an entry over, if it is to
-abbrev pub with_entry_by : ManagerView → ℕ → List ℕ → List RankedRow → ℕ → ManagerView
-with_entry_by m entries managed ranked e =
-    cond (is_among managed e) (with_entry m (Some e) (Some (loaded (part_of entries e ranked)))) m
+abbrev pub with_entry_by : ManagerView → List ℕ → List (List RankedRow) → ℕ → ManagerView
+with_entry_by m managed parts e =
+    cond (is_among managed e) (with_entry m (Some e) (Some (loaded (part_at parts e)))) m
 
 -- the part of a system
-abbrev pub part_by_roles : ℕ → SysId → List ℕ → List ℕ → List RankedRow → StarPart
-part_by_roles entries s managed interest ranked = record {
-  manager = record { system = s; entries = map (entry_by_roles entries managed ranked) (range_with_len 0 entries) };
+abbrev pub part_by_roles : ℕ → SysId → List ℕ → List ℕ → List (List RankedRow) → StarPart
+part_by_roles entries s managed interest parts = record {
+  manager = record { system = s; entries = map (entry_by_roles managed parts) (range_with_len 0 entries) };
   gathers = replicate entries None;
   owes = replicate entries None;
   held = [];

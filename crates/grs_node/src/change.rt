@@ -1,6 +1,6 @@
 //! A system's change to star mode, by its table of the Systems resources.
 ghost use Rattle.std.specs.Prelude.{◌≡◌, ◌≢◌, ◌<◌, [], true, false, is_some, map, length, List, IfOk, OnOk};
-ghost use Rattle.std.specs.List.{range_with_len};
+ghost use Rattle.std.specs.List.{flat_map, range_with_len};
 ghost use Rattle.std.specs.Option.{option_map};
 ghost use Rattle.contention_mgr.specs.Manager.{managed_at};
 ghost use Rattle.grs_base.specs.Limits.{most_commands};
@@ -18,7 +18,7 @@ use super::state::NodeState;
 use contention_mgr::Manager;
 use grs_base::{Elem, List, NoMemory, Res, Row, SysId, TaskId};
 use grs_wire::{Deck, Req, Said, Want};
-use mode_migrate::{Roles, part_of, roles_of};
+use mode_migrate::{Roles, roles_of};
 use star_client::Owes;
 use std::alloc::Global;
 use std::collections::VecDeque;
@@ -32,9 +32,8 @@ fn is_among(entries: &List<u32>, entry: u32) -> bool
     entries.as_slice().iter().any(|other| *other == entry)
 }
 
-/// The manager takes an entry over, if it is to, with the entry's part of these rows.
+/// The manager takes an entry over, if it is to, with the entry's part.
 fn load_if_managed(
-    alloc: Global,
     manager: &mut Manager,
     entry: u32,
     entries: u32,
@@ -43,12 +42,12 @@ fn load_if_managed(
     requires count { length manager.old.entries ≡ entries }
     requires below { entry < entries }
     requires free { is_some (managed_at manager.old entry) ≡ false }
-    requires rows { AreLoadable entries roles.now.ranked }
-    ensures { OnOk result (manager.new ≡ change.with_entry_by manager.old entries roles.now.managed roles.now.ranked entry) }
+    requires parts { length roles.now.parts ≡ entries }
+    requires rows { AreLoadable entries roles.now.parts }
+    ensures { OnOk result (manager.new ≡ change.with_entry_by manager.old roles.now.managed roles.now.parts entry) }
 {
     if is_among(&roles.managed, entry) {
-        let part = part_of(alloc, roles.ranked.as_slice(), entries, entry)?;
-        manager.load(entry, &part)
+        manager.load(entry, roles.part(entry))
     } else {
         Ok(())
     }
@@ -62,12 +61,13 @@ fn manager_by(
     roles: &Roles,
 ) -> Result<Manager, NoMemory>
     requires entries { entries ≢ 0 }
-    requires rows { AreLoadable entries roles.now.ranked }
-    ensures { IfOk result (λ manager. manager ≡ record { system = system; entries = map (change.entry_by_roles entries roles.now.managed roles.now.ranked) (range_with_len 0 entries) }) }
+    requires parts { length roles.now.parts ≡ entries }
+    requires rows { AreLoadable entries roles.now.parts }
+    ensures { IfOk result (λ manager. manager ≡ record { system = system; entries = map (change.entry_by_roles roles.now.managed roles.now.parts) (range_with_len 0 entries) }) }
 {
     let mut manager = Manager::new(alloc, system, entries)?;
     for entry in 0..entries {
-        load_if_managed(alloc, &mut manager, entry, entries, roles)?;
+        load_if_managed(&mut manager, entry, entries, roles)?;
     }
     Ok(manager)
 }
@@ -95,8 +95,9 @@ impl StarPart {
         roles: &Roles,
     ) -> Result<StarPart, NoMemory>
         requires entries { entries ≢ 0 }
-        requires rows { AreLoadable entries roles.now.ranked }
-        ensures { IfOk result (λ part. part ≡ change.part_by_roles entries system roles.now.managed roles.now.interest roles.now.ranked) }
+        requires parts { length roles.now.parts ≡ entries }
+        requires rows { AreLoadable entries roles.now.parts }
+        ensures { IfOk result (λ part. part ≡ change.part_by_roles entries system roles.now.managed roles.now.interest roles.now.parts) }
     {
         Ok(StarPart {
             manager: manager_by(alloc, system, entries, roles)?,
@@ -138,7 +139,7 @@ fn rank_list(tasks: &mut Tasks, res: &Res, elems: &[Elem], ranks: &[u64])
     }
 }
 
-/// The same of the lists of all resources.
+/// The same of the lists of several resources.
 fn rank_all(tasks: &mut Tasks, ranked: &[(Row, List<u64>)])
     ensures step { tasks.new ≡ change.with_ranks tasks.old ranked.now }
     ensures system { tasks.new.system ≡ tasks.old.system }
@@ -147,6 +148,20 @@ fn rank_all(tasks: &mut Tasks, ranked: &[(Row, List<u64>)])
     let mut rest = ranked;
     while let Some((row, tail)) = rest.split_first() {
         rank_list(tasks, &row.0.res, row.0.elems.as_slice(), row.1.as_slice());
+        rest = tail;
+    }
+}
+
+/// The same of the parts of all lock entries.
+#[tactic(auto, using(crate::proofs::RankParts::rank_parts))]
+fn rank_parts(tasks: &mut Tasks, parts: &[List<(Row, List<u64>)>])
+    ensures step { tasks.new ≡ change.with_ranks tasks.old (flat_map (λ part. part) parts.now) }
+    ensures system { tasks.new.system ≡ tasks.old.system }
+    ensures count { length tasks.new.tasks ≡ length tasks.old.tasks }
+{
+    let mut rest = parts;
+    while let Some((part, tail)) = rest.split_first() {
+        rank_all(tasks, part.as_slice());
         rest = tail;
     }
 }
@@ -240,21 +255,21 @@ fn take_first_looks(tasks: &mut Tasks, reqs: &[Req]) -> Result<(), NoMemory>
 }
 
 impl NodeState {
-    /// The system's part in star mode by its table, and the rows of all lock entries with the ranks of their elements.
+    /// The system's part in star mode by its table, and of each lock entry the rows with the ranks of their elements.
     fn ranked_part(
         &self,
         alloc: Global,
         entries: u32,
-    ) -> Result<(StarPart, List<(Row, List<u64>)>), NoMemory>
+    ) -> Result<(StarPart, List<List<(Row, List<u64>)>>), NoMemory>
         requires entries { entries ≢ 0 }
         requires apart { AreApart self.now.shared }
         ensures part { IfOk result (λ made. made.0 ≡ change.part_by_table entries (record { 0 = self.now.tasks.system }) self.now.shared) }
-        ensures ranked { IfOk result (λ made. made.1 ≡ ranked_by entries self.now.shared) }
+        ensures ranked { IfOk result (λ made. flat_map (λ part. part) made.1 ≡ ranked_by entries self.now.shared) }
     {
         let system = self.tasks.system();
         let roles = roles_of(alloc, &self.shared, entries, system)?;
         let part = StarPart::by_roles(alloc, system, entries, &roles)?;
-        Ok((part, roles.ranked))
+        Ok((part, roles.parts))
     }
 
     /// The requests of the outbox stay with their tasks, which wait to send them: of looks at several slices the first.
@@ -274,9 +289,9 @@ impl NodeState {
         ensures step { OnOk result (self.new ≡ steps.change_to_star deck.now self.old) }
         ensures system { self.new.tasks.system ≡ self.old.tasks.system }
     {
-        let (part, ranked) = self.ranked_part(alloc, deck.entries)?;
+        let (part, parts) = self.ranked_part(alloc, deck.entries)?;
         self.empty_outbox(alloc)?;
-        rank_all(&mut self.tasks, ranked.as_slice());
+        rank_parts(&mut self.tasks, parts.as_slice());
         self.let_table_go(alloc, Some(part));
         Ok(())
     }

@@ -3,7 +3,7 @@ use Rattle.std.proofs.Common.{◌≡◌, ◌≢◌, ◌≤◌, ◌<◌, ◌+◌,
 use Rattle.std.proofs.Common.{◌++◌, map, length, Option, Some, None, refl, ap, sym, ◌∙◌, arith, append_assoc}
 use Rattle.std.proofs.Common.{append-nil}
 use Rattle.std.specs.Prelude.{filter, ◌==◌, slice_set}
-use Rattle.std.specs.List.{range_with_len, flat_map, list_any}
+use Rattle.std.specs.List.{range_with_len, list_any}
 use Rattle.std.proofs.lemmas.Bool.{eq-eqb, eqb-true}
 use Rattle.std.proofs.lemmas.List.{length-set}
 use Rattle.std.proofs.lemmas.List.Elements.{filter-append}
@@ -166,21 +166,18 @@ map-each : {X Y : Type 0} (h : X → Y) (f : ℕ → X) (g : ℕ → Y) (ks : Li
 map-each h f g [] same = refl
 map-each h f g (k ∷ ks) same = ap (λ y. y ∷ map h (map f ks)) (same k) ∙ ap (λ ys. g k ∷ ys) (map-each h f g ks same)
 
-flat_map-each : {X Y : Type 0} (h : X → List Y) (f : ℕ → X) (ks : List ℕ)
-    → flat_map h (map f ks) ≡ flat_map (λ e. h (f e)) ks
-flat_map-each h f [] = refl
-flat_map-each h f (k ∷ ks) = ap (λ ys. h (f k) ++ ys) (flat_map-each h f ks)
-
 pub words-in : (entries : ℕ) (rows : List Row)
     → map word_of (groups_of entries rows) ≡ map (λ e. word_by entries e rows) (range_with_len 0 entries)
 words-in entries rows =
     map-each word_of (λ e. rows_in entries e rows) (λ e. word_by entries e rows) (range_with_len 0 entries)
     (λ e. word-in entries e rows)
 
-pub ranked-in : (entries : ℕ) (rows : List Row)
-    → flat_map (numbered_from 1) (groups_of entries rows)
-    ≡ flat_map (λ e. numbered_in entries e rows) (range_with_len 0 entries)
-ranked-in entries rows = flat_map-each (numbered_from 1) (λ e. rows_in entries e rows) (range_with_len 0 entries)
+pub parts-in : (entries : ℕ) (rows : List Row)
+    → map (numbered_from 1) (groups_of entries rows)
+    ≡ map (λ e. numbered_in entries e rows) (range_with_len 0 entries)
+parts-in entries rows =
+    map-each (numbered_from 1) (λ e. rows_in entries e rows) (λ e. numbered_in entries e rows)
+    (range_with_len 0 entries) (λ e. refl)
 
 pub managed-in : (entries : ℕ) (s : SysId) (rows : List Row)
     → filter (λ e. is_manager (manager_of (group_at (groups_of entries rows) e)) s) (range_with_len 0 entries)
@@ -201,4 +198,4 @@ interested-in entries s rows =
     ap (λ (xs : List Row). is_among xs s) (group-here entries e rows (omega (arith, below)))
     ∙ among-in entries e rows s)
 
-pub ruleset roles = (length-groups_of, ranked-in)
+pub ruleset roles = (length-groups_of, parts-in)

@@ -11,7 +11,8 @@ use Rattle.std.specs.FinMap.Entries.{by_order, below_all, is_sorted-put}
 use Rattle.std.proofs.lemmas.Bool.{and_parts, eqb-true}
 use Rattle.std.proofs.lemmas.Bool.Decides.{nat_tests}
 use Rattle.std.proofs.lemmas.List.Elements.{filter-append}
-use Rattle.std.proofs.lemmas.List.FromFn.{length-range_with_len}
+use Rattle.std.proofs.lemmas.List.{get_or_past}
+use Rattle.std.proofs.lemmas.List.FromFn.{get_or-map-range_with_len, length-map-range_with_len, length-range_with_len}
 use Rattle.grs_base.specs.Limits.{last_number}
 use Rattle.grs_base.specs.Lists.{is_apart}
 use Rattle.grs_base.specs.ResOrder.{res_order}
@@ -25,7 +26,7 @@ use Rattle.grs_base.proofs.OrderLaws.{res_total, same_res-tie}
 use Rattle.lock_structure.specs.Entries.{entry_of_res, is_entry}
 use Rattle.lock_structure.specs.RankedRows.{RankedRow, ranks_of, rises, differ, rows_apart, IsLoadable}
 use Rattle.mode_migrate.specs.Migrate.{row_is_of, rows_in, numbered_from, numbered_in, ranked_by, part_of, part_by}
-use Rattle.mode_migrate.specs.Migrate.{AreApart}
+use Rattle.mode_migrate.specs.Migrate.{parts_by, part_at, has_small_ranks, AreApart, AreLoadable}
 
 abbrev Lists : Type 0
 Lists = List (Res × List Elem)
@@ -267,14 +268,6 @@ module _ (entries e : ℕ) (rows : List Row) where
       (part-other entries e a rows (λ is. absurd (omega (arith, h, is))))
       ∙ part-above (a + 1) n (omega (arith, h))
 
-  part-below : (a n : ℕ) → a + n ≤ e → part_of entries e (all_from a n) ≡ []
-  part-below a zero h = refl
-  part-below a (suc n) h =
-      filter-append (λ (x : RankedRow). row_is_of entries e x.0) (numbered_in entries a rows) (all_from (a + 1) n)
-      ∙ ap (λ (l : List RankedRow). l ++ part_of entries e (all_from (a + 1) n))
-      (part-other entries e a rows (λ is. absurd (omega (arith, h, is))))
-      ∙ part-below (a + 1) n (omega (arith, h))
-
   append-none : (xs : List RankedRow) → xs ++ [] ≡ xs
   append-none [] = refl
   append-none (x ∷ xs) = ap (λ (l : List RankedRow). x ∷ l) (append-none xs)
@@ -306,30 +299,7 @@ pub parts_are_numbered : (entries e : ℕ) (t : State) → e < entries
     → part_of entries e (ranked_by entries t) ≡ part_by entries t e
 parts_are_numbered entries e t h = part-within entries e (rows_of t) 0 entries (omega arith) (omega (arith, h))
 
-parts-past : (entries e : ℕ) (t : State) → entries ≤ e → part_of entries e (ranked_by entries t) ≡ []
-parts-past entries e t h = part-below entries e (rows_of t) 0 entries (omega (arith, h))
-
 -- ---- it may be loaded
-
-ranks-filter : (test : RankedRow → Bool) (p : ℕ → Bool) (xs : List RankedRow) → list_all p (ranks_of xs) ≡ true
-    → list_all p (ranks_of (filter test xs)) ≡ true
-ranks-filter test p [] h = refl
-ranks-filter test p (x ∷ xs) h = go (test x) (ranks-filter test p xs (parts x.1 h).1)
-  where
-    parts : (ns : List ℕ) → list_all p (ns ++ ranks_of xs) ≡ true
-        → (list_all p ns ≡ true) × (list_all p (ranks_of xs) ≡ true)
-    parts [] k = (refl, k)
-    parts (n ∷ ns) k =
-        let rest = parts ns (and_parts (p n) _ k).1 in (both (p n) _ (and_parts (p n) _ k).0 rest.0, rest.1)
-
-    joined : (ns ms : List ℕ) → list_all p ns ≡ true → list_all p ms ≡ true → list_all p (ns ++ ms) ≡ true
-    joined [] ms k l = l
-    joined (n ∷ ns) ms k l = both (p n) _ (and_parts (p n) _ k).0 (joined ns ms (and_parts (p n) _ k).1 l)
-
-    go : (b : Bool) → list_all p (ranks_of (filter test xs)) ≡ true
-        → list_all p (ranks_of (cond b (x ∷ filter test xs) (filter test xs))) ≡ true
-    go true rest = joined x.1 (ranks_of (filter test xs)) (parts x.1 h).0 rest
-    go false rest = rest
 
 loadable-numbered : (entries e : ℕ) (t : State) → AreApart t
     → list_all (λ n. nat_le n last_number) (ranks_of (part_by entries t e)) ≡ true
@@ -359,19 +329,43 @@ loadable-none entries e = record {
   small = refl;
 }
 
+-- ---- the parts of all entries
+
+pub length-parts_by : (entries : ℕ) (t : State) → length (parts_by entries t) ≡ entries
+length-parts_by entries t = length-map-range_with_len (part_by entries t) 0 entries
+
+pub part-there : (entries e : ℕ) (t : State) → e < entries → part_at (parts_by entries t) e ≡ part_by entries t e
+part-there entries e t h = get_or-map-range_with_len (part_by entries t) 0 entries e e [] h (omega arith)
+
+part-past : (entries e : ℕ) (t : State) → entries ≤ e → part_at (parts_by entries t) e ≡ []
+part-past entries e t h =
+    get_or_past (parts_by entries t) e [] (omega (arith, h, length-parts_by entries t))
+
+joined-map : (f : ℕ → List RankedRow) (ks : List ℕ) → flat_map (λ part. part) (map f ks) ≡ flat_map f ks
+joined-map f [] = refl
+joined-map f (k ∷ ks) = ap (λ (xs : List RankedRow). f k ++ xs) (joined-map f ks)
+
+-- together they are the ranked rows
+pub parts-joined : (entries : ℕ) (t : State) → flat_map (λ part. part) (parts_by entries t) ≡ ranked_by entries t
+parts-joined entries t = joined-map (part_by entries t) (range_with_len 0 entries)
+
+small-at : (parts : List (List RankedRow)) (e : ℕ) → list_all has_small_ranks parts ≡ true
+    → has_small_ranks (part_at parts e) ≡ true
+small-at [] e h = refl
+small-at (part ∷ parts) zero h = (and_parts (has_small_ranks part) _ h).0
+small-at (part ∷ parts) (suc e) h = small-at parts e (and_parts (has_small_ranks part) _ h).1
+
 pub parts_are_loadable : (entries : ℕ) (t : State) → AreApart t
-    → list_all (λ n. nat_le n last_number) (ranks_of (ranked_by entries t)) ≡ true → (e : ℕ)
-    → IsLoadable entries e (part_of entries e (ranked_by entries t))
+    → list_all has_small_ranks (parts_by entries t) ≡ true → AreLoadable entries (parts_by entries t)
 parts_are_loadable entries t apart small e = go (nat_lt e entries) refl
   where
-    go : (b : Bool) → nat_lt e entries ≡ b → IsLoadable entries e (part_of entries e (ranked_by entries t))
+    go : (b : Bool) → nat_lt e entries ≡ b → IsLoadable entries e (part_at (parts_by entries t) e)
     go true is =
-        let numbered : part_of entries e (ranked_by entries t) ≡ part_by entries t e =
-        parts_are_numbered entries e t (grind (arith, nat_tests, is)) in
-        subst (IsLoadable entries e) (sym numbered)
-        (loadable-numbered entries e t apart (subst
-        (λ (xs : List RankedRow). list_all (λ n. nat_le n last_number) (ranks_of xs) ≡ true) numbered
-        (ranks-filter (λ x. row_is_of entries e x.0) (λ n. nat_le n last_number) (ranked_by entries t) small)))
+        let there : part_at (parts_by entries t) e ≡ part_by entries t e =
+        part-there entries e t (grind (arith, nat_tests, is)) in
+        subst (IsLoadable entries e) (sym there)
+        (loadable-numbered entries e t apart (subst (λ (xs : List RankedRow). has_small_ranks xs ≡ true) there
+        (small-at (parts_by entries t) e small)))
     go false is =
-        subst (IsLoadable entries e) (sym (parts-past entries e t (grind (arith, nat_tests, is))))
+        subst (IsLoadable entries e) (sym (part-past entries e t (grind (arith, nat_tests, is))))
         (loadable-none entries e)

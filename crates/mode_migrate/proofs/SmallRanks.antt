@@ -7,6 +7,7 @@ use Rattle.std.proofs.lemmas.Bool.Decides.{nat_tests}
 use Rattle.std.proofs.lemmas.List.Folds.{list_all-append}
 use Rattle.grs_base.specs.Limits.{last_number}
 use Rattle.lock_structure.specs.RankedRows.{RankedRow, ranks_of}
+use Rattle.mode_migrate.specs.Migrate.{has_small_ranks}
 
 -- ranks of rows, one behind the other
 pub ranks-append : (xs ys : List RankedRow) → ranks_of (xs ++ ys) ≡ ranks_of xs ++ ranks_of ys
@@ -39,3 +40,13 @@ ranks-small xs x all one =
     ∙ both _ _ all one
 
 pub ruleset small_ranks = (numbers-small, ranks-small)
+
+-- one part more
+pub parts-small : (parts : List (List RankedRow)) (part : List RankedRow) → list_all has_small_ranks parts ≡ true
+    → has_small_ranks part ≡ true → list_all has_small_ranks (parts ++ part ∷ []) ≡ true
+parts-small parts part all one =
+    list_all-append has_small_ranks parts (part ∷ [])
+    ∙ both (list_all has_small_ranks parts) (list_all has_small_ranks (part ∷ [])) all
+    (both (has_small_ranks part) true one refl)
+
+pub ruleset small_parts = (parts-small)

@@ -1,17 +1,16 @@
 -- Laws of the words and the parts to which a table leads.
-use Rattle.std.specs.Prelude.{◌≡◌, ◌<◌, ℕ, Bool, true, false, nat_le, nat_lt, List, length, Some, None}
+use Rattle.std.specs.Prelude.{◌≡◌, ◌<◌, ℕ, Bool, true, false, nat_lt, List, length, Some, None}
 use Rattle.std.specs.List.{list_all}
-use Rattle.grs_base.specs.Limits.{last_number, most_systems}
+use Rattle.grs_base.specs.Limits.{most_systems}
 use Rattle.grs_base.specs.Rows.{rows_of}
 use Rattle.grs_base.specs.State.{State}
 use Rattle.grs_base.specs.declared.resource.Row.{Row}
 use Rattle.grs_base.specs.declared.resource.SysId.{SysId}
 use Rattle.grs_wire.specs.LockWords.{interest, manager}
 use Rattle.lock_structure.specs.Laws.{is_interested}
-use Rattle.lock_structure.specs.RankedRows.{ranks_of}
 use Rattle.lock_structure.specs.Words.{word_fits}
 use Rattle.mode_migrate.specs.Migrate.{has_elements, interest_by, manager_by, word_by, table_words, ranked_by, part_of}
-use Rattle.mode_migrate.specs.Migrate.{part_by, AreApart, AreLoadable}
+use Rattle.mode_migrate.specs.Migrate.{part_by, parts_by, has_small_ranks, AreApart, AreLoadable}
 
 -- whether all elements of a table are of systems below n
 abbrev pub are_within : ℕ → State → Bool
@@ -54,6 +53,5 @@ PartsAreNumbered =
 -- Its manager may keep it, where no task stands twice in a list and ranks are small.
 abbrev pub PartsAreLoadable : Type 0
 PartsAreLoadable =
-    (entries : ℕ) (t : State) → AreApart t
-    → list_all (λ n. nat_le n last_number) (ranks_of (ranked_by entries t)) ≡ true
-    → AreLoadable entries (ranked_by entries t)
+    (entries : ℕ) (t : State) → AreApart t → list_all has_small_ranks (parts_by entries t) ≡ true
+    → AreLoadable entries (parts_by entries t)

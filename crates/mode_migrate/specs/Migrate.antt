@@ -1,9 +1,9 @@
 -- What a table of resources leads to where the complex changes to star mode: the lock words, and for each system the
 -- entries that it manages and has interest in. It is read off the lists that aren't empty, resources in name order.
-use Rattle.std.specs.Prelude.{◌≡◌, ℕ, zero, suc, ◌+◌, Bool, true, ◌&&◌, ◌==◌, cond, List, [], ◌∷◌, length, map, filter}
-use Rattle.std.specs.Prelude.{Option, Some, None}
-use Rattle.std.specs.List.{range_with_len, list_any, flat_map}
-use Rattle.grs_base.specs.Limits.{most_systems}
+use Rattle.std.specs.Prelude.{◌≡◌, ℕ, zero, suc, ◌+◌, Bool, true, ◌&&◌, ◌==◌, cond, nat_le, List, [], ◌∷◌, length, map}
+use Rattle.std.specs.Prelude.{filter, get_or, Option, Some, None}
+use Rattle.std.specs.List.{range_with_len, list_all, list_any, flat_map}
+use Rattle.grs_base.specs.Limits.{last_number, most_systems}
 use Rattle.grs_base.specs.Rows.{rows_of}
 use Rattle.grs_base.specs.Lists.{is_apart}
 use Rattle.grs_base.specs.State.{State, list_of}
@@ -14,7 +14,7 @@ use Rattle.grs_base.specs.declared.resource.SysId.{SysId}
 use Rattle.grs_wire.specs.LockWords.{lock_word, is_manager}
 use Rattle.grs_wire.specs.Masks.{with_also}
 use Rattle.lock_structure.specs.Least.{least_below}
-use Rattle.lock_structure.specs.RankedRows.{RankedRow, IsLoadable}
+use Rattle.lock_structure.specs.RankedRows.{RankedRow, ranks_of, IsLoadable}
 use Rattle.lock_structure.specs.Entries.{is_entry, entry_of_res}
 
 -- ---- who has elements on resources of a lock entry
@@ -86,11 +86,18 @@ managed_by_table entries s t e = is_manager (manager_by entries e (rows_of t)) s
 abbrev pub part_by : ℕ → State → ℕ → List RankedRow
 part_by entries t e = numbered_in entries e (rows_of t)
 
+-- the rows of each entry with their ranks, and those of one entry among them
+abbrev pub parts_by : ℕ → State → List (List RankedRow)
+parts_by entries t = map (part_by entries t) (range_with_len 0 entries)
+
+abbrev pub part_at : List (List RankedRow) → ℕ → List RankedRow
+part_at parts e = get_or parts e []
+
 -- whether a system has interest in an entry by a table
 abbrev pub interest_by_table : ℕ → SysId → State → ℕ → Bool
 interest_by_table entries s t e = has_elements entries e (rows_of t) s.0
 
--- the part of ranked rows that a manager loads for an entry
+-- those of one entry among the ranked rows of all
 abbrev pub part_of : ℕ → ℕ → List RankedRow → List RankedRow
 part_of entries e xs = filter (λ x. row_is_of entries e x.0) xs
 
@@ -100,6 +107,10 @@ part_of entries e xs = filter (λ x. row_is_of entries e x.0) xs
 abbrev pub AreApart : State → Type 0
 AreApart t = (r : Res) → is_apart (list_of t r) ≡ true
 
--- Each entry's part of ranked rows is one that its manager may keep.
-abbrev pub AreLoadable : ℕ → List RankedRow → Type 0
-AreLoadable entries xs = (e : ℕ) → IsLoadable entries e (part_of entries e xs)
+-- whether the ranks of rows are small
+abbrev pub has_small_ranks : List RankedRow → Bool
+has_small_ranks xs = list_all (λ n. nat_le n last_number) (ranks_of xs)
+
+-- Each entry's part is one that its manager may keep.
+abbrev pub AreLoadable : ℕ → List (List RankedRow) → Type 0
+AreLoadable entries parts = (e : ℕ) → IsLoadable entries e (part_at parts e)

@@ -1,7 +1,6 @@
 //! The rows of a table by their lock entries, so that what is asked of an entry costs by its own rows.
 ghost use Rattle.std.specs.Prelude.{◌≡◌, ◌≢◌, ◌<◌, [], length, IfOk, IfSome, OnOk};
 ghost use Rattle.lock_structure.specs.Entries.{entry_of_res};
-ghost use Rattle.mode_migrate.specs.Migrate.{row_is_of};
 ghost use Rattle.mode_migrate.specs.Groups.{groups_of, group_at, with_row};
 
 use grs_base::{List, NoMemory, Res, Row, entry_of, slice_of};
@@ -16,17 +15,6 @@ fn entry_of_row(row: &Row, entries: u32) -> Option<u32>
     match &row.res {
         Res::Systems { q, r } => Some(entry_of(slice_of(q, r), entries)),
         _ => None,
-    }
-}
-
-/// Whether a row is of a resource of a lock entry.
-pub(crate) fn is_of(row: &Row, entries: u32, entry: u32) -> bool
-    requires { entries ≢ 0 }
-    ensures { result ≡ row_is_of entries entry row.now }
-{
-    match entry_of_row(row, entries) {
-        Some(own) => own == entry,
-        None => false,
     }
 }
 

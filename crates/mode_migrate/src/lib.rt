@@ -9,5 +9,5 @@ pub mod laws;
 mod roles;
 mod words;
 
-pub use roles::{Roles, part_of, roles_of};
+pub use roles::{Roles, roles_of};
 pub use words::words_of;

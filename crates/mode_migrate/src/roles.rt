@@ -1,13 +1,13 @@
 //! What a system comes to by a table: the entries that it manages and has interest in, and the ranks of all elements.
-ghost use Rattle.std.specs.Prelude.{◌≡◌, ◌≢◌, ◌≤◌, ◌+◌, ◌++◌, ◌∷◌, [], true, cond, filter, length, nat_le, IfOk, OnOk};
-ghost use Rattle.std.specs.List.{range_with_len, flat_map, list_all};
+ghost use Rattle.std.specs.Prelude.{◌≡◌, ◌≢◌, ◌<◌, ◌≤◌, ◌+◌, ◌++◌, ◌∷◌, [], true, cond, filter, length, map, nat_le, IfOk, OnOk};
+ghost use Rattle.std.specs.List.{range_with_len, list_all};
 ghost use Rattle.grs_base.specs.Limits.{last_number};
 ghost use Rattle.grs_wire.specs.LockWords.{is_manager};
 ghost use Rattle.lock_structure.specs.RankedRows.{ranks_of};
-ghost use Rattle.mode_migrate.specs.Migrate.{managed_by, interested_by, numbered_from, ranked_by, part_of};
+ghost use Rattle.mode_migrate.specs.Migrate.{managed_by, interested_by, numbered_from, parts_by, part_at, has_small_ranks};
 ghost use Rattle.mode_migrate.specs.Groups.{group_at, is_among, manager_of};
 
-use crate::groups::{group, grouped, is_of};
+use crate::groups::{group, grouped};
 use crate::words::{is_among, manager};
 use grs_base::{LAST_NUMBER, List, NoMemory, Queues, Row, SysId};
 use queue_table::Table;
@@ -20,9 +20,8 @@ pub struct Roles {
     pub managed: List<u32>,
     /// The lock entries in which it has interest.
     pub interest: List<u32>,
-    /// The lists of all resources that have a lock entry, entry by entry and there by name, with the ranks of their
-    /// elements.
-    pub ranked: List<(Row, List<u64>)>,
+    /// Of each lock entry the lists of its resources, by name, with the ranks of their elements.
+    pub parts: List<List<(Row, List<u64>)>>,
 }
 
 /// So many numbers, from this one on.
@@ -63,33 +62,33 @@ fn add_row(
     Ok(next + count as u64)
 }
 
-/// Puts the rows of a lock entry with their ranks behind others.
-fn add_entry(
-    alloc: Global,
-    ranked: &mut List<(Row, List<u64>)>,
-    rows: List<Row>,
-) -> Result<(), NoMemory>
-    requires small { list_all (λ n. nat_le n last_number) (ranks_of ranked.old) ≡ true }
-    ensures rows { OnOk result (ranked.new ≡ ranked.old ++ numbered_from 1 rows) }
-    ensures small { OnOk result (list_all (λ n. nat_le n last_number) (ranks_of ranked.new) ≡ true) }
+/// The rows of a lock entry with the ranks of their elements.
+fn numbered(alloc: Global, rows: List<Row>) -> Result<List<(Row, List<u64>)>, NoMemory>
+    ensures rows { IfOk result (λ part. part ≡ numbered_from 1 rows) }
+    ensures small { IfOk result (λ part. has_small_ranks part ≡ true) }
 {
+    let mut part = List::with_room(alloc, rows.len())?;
     let mut next = 1;
     for row in rows.into_vec() {
-        next = add_row(alloc, ranked, row, next)?;
+        next = add_row(alloc, &mut part, row, next)?;
     }
-    Ok(())
+    Ok(part)
 }
 
-/// The rows of all lock entries with their ranks.
-fn ranked_rows(alloc: Global, groups: Vec<List<Row>>) -> Result<List<(Row, List<u64>)>, NoMemory>
-    ensures rows { IfOk result (λ ranked. ranked ≡ flat_map (numbered_from 1) groups.items) }
-    ensures small { IfOk result (λ ranked. list_all (λ n. nat_le n last_number) (ranks_of ranked) ≡ true) }
+/// The same of all lock entries.
+#[tactic(auto, using(crate::proofs::SmallRanks::small_parts))]
+fn all_numbered(
+    alloc: Global,
+    groups: Vec<List<Row>>,
+) -> Result<List<List<(Row, List<u64>)>>, NoMemory>
+    ensures parts { IfOk result (λ parts. parts ≡ map (numbered_from 1) groups.items) }
+    ensures small { IfOk result (λ parts. list_all has_small_ranks parts ≡ true) }
 {
-    let mut ranked = List::new(alloc);
+    let mut parts = List::with_room(alloc, groups.len())?;
     for rows in groups {
-        add_entry(alloc, &mut ranked, rows)?;
+        parts.push(numbered(alloc, rows)?)?;
     }
-    Ok(ranked)
+    Ok(parts)
 }
 
 /// Whether a system manages a lock entry with these rows.
@@ -159,35 +158,26 @@ pub fn roles_of<Q: Queues>(
     requires { entries ≢ 0 }
     ensures managed { IfOk result (λ roles. roles.managed ≡ managed_by entries system table.now.elements) }
     ensures interest { IfOk result (λ roles. roles.interest ≡ interested_by entries system table.now.elements) }
-    ensures ranked { IfOk result (λ roles. roles.ranked ≡ ranked_by entries table.now.elements) }
-    ensures small { IfOk result (λ roles. list_all (λ n. nat_le n last_number) (ranks_of roles.ranked) ≡ true) }
+    ensures parts { IfOk result (λ roles. roles.parts ≡ parts_by entries table.now.elements) }
+    ensures small { IfOk result (λ roles. list_all has_small_ranks roles.parts ≡ true) }
 {
     let groups = grouped(alloc, table.rows(alloc)?, entries)?;
     let managed = managed_entries(alloc, &groups, entries, system)?;
     let interest = interesting_entries(alloc, &groups, entries, system)?;
-    let ranked = ranked_rows(alloc, groups)?;
+    let parts = all_numbered(alloc, groups)?;
     Ok(Roles {
         managed,
         interest,
-        ranked,
+        parts,
     })
 }
 
-/// The rows of a lock entry, among those of all entries, with their ranks: what its manager keeps of it from then on.
-pub fn part_of(
-    alloc: Global,
-    ranked: &[(Row, List<u64>)],
-    entries: u32,
-    entry: u32,
-) -> Result<List<(Row, List<u64>)>, NoMemory>
-    requires { entries ≢ 0 }
-    ensures { IfOk result (λ part. part ≡ part_of entries entry ranked.now) }
-{
-    let mut part = List::new(alloc);
-    for row in ranked {
-        if is_of(&row.0, entries, entry) {
-            part.push((row.0.copy(alloc)?, row.1.copy(alloc)?))?;
-        }
+impl Roles {
+    /// The rows of a lock entry with their ranks: what its manager keeps of it from then on.
+    pub fn part(&self, entry: u32) -> &List<(Row, List<u64>)>
+        requires { entry < length self.now.parts }
+        ensures { result.now ≡ part_at self.now.parts entry }
+    {
+        &self.parts.as_slice()[entry as usize]
     }
-    Ok(part)
 }
