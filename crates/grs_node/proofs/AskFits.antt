@@ -26,6 +26,7 @@ use Rattle.grs_base.specs.declared.resource.TaskId.{TaskId}
 use Rattle.grs_node.specs.Addressed.{is_act_addressed, is_addressed, is_within, PartFits, AnyPartFits}
 use Rattle.grs_node.specs.Addressed.{NodeFits, is_owed_within}
 use Rattle.grs_node.specs.Names.{names_of}
+use Rattle.grs_node.specs.Room.{told_next}
 use Rattle.grs_node.specs.Node.{NodeState, purge_call, prepare, star_call}
 use Rattle.grs_node.specs.Node.{prepared_by, star_need, turn_call, may_go, may_send, is_pending}
 use Rattle.grs_node.specs.Node.{next_order}
@@ -291,3 +292,16 @@ prepare-addressed deck n choices.Switch fits = switch-fits deck n (next_order de
 prepare-addressed deck n (choices.Purge s) fits = purge-fits deck n s (next_order deck n) refl fits
 
 pub ruleset prepares = (prepare-addressed)
+
+-- a Tell makes the call that tells who is told next
+pub tell-prepared : (deck : Deck) (n : NodeState) (e : ℕ)
+    → prepare deck n (choices.Tell e) ≡ prepared_by n.known (tell_by (told_next n.star e))
+unfolding prepare star_call
+tell-prepared deck n e = go n.star
+  where
+    go : (part : Option StarPart)
+        → star_call deck n part (choices.Tell e) ≡ prepared_by n.known (tell_by (told_next part e))
+    go None = refl
+    go (Some p) = refl
+
+pub ruleset tells = (tell-prepared, prepare-addressed)

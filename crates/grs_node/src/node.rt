@@ -10,6 +10,7 @@ ghost use Rattle.grs_node.specs.Finish.{MayFinish, may_come};
 ghost use Rattle.grs_node.specs.Addressed.{is_addressed};
 ghost use Rattle.grs_wire.specs.Unseen.{unseen};
 ghost use Rattle.grs_node.specs.Room.{needs_no_memory, takes_no_memory, is_call, next_for, HasRoomFor};
+ghost use Rattle.grs_node.specs.Star.{tell_by};
 ghost use Rattle.grs_node.specs.TurnCalls.{turn_of, take_of};
 ghost use Rattle.grs_wire.specs.declared.deck.Choice.TheVariants.{Turn, Take, Tell};
 ghost use Rattle.grs_wire.specs.declared.medium.Reply.TheVariants.{Turned, Stale};
@@ -21,8 +22,10 @@ use super::prepared::Prepared;
 use super::ready::{Ready, ToldNext, make_room, needs_no_memory};
 use super::scripts::{Script, names_of, scripts_of};
 use super::state::NodeState;
-use grs_base::{List, NoMemory, SysId, TaskId, copy_all};
-use grs_wire::{Choice, Deck, Fixed, Reply, Req, RingEntry, StepDone, TaskEnd, ToldLine};
+use grs_base::{List, NoMemory, Res, SysId, TaskId, copy_all};
+use grs_wire::{
+    Act, Call, Choice, Deck, Fixed, Mail, Reply, Req, RingEntry, StepDone, TaskEnd, ToldLine,
+};
 use scope_resolve::Resolver;
 use std::alloc::Global;
 use std::marker::Model;
@@ -84,6 +87,25 @@ fn step_of(
         fixed,
         told,
     })
+}
+
+/// That an owner is told, if there is one to tell.
+fn tell_call(alloc: Global, known: u32, owner: &Option<(TaskId, Res)>) -> Result<Prepared, NoMemory>
+    ensures { IfOk result (λ prepared. prepared ≡ steps.prepared_by known (tell_by owner.now)) }
+{
+    let Some((task, res)) = owner else {
+        return Ok(Prepared::Nothing);
+    };
+    Ok(Prepared::Call(Call {
+        known,
+        act: Act::Tell {
+            to: task.system,
+            mail: Mail::Granted {
+                task: *task,
+                res: res.copy(alloc)?,
+            },
+        },
+    }))
 }
 
 impl<'d> Node<'d> {
@@ -153,6 +175,22 @@ impl<'d> Node<'d> {
         Ok(())
     }
 
+    /// What a Tell comes to. Who is told is looked for once, and kept for the reply.
+    #[tactic(auto, using(crate::proofs::AskFits::tells))]
+    fn prepare_tell(&mut self, entry: u32) -> Result<Prepared, NoMemory>
+        ensures prepared { IfOk result (λ prepared. prepared ≡ steps.prepare self.old.deck self.old.node (Tell entry)) }
+        ensures addressed { IfOk result (λ prepared. is_addressed self.old.deck self.old.node.tasks.system prepared ≡ true) }
+        ensures deck { self.new.deck ≡ self.old.deck }
+        ensures node { self.new.node ≡ self.old.node }
+        ensures log { self.new.log ≡ self.old.log }
+    {
+        self.keep_next(entry)?;
+        match &self.ready.next {
+            Some(next) => tell_call(self.alloc, self.state.known, &next.owner),
+            None => unreachable!(),
+        }
+    }
+
     /// Makes room for the line that tells how a command of the desk ended.
     fn keep_lines(&mut self) -> Result<(), NoMemory>
         ensures deck { self.new.deck ≡ self.old.deck }
@@ -215,7 +253,11 @@ impl<'d> Node<'d> {
         ensures log { self.new.log ≡ self.old.log }
         ensures room { IfOk result (λ prepared. is_call prepared ≡ true → HasRoomFor self.new choice.now) }
     {
-        match self.prepared(choice)? {
+        let prepared = match choice {
+            Choice::Tell(entry) => self.prepare_tell(*entry)?,
+            choice => self.prepared(choice)?,
+        };
+        match prepared {
             Prepared::Call(call) => {
                 self.make_ready(*choice)?;
                 Ok(Prepared::Call(call))
