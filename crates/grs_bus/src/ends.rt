@@ -19,7 +19,7 @@ use std::alloc::Global;
 use std::snapshot::Snapshot;
 
 impl Bus {
-    /// A bus over the medium, with a seat for each of its systems, of which there are one to eight, in their order. Without memory
+    /// A bus over the medium, with a seat for each of its systems, of which there are one to `MOST_SYSTEMS`, in their order. Without memory
     /// for the bus and its seats there is none.
     pub fn new(alloc: Global, medium: Medium, systems: u32) -> Result<(Bus, List<Seat>), NoMemory>
         requires some { 0 < systems }

@@ -243,8 +243,8 @@ impl<'d> Node<'d> {
         }
     }
 
-    /// What a choice comes to. It changes nothing that is seen of the system. A call goes to systems of the deck and to lock entries
-    /// that there are, and removes another system alone; and for a reply to it by which little happens there is room then.
+    /// What a choice comes to. Of the system it changes nothing but for how much there is room. A call goes to systems of the deck and to
+    /// lock entries that there are, and removes another system alone; and for a reply to it by which little happens there is room then.
     pub fn prepare(&mut self, choice: &Choice) -> Result<Prepared, NoMemory>
         ensures prepared { IfOk result (λ prepared. prepared ≡ steps.prepare self.old.deck self.old.node choice.now) }
         ensures addressed { IfOk result (λ prepared. is_addressed self.old.deck self.old.node.tasks.system prepared ≡ true) }

@@ -293,8 +293,8 @@ impl Agenda {
         matches!(self.last, Last::Turn | Last::Rest) && !self.brought
     }
 
-    /// The event that was picked last changed the system, so that each choice may have something to do: also a rest, since one that
-    /// changes it was answered Stale, behind which the system may have owners to tell. It fixed or told something, or didn't.
+    /// The event that was picked last is in the log, so that each choice may have something to do: also a rest, since behind one that was
+    /// answered Stale the system may have owners to tell. It fixed or told something, or didn't.
     fn changed(&mut self, got_on: bool) {
         match self.last {
             Last::Turn | Last::Rest => self.busy = self.busy || got_on || self.brought,

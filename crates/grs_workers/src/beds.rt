@@ -10,7 +10,7 @@ use std::hint;
 use std::sync::Wait;
 use std::sync::atomic::{AtomicU64, Ordering};
 
-/// How often in a row a worker is called where all others sleep, and has nothing to do, before it gives up.
+/// How often in a row a worker may be called where all others sleep, and have nothing to do. At the next time it gives up.
 const MOST_IN_VAIN: u64 = 8;
 
 /// How often a worker looks at its bed ahead of a sleep, which is some microseconds.

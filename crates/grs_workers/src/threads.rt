@@ -39,8 +39,8 @@ impl<T: Work<W>, W> Promise<W> for Before<T, W> {
     ghost kept_by = { λ p w. T.gives p.work.value p.worker.value w };
 }
 
-/// All of it, of the first worker on this thread. From the last worker on a thread is asked for, until one can't be made; whoever has
-/// none comes behind those ahead of it, on this thread.
+/// All of it, of the first worker on this thread. From the last worker on a thread is asked for, until one can't be made or no more are
+/// wanted; whoever has none comes behind those ahead of it, on this thread.
 fn in_threads<'s, E, R: Threads, W: Send + Drop + 's, T: Work<W> + Sync>(
     scope: &Scope<'s, E>,
     rt: &R,

@@ -198,9 +198,10 @@ pub fn parts_are_on_the_way()
     ensures parts { (deck : Deck) → deck.star ≡ true → FitsStar deck → (events : List Event) → PartsAreOnTheWay deck events }
 {}
 
-/// In every run, by an event that takes a notice a task that has sent its request, which isn't answered yet, is to send
-/// it again exactly where the notice names, in an item that the deck has, the request's lock entry, and its system
-/// neither manages nor gathers that; of any other task that has sent one the request is still sent.
+/// In every run, by an event in which a system in star mode takes a notice of a system of the deck, a task that has sent its
+/// request, which isn't answered yet, is to send it again exactly where the notice names, in an item that the deck has, the
+/// request's lock entry, and its system neither manages nor gathers that; of any other task that has sent one the request is
+/// still sent.
 pub fn notices_send_again()
     ensures { (deck : Deck) → (events : List Event) (next : Event) → NoticesSendAgain deck events next }
 {}

@@ -1,4 +1,4 @@
-//! That workers sleep while there is nothing for them to do. A call that comes to something is a step of its system's log; who asks again
+//! That workers make few calls while there is nothing for them to do. A call that comes to something is a step of its system's log; who asks again
 //! and again whether there is something to do makes many that are none.
 use crate::progress::{Progress, keep, to_begin};
 use crate::runs::{NAMES, add_system, once, ran};

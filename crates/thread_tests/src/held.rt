@@ -1,6 +1,6 @@
 //! That workers are there beside each other: one is held ahead of its first call until another, which begins no sooner, has been
-//! answered its second. Whoever waits for the one that is held, but only for a time, passes this too: `star`, `beside` and
-//! `mails` refuse a time down to some 1.2 ms, though not each of them each time. And that the printed steps are those of the workers.
+//! answered its second. Whoever waits for the one that is held, but only for a time, passes this too: that is for
+//! `star`, `beside` and `mails`, which refuse a time of some milliseconds and more. And that the printed steps are those of the workers.
 use crate::progress::{Progress, keep};
 use crate::runs::{ran, reaches};
 use crate::sleeps::{End, RIGHT};

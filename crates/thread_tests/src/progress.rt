@@ -11,7 +11,7 @@ pub struct Progress {
     pub calls: AtomicCell<u64>,
     /// How many steps its log had.
     pub steps: AtomicCell<u64>,
-    /// How many lines its tasks had been told.
+    /// How many lines its tasks and its desk had been told.
     pub told: AtomicCell<u64>,
 }
 

@@ -91,7 +91,7 @@ impl Held {
         }
     }
 
-    /// A system waits ahead of its first call until all came to theirs, so that none sleeps before each has a thread.
+    /// A system waits ahead of its first call until all came to theirs, so that all run beside each other from there on.
     fn begin(&self) {
         self.begun.fetch_add(1);
         self.gave_up

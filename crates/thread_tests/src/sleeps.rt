@@ -27,14 +27,14 @@ pub const RIGHT: End = End {
     lost: 0,
 };
 
-/// What a system's tasks are told behind a call of its worker since all others slept. Nobody had anything to do then but commands of
-/// a desk, of which none is left by then in these decks, so no task is told anything any more.
+/// What a system is told behind a call of its worker since all others slept. Nobody had anything to do then but commands of a desk, of
+/// which none is left by then in these decks, so nobody is told anything any more.
 #[derive(Drop)]
 struct Behind {
     progress: Progress,
     /// Its worker was called so.
     alone: AtomicCell<bool>,
-    /// How many lines its tasks had been told when its worker was lent first behind that.
+    /// How many lines it had been told when its worker was lent first behind that.
     ahead: AtomicCell<u64>,
 }
 

@@ -101,7 +101,7 @@ fn two_seats(alloc: Global) -> Result<(Bus, Vec<Seat>), NoMemory>
     Ok((bus, seats))
 }
 
-/// Holds each of two workers ahead of its first call until both have come, so that none sleeps before the other has begun.
+/// Holds each of two workers ahead of its first call until both have come, so that both run beside each other from there on.
 #[derive(Drop)]
 struct Both {
     came: AtomicCell<u64>,
