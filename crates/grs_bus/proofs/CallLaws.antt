@@ -11,7 +11,7 @@ use Rattle.grs_wire.specs.declared.medium.JEntry.{JEntry}
 use Rattle.grs_wire.specs.declared.medium.Reply.{Reply}
 use Rattle.grs_medium.specs.Apply.{reply_to, medium_after, MayCall}
 use Rattle.grs_medium.specs.Medium.{MediumState}
-use Rattle.grs_bus.specs.Journal.{is_entered, entry_of, after_all, AreRight, entries_of, Begins}
+use Rattle.grs_bus.specs.Journal.{is_entered, concerned_by, entry_of, after_all, AreRight, entries_of, Begins}
 use Rattle.grs_bus.specs.Places.{Holds, seat_of}
 use Rattle.grs_bus.specs.Rule.{IsSettled}
 use Rattle.grs_bus.specs.Seats.{BusValue, SeatValue, with_entry, IsAnswered, IsRefused}
@@ -38,10 +38,10 @@ held word m m' k none_left = ap (λ (x : M). x.1) k.me ∙ ap (λ (l : List (ℕ
 abbrev pub Asks : MediumState → SysId → Call → M → Type 0
 Asks first s call m = (m.1 ≡ []) × (m.0.system ≡ s) × (m.0.first.state ≡ first) × MayCall first s call
 
-pub asks : (b : BusValue) (table : TableId) (seat : SeatValue) (s : SysId) (call : Call) (m : M)
-    → seat_of table m.0 ≡ seat → m.1 ≡ [] → m.0.system ≡ s → seat.bus ≡ b → MayCall b.first seat.system call
+pub asks : (b : BusValue) (table : TableId) (before : ℕ) (seat : SeatValue) (s : SysId) (call : Call) (m : M)
+    → seat_of table m.0 before ≡ seat → m.1 ≡ [] → m.0.system ≡ s → seat.bus ≡ b → MayCall b.first seat.system call
     → Asks b.first s call m
-asks b table seat s call m shown none_left is of can = (
+asks b table before seat s call m shown none_left is of can = (
   none_left,
   is,
   ap (λ (v : SeatValue). v.bus.first) shown ∙ ap (λ (x : BusValue). x.first) of,
@@ -59,12 +59,18 @@ may_work first word s call m m' asks k = (
       (can_be_asked first k.journal s call (subst (λ (x : MediumState). AreRight x k.journal) asks.2 k.right) asks.3),
 )
 
+-- what becomes of the slot by the work on it, by which the call concerned these systems
+abbrev Moved : SysId → Call → Answer → ℕ → Slot → Slot → Type 0
+Moved s call answer who old new =
+    MatchResult answer (λ told. Answers s call old new told × (who ≡ concerned_by old.medium.state s call))
+    (λ _. IsUnchanged old new × (who ≡ 0))
+
 -- what the work on the slot says
-abbrev Worked : SysId → Call → Answer → ℕ → M → M → Type 0
-Worked s call answer count m m' =
+abbrev Worked : SysId → Call → Answer → ℕ → ℕ → M → M → Type 0
+Worked s call answer count who m m' =
     Holds m (λ old.
     Holds m' (λ new.
-    MatchResult answer (λ told. Answers s call old new told) (λ _. IsUnchanged old new)
+    Moved s call answer who old new
     × (count ≡ length new.journal.items) × (length old.journal.items < 2 ^ 58 → count < 2 ^ 58)))
 
 -- The slot behind an answered call that took the word at this journal.
@@ -133,17 +139,17 @@ unchanged_home v journal old new settled right u = let items : new.journal.items
   more = inl items;
 }
 
-either_home : (v : View) (journal : List JEntry) (old new : Slot) (call : Call) (answer : Answer)
+either_home : (v : View) (journal : List JEntry) (old new : Slot) (call : Call) (answer : Answer) (who : ℕ)
     → IsSettled v.first.state journal old → AreRight v.first.state journal → v.own ≡ entries_of v.system.0 journal
     → MayCall (after_all v.first.state journal) v.system call
-    → MatchResult answer (λ told. Answers v.system call old new told) (λ _. IsUnchanged old new)
-    → MayComeHome (taken v journal) new
-either_home v journal old new call (Ok told) settled right own can a =
-    (grew v journal old new call told settled right own can a).home
-either_home v journal old new call (Err e) settled right own can u = unchanged_home v journal old new settled right u
+    → Moved v.system call answer who old new → MayComeHome (taken v journal) new
+either_home v journal old new call (Ok told) who settled right own can a =
+    (grew v journal old new call told settled right own can a.0).home
+either_home v journal old new call (Err e) who settled right own can u =
+    unchanged_home v journal old new settled right u.0
 
 -- The parts of a call, side by side.
-record Parts (call : Call) (answer : Answer) (count : ℕ) (m m' : M) : Type 0 where
+record Parts (call : Call) (answer : Answer) (count who : ℕ) (m m' : M) : Type 0 where
   journal : List JEntry
   old : Slot
   new : Slot
@@ -154,13 +160,13 @@ record Parts (call : Call) (answer : Answer) (count : ℕ) (m m' : M) : Type 0 w
   right : AreRight m.0.first.state journal
   own : m.0.own ≡ entries_of m.0.system.0 journal
   can : MayCall (after_all m.0.first.state journal) m.0.system call
-  moved : MatchResult answer (λ told. Answers m.0.system call old new told) (λ _. IsUnchanged old new)
+  moved : Moved m.0.system call answer who old new
   size : count ≡ length new.journal.items
 
-parts : (first : MediumState) (word : ℕ) (s : SysId) (call : Call) (answer : Answer) (count : ℕ) (m₀ m₁ m₂ : M)
-    → Asks first s call m₀ → Took word m₀ m₁ → m₂.0 ≡ m₁.0 → Worked s call answer count m₁ m₂
-    → Parts call answer count m₀ m₂
-parts first word s call answer count m₀ m₁ m₂ asks k same w =
+parts : (first : MediumState) (word : ℕ) (s : SysId) (call : Call) (answer : Answer) (count who : ℕ) (m₀ m₁ m₂ : M)
+    → Asks first s call m₀ → Took word m₀ m₁ → m₂.0 ≡ m₁.0 → Worked s call answer count who m₁ m₂
+    → Parts call answer count who m₀ m₂
+parts first word s call answer count who m₀ m₁ m₂ asks k same w =
     let e : k.slot ≡ w.0 = one_slot m₁.1 k.slot w.0 (held word m₀ m₁ k asks.0) w.1 in record {
       journal = k.journal;
       old = w.0;
@@ -176,21 +182,20 @@ parts first word s call answer count m₀ m₁ m₂ asks k same w =
           (subst (λ (x : MediumState). MayCall x m₀.0.system call) (sym asks.2)
           (subst (λ (t : SysId). MayCall first t call) (sym asks.1) asks.3));
       moved =
-          subst (λ (t : SysId). MatchResult answer (λ told. Answers t call w.0 w.2.0 told) (λ _. IsUnchanged w.0 w.2.0))
-          (sym asks.1) w.2.2.0;
+          subst (λ (t : SysId). Moved t call answer who w.0 w.2.0) (sym asks.1) w.2.2.0;
       size = w.2.2.1;
     }
 
-pub may_give : (first : MediumState) (word : ℕ) (s : SysId) (call : Call) (answer : Answer) (count : ℕ) (m₀ m₁ m₂ : M)
-    → Asks first s call m₀ → Took word m₀ m₁ → m₂.0 ≡ m₁.0 → Worked s call answer count m₁ m₂
+pub may_give : (first : MediumState) (word : ℕ) (s : SysId) (call : Call) (answer : Answer) (count who : ℕ) (m₀ m₁ m₂ : M)
+    → Asks first s call m₀ → Took word m₀ m₁ → m₂.0 ≡ m₁.0 → Worked s call answer count who m₁ m₂
     → Holds m₂ (λ slot. MayComeHome m₂.0 slot × (count ≡ length slot.journal.items))
-may_give first word s call answer count m₀ m₁ m₂ asks k same w =
-    let p = parts first word s call answer count m₀ m₁ m₂ asks k same w in (
+may_give first word s call answer count who m₀ m₁ m₂ asks k same w =
+    let p = parts first word s call answer count who m₀ m₁ m₂ asks k same w in (
       p.new,
       p.here,
       (
         subst (λ (v : View). MayComeHome v p.new) (sym p.view)
-            (either_home m₀.0 p.journal p.old p.new call answer p.settled p.right p.own p.can p.moved),
+            (either_home m₀.0 p.journal p.old p.new call answer who p.settled p.right p.own p.can p.moved),
         p.size,
       ),
     )
@@ -199,17 +204,18 @@ may_give first word s call answer count m₀ m₁ m₂ asks k same w =
 abbrev Gave : M → M → Type 0
 Gave m m' = Holds m (λ slot. m' ≡ (given_back m.0 slot.journal.items, []))
 
-view_after : (call : Call) (answer : Answer) (count : ℕ) (m₀ m₂ m₃ : M) (p : Parts call answer count m₀ m₂) → Gave m₂ m₃
+view_after : (call : Call) (answer : Answer) (count who : ℕ) (m₀ m₂ m₃ : M) (p : Parts call answer count who m₀ m₂)
+    → Gave m₂ m₃
     → m₃.0 ≡ given_back (taken m₀.0 p.journal) p.new.journal.items
-view_after call answer count m₀ m₂ m₃ p g = let e : g.0 ≡ p.new = one_slot m₂.1 g.0 p.new g.1 p.here in
+view_after call answer count who m₀ m₂ m₃ p g = let e : g.0 ≡ p.new = one_slot m₂.1 g.0 p.new g.1 p.here in
     ap (λ (x : M). x.0) g.2 ∙ λ i. given_back (p.view i) (e i).journal.items
 
-answered : (table table' : TableId) (call : Call) (answer : Answer) (count : ℕ) (m₀ m₂ m₃ : M)
-    → Parts call answer count m₀ m₂ → Gave m₂ m₃
-    → IfOk answer (λ told. IsAnswered (seat_of table m₀.0) call told (seat_of table' m₃.0))
-answered table table' call (Ok told) count m₀ m₂ m₃ p g =
-    let v = view_after call (Ok told) count m₀ m₂ m₃ p g in
-    let q = grew m₀.0 p.journal p.old p.new call told p.settled p.right p.own p.can p.moved in
+answered : (table table' : TableId) (call : Call) (answer : Answer) (count before who : ℕ) (m₀ m₂ m₃ : M)
+    → Parts call answer count who m₀ m₂ → Gave m₂ m₃
+    → IfOk answer (λ told. IsAnswered (seat_of table m₀.0 before) call told (seat_of table' m₃.0 who))
+answered table table' call (Ok told) count before who m₀ m₂ m₃ p g =
+    let v = view_after call (Ok told) count who m₀ m₂ m₃ p g in
+    let q = grew m₀.0 p.journal p.old p.new call told p.settled p.right p.own p.can p.moved.0 in
     record {
       journal = p.journal;
       taken = record { seen = p.longer; own = p.own; right = p.right };
@@ -217,36 +223,41 @@ answered table table' call (Ok told) count m₀ m₂ m₃ p g =
       entered = q.entered;
       own = ap (λ (x : View). x.own) v ∙ q.own;
       seen = ap (λ (x : View). x.seen) v ∙ q.seen;
+      concerned = p.moved.1 ∙ ap (λ (x : MediumState). concerned_by x m₀.0.system call) p.settled.1;
     }
-answered table table' call (Err e) count m₀ m₂ m₃ p g = tt
+answered table table' call (Err e) count before who m₀ m₂ m₃ p g = tt
 
-refused : (table table' : TableId) (call : Call) (answer : Answer) (count : ℕ) (m₀ m₂ m₃ : M)
-    → Parts call answer count m₀ m₂ → Gave m₂ m₃ → OnErr answer (IsRefused (seat_of table m₀.0) (seat_of table' m₃.0))
-refused table table' call (Ok told) count m₀ m₂ m₃ p g = tt
-refused table table' call (Err e) count m₀ m₂ m₃ p g =
-    let v = view_after call (Err e) count m₀ m₂ m₃ p g in
-    let items : p.new.journal.items ≡ p.journal = p.moved.0 ∙ p.settled.0 in
+refused : (table table' : TableId) (call : Call) (answer : Answer) (count before who : ℕ) (m₀ m₂ m₃ : M)
+    → Parts call answer count who m₀ m₂ → Gave m₂ m₃
+    → OnErr answer (IsRefused (seat_of table m₀.0 before) (seat_of table' m₃.0 who))
+refused table table' call (Ok told) count before who m₀ m₂ m₃ p g = tt
+refused table table' call (Err e) count before who m₀ m₂ m₃ p g =
+    let v = view_after call (Err e) count who m₀ m₂ m₃ p g in
+    let items : p.new.journal.items ≡ p.journal = p.moved.0.0 ∙ p.settled.0 in
     record {
       journal = p.journal;
       taken = record { seen = p.longer; own = p.own; right = p.right };
       own = ap (λ (x : View). x.own) v ∙ (ap (entries_of m₀.0.system.0) items ∙ sym p.own);
       seen = ap (λ (x : View). x.seen) v ∙ items;
+      concerned = p.moved.1;
     }
 
 pub call_answered :
-    (first : MediumState) (table table' : TableId) (word : ℕ) (s : SysId) (call : Call) (answer : Answer) (count : ℕ)
-    (m₀ m₁ m₂ m₃ : M)
+    (first : MediumState) (table table' : TableId) (word : ℕ) (s : SysId) (call : Call) (answer : Answer)
+    (count before who : ℕ) (m₀ m₁ m₂ m₃ : M)
     → Asks first s call m₀ → Took word m₀ m₁ → m₂.0 ≡ m₁.0
-    → Worked s call answer count m₁ m₂ → Gave m₂ m₃
-    → IfOk answer (λ told. IsAnswered (seat_of table m₀.0) call told (seat_of table' m₃.0))
-call_answered first table table' word s call answer count m₀ m₁ m₂ m₃ asks k view w g =
-    answered table table' call answer count m₀ m₂ m₃ (parts first word s call answer count m₀ m₁ m₂ asks k view w) g
+    → Worked s call answer count who m₁ m₂ → Gave m₂ m₃
+    → IfOk answer (λ told. IsAnswered (seat_of table m₀.0 before) call told (seat_of table' m₃.0 who))
+call_answered first table table' word s call answer count before who m₀ m₁ m₂ m₃ asks k view w g =
+    answered table table' call answer count before who m₀ m₂ m₃
+    (parts first word s call answer count who m₀ m₁ m₂ asks k view w) g
 
 pub call_refused :
-    (first : MediumState) (table table' : TableId) (word : ℕ) (s : SysId) (call : Call) (answer : Answer) (count : ℕ)
-    (m₀ m₁ m₂ m₃ : M)
+    (first : MediumState) (table table' : TableId) (word : ℕ) (s : SysId) (call : Call) (answer : Answer)
+    (count before who : ℕ) (m₀ m₁ m₂ m₃ : M)
     → Asks first s call m₀ → Took word m₀ m₁ → m₂.0 ≡ m₁.0
-    → Worked s call answer count m₁ m₂ → Gave m₂ m₃
-    → OnErr answer (IsRefused (seat_of table m₀.0) (seat_of table' m₃.0))
-call_refused first table table' word s call answer count m₀ m₁ m₂ m₃ asks k view w g =
-    refused table table' call answer count m₀ m₂ m₃ (parts first word s call answer count m₀ m₁ m₂ asks k view w) g
+    → Worked s call answer count who m₁ m₂ → Gave m₂ m₃
+    → OnErr answer (IsRefused (seat_of table m₀.0 before) (seat_of table' m₃.0 who))
+call_refused first table table' word s call answer count before who m₀ m₁ m₂ m₃ asks k view w g =
+    refused table table' call answer count before who m₀ m₂ m₃
+    (parts first word s call answer count who m₀ m₁ m₂ asks k view w) g

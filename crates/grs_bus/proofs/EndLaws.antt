@@ -41,13 +41,13 @@ pub dealt_next :
     (b : BusValue) (seats : List SeatValue) (n : ℕ) (first : MediumValue) (table : TableId) (m m' : Me Slot View)
     → AreDealt b seats → length seats + 1 ≡ n → table ≡ b.table → first.state ≡ b.first
     → m ≡ (newcomer first (record { 0 = 0 }) [] n, []) → m' ≡ (cut_right m.0, [])
-    → AreDealt b (seats ++ seat_of table m'.0 ∷ [])
+    → AreDealt b (seats ++ seat_of table m'.0 0 ∷ [])
 dealt_next b seats n first table m m' dealt len at start is cut =
     let view : m'.0 ≡ newcomer first (record { 0 = n }) [] 0 =
     ap (λ (x : Me Slot View). x.0) cut ∙ ap (λ (x : Me Slot View). cut_right x.0) is in
-    subst (λ (v : View). AreDealt b (seats ++ seat_of table v ∷ [])) (sym view)
-    (dealt_more b seats (seat_of table (newcomer first (record { 0 = n }) [] 0)) dealt
-    (λ i. record { table = at i; first = start i }) (sym len) (refl, refl, refl))
+    subst (λ (v : View). AreDealt b (seats ++ seat_of table v 0 ∷ [])) (sym view)
+    (dealt_more b seats (seat_of table (newcomer first (record { 0 = n }) [] 0) 0) dealt
+    (λ i. record { table = at i; first = start i }) (sym len) (refl, refl, refl, refl))
 
 pub joined_all-same : (v : View) (seats : List SeatValue)
     → joined_all v seats ≡ record v { olds = (joined_all v seats).olds }
@@ -107,15 +107,15 @@ IsClosed first seats last journal =
 
 -- what the bus gives at its end, where the first seat has taken in all others
 closed :
-    (first : MediumValue) (table : TableId) (id : ℕ) (b : BusValue) (v : View) (seats : List SeatValue) (ws : List ℕ)
-    (xs : List Slot)
-    → AreTheSeats b (seat_of table v ∷ seats) → v.spent ≡ false → v.holding ≡ false → v.system.0 ≡ 0
+    (first : MediumValue) (table : TableId) (id : ℕ) (b : BusValue) (v : View) (who : ℕ) (seats : List SeatValue)
+    (ws : List ℕ) (xs : List Slot)
+    → AreTheSeats b (seat_of table v who ∷ seats) → v.spent ≡ false → v.holding ≡ false → v.system.0 ≡ 0
     → Final (Seen (IsKept first) id (joined_all v seats)) ws xs
     → (slot : Slot) × (get_elem? xs 0 ≡ some slot)
-    × IsClosed first.state (seat_of table v ∷ seats) slot.medium.state slot.journal.items
-closed first table id b v seats ws xs all live idle zeroth fin =
+    × IsClosed first.state (seat_of table v who ∷ seats) slot.medium.state slot.journal.items
+closed first table id b v who seats ws xs all live idle zeroth fin =
     let w : View = joined_all v seats in let same = joined_all-same v seats in
-    let count : v.given ≡ length (seat_of table v ∷ seats) = all.count (seat_of table v) refl in
+    let count : v.given ≡ length (seat_of table v who ∷ seats) = all.count (seat_of table v who) refl in
     let covers :
     Covers w = λ n pos below. let g : w.given ≡ v.given = ap (λ (x : View). x.given) same in
     let t = there seats (n - 1) (omega arith) in
@@ -135,10 +135,10 @@ closed first table id b v seats ws xs all live idle zeroth fin =
       ),
     ) where
       agrees : (e : Ended first (joined_all v seats) xs) → e.slot.journal.items ≡ e.journal
-          → AllSeats (Agrees e.slot.journal.items) (seat_of table v ∷ seats)
+          → AllSeats (Agrees e.slot.journal.items) (seat_of table v who ∷ seats)
       agrees e items zero s at = let same = joined_all-same v seats in
-          subst (Agrees e.slot.journal.items) (some-injective (seat_of table v) s at)
-          (subst (λ (l : List JEntry). Agrees l (seat_of table v)) (sym items) (
+          subst (Agrees e.slot.journal.items) (some-injective (seat_of table v who) s at)
+          (subst (λ (l : List JEntry). Agrees l (seat_of table v who)) (sym items) (
             ap (λ (x : View). x.own) (sym same) ∙ (e.own ∙ ap (λ (n : ℕ). entries_of n e.journal) (sym zeroth)),
             subst (λ (l : List JEntry). Begins l e.journal) (ap (λ (x : View). x.seen) same) e.seen,
           ))
@@ -147,24 +147,24 @@ closed first table id b v seats ws xs all live idle zeroth fin =
 
 -- the same of the medium and the journal that are taken out of the slot, and of the seats as they were handed in
 pub closed_as :
-    (first : MediumValue) (table : TableId) (id : ℕ) (b : BusValue) (v w : View) (given : List SeatValue)
+    (first : MediumValue) (table : TableId) (id : ℕ) (b : BusValue) (v w : View) (who : ℕ) (given : List SeatValue)
     (lead : SeatValue) (others : List SeatValue) (ws : List ℕ) (xs : List Slot) (slot : Slot) (journal : List JEntry)
-    → AreTheSeats b given → IsLed b given lead others → seat_of table v ≡ lead → v.spent ≡ false → v.holding ≡ false
+    → AreTheSeats b given → IsLed b given lead others → seat_of table v who ≡ lead → v.spent ≡ false → v.holding ≡ false
     → first.state ≡ b.first
     → w ≡ joined_all v others → Final (Seen (IsKept first) id w) ws xs → get_elem? xs 0 ≡ some slot
     → journal ≡ slot.journal.items → IsClosed b.first given slot.medium.state journal
-closed_as first table id b v w given lead others ws xs slot journal all l shown live idle start is fin at items =
-    let back : given ≡ seat_of table v ∷ others = l.split ∙ ap (λ (x : SeatValue). x ∷ others) (sym shown) in
+closed_as first table id b v w who given lead others ws xs slot journal all l shown live idle start is fin at items =
+    let back : given ≡ seat_of table v who ∷ others = l.split ∙ ap (λ (x : SeatValue). x ∷ others) (sym shown) in
     let t =
-    closed first table id b v others ws xs (subst (AreTheSeats b) back all) live idle
+    closed first table id b v who others ws xs (subst (AreTheSeats b) back all) live idle
     (ap (λ (s : SysId). s.0) (ap (λ (x : SeatValue). x.system) shown ∙ l.system))
     (subst (λ (x : View). Final (Seen (IsKept first) id x) ws xs) is fin) in
     let here =
-    subst (λ (x : Slot). IsClosed first.state (seat_of table v ∷ others) x.medium.state x.journal.items)
+    subst (λ (x : Slot). IsClosed first.state (seat_of table v who ∷ others) x.medium.state x.journal.items)
     (some-injective t.0 slot (sym t.1 ∙ at)) t.2 in
     subst (λ (x : MediumState). IsClosed x given slot.medium.state journal) start
     (subst (λ (x : List SeatValue). IsClosed first.state x slot.medium.state journal) (sym back)
-    (subst (IsClosed first.state (seat_of table v ∷ others) slot.medium.state) (sym items) here))
+    (subst (IsClosed first.state (seat_of table v who ∷ others) slot.medium.state) (sym items) here))
 
 pub still : (m : Me Slot View) (v : View) (gone : List SeatValue) → m ≡ (joined_all v gone, [])
     → (m.0.spent ≡ v.spent) × (m.0.holding ≡ v.holding) × (m.0.system ≡ v.system)

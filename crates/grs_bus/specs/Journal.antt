@@ -1,12 +1,13 @@
--- A journal of calls: which calls are entered, the medium that a journal leads to, which journals are right, and the
--- part of one system.
-use Rattle.std.specs.Prelude.{◌≡◌, ◌^◌, ℕ, Bool, true, false, ◌||◌, ◌==◌, List, [], ◌∷◌, ◌++◌, filter}
+-- A journal of calls: which calls are entered, whom a call concerns, the medium that a journal leads to, which journals
+-- are right, and the part of one system.
+use Rattle.std.specs.Prelude.{◌≡◌, ◌^◌, ℕ, Bool, true, false, ◌||◌, ◌==◌, List, [], ◌∷◌, ◌++◌, cond, filter}
 use Rattle.grs_base.specs.declared.resource.SysId.{SysId}
 use Rattle.grs_wire.specs.declared.medium.Call.{Call}
 use Rattle.grs_wire.specs.declared.medium.JEntry.{JEntry}
 use Rattle.grs_wire.specs.declared.medium.Reply.{Reply}
 use Rattle.grs_wire.specs.declared.medium.Reply.TheVariants.{Stale, Already, NoSuch, Sole, Left}
 use Rattle.grs_medium.specs.Apply.{reply_to, medium_after, changes, MayCall}
+use Rattle.grs_medium.specs.Concerned.{concerned}
 use Rattle.grs_medium.specs.Medium.{MediumState}
 
 -- How many numbers of a holder the word tells apart: 0 for nobody, and else a system's number and one. And a length
@@ -29,6 +30,11 @@ is_acted_on reply = false
 -- whether a call is entered into the journal: it changes the medium, or its reply is one of these
 unfoldable pub is_entered : MediumState → SysId → Call → Bool
 is_entered m c call = changes m c call || is_acted_on (reply_to m c call)
+
+-- Whom a call of c concerns where the medium is m: nobody, unless it changes that, and else whom the changed medium
+-- tells.
+abbrev pub concerned_by : MediumState → SysId → Call → ℕ
+concerned_by m c call = cond (changes m c call) (concerned (medium_after m c call) c call.act) 0
 
 abbrev pub entry_of : SysId → Call → Reply → JEntry
 entry_of c call reply = record { system = c; call = call; reply = reply }

@@ -1,5 +1,5 @@
 -- A place at the table, as a seat of the bus has it.
-use Rattle.std.specs.Prelude.{◌≡◌, ◌<◌, [], ◌∷◌, false}
+use Rattle.std.specs.Prelude.{◌≡◌, ℕ, ◌<◌, [], ◌∷◌, false}
 use Rattle.atomic_table.specs.declared.shared.Seat.{Seat}
 use Rattle.atomic_table.specs.Seated.{TableId}
 use Rattle.atomic_table.specs.Table.{Me}
@@ -11,15 +11,16 @@ use Rattle.grs_bus.specs.declared.view.View.{View}
 abbrev pub Place : Type 0
 Place = Seat Slot View
 
--- what a seat shows whose table and view are these
-abbrev pub seat_of : TableId → View → SeatValue
-seat_of table v = record {
+-- what a seat shows whose table and view are these, and whose last call concerned these systems
+abbrev pub seat_of : TableId → View → ℕ → SeatValue
+seat_of table v concerned = record {
   bus = record { table = table; first = v.first.state };
   system = v.system;
   own = v.own;
   seen = v.seen;
   takes = v.takes;
   seats = v.given;
+  concerned = concerned;
 }
 
 -- it is of this system, and has neither the word nor the slot

@@ -9,7 +9,7 @@ use Rattle.grs_wire.specs.declared.medium.JEntry.{JEntry}
 use Rattle.grs_wire.specs.declared.medium.Reply.{Reply}
 use Rattle.grs_medium.specs.Apply.{reply_to}
 use Rattle.grs_medium.specs.Medium.{MediumState}
-use Rattle.grs_bus.specs.Journal.{is_entered, entry_of, after_all, AreRight, entries_of, Begins}
+use Rattle.grs_bus.specs.Journal.{is_entered, concerned_by, entry_of, after_all, AreRight, entries_of, Begins}
 
 -- a bus: which one it is, and its medium at the start
 pub record BusValue : Type 0 where
@@ -18,6 +18,7 @@ pub record BusValue : Type 0 where
 
 -- A seat: its bus and its system; `own` are the entries of its system so far, `seen` is the longest journal that it
 -- has seen, and `takes` is how often it took the word. `seats` counts the seats of the bus, at the first seat alone.
+-- `concerned` is the set of the systems that its last call concerned.
 pub record SeatValue : Type 0 where
   pub bus : BusValue
   pub system : SysId
@@ -25,6 +26,7 @@ pub record SeatValue : Type 0 where
   pub seen : List JEntry
   pub takes : ℕ
   pub seats : ℕ
+  pub concerned : ℕ
 
 -- the same seat, whatever it has seen and done
 abbrev pub IsSameSeat : SeatValue → SeatValue → Type 0
@@ -55,14 +57,18 @@ pub record IsAnswered (v : SeatValue) (call : Call) (told : Reply × Bool) (w : 
   -- an entered call joins the seat's own, and the journal
   pub own : w.own ≡ with_entry v.own v.system call told
   pub seen : w.seen ≡ with_entry journal v.system call told
+  -- the seat tells whom the call concerned
+  pub concerned : w.concerned ≡ concerned_by (after_all v.bus.first journal) v.system call
 
--- What a call does to its seat for which there was no memory: it has seen the journal, and nothing joined it.
+-- What a call does to its seat for which there was no memory: it has seen the journal, nothing joined it, and nobody is
+-- concerned.
 pub record IsRefused (v w : SeatValue) : Type 0 where
   -- the journal where the seat took the word
   pub journal : List JEntry
   pub taken : IsTaken v journal
   pub own : w.own ≡ v.own
   pub seen : w.seen ≡ journal
+  pub concerned : w.concerned ≡ 0
 
 -- what holds of each seat of a list
 abbrev pub AllSeats : (SeatValue → Type 0) → List SeatValue → Type 0
@@ -76,7 +82,7 @@ pub record AreTheSeats (b : BusValue) (seats : List SeatValue) : Type 0 where
 
 -- a seat that nothing was done with yet
 abbrev pub IsNew : SeatValue → Type 0
-IsNew v = (v.own ≡ []) × (v.seen ≡ []) × (v.takes ≡ 0)
+IsNew v = (v.own ≡ []) × (v.seen ≡ []) × (v.takes ≡ 0) × (v.concerned ≡ 0)
 
 -- a seat whose own are just the journal's entries of its system, and with whose longest journal this one begins
 abbrev pub Agrees : List JEntry → SeatValue → Type 0

@@ -35,7 +35,7 @@ impl Model for Bus {
 }
 
 /// The right of one system to call the medium of a bus. Contracts see its bus and system, the entries of its system
-/// so far, the longest journal that it has seen, and how often it took the word.
+/// so far, the longest journal that it has seen, how often it took the word, and whom its last call concerned.
 #[derive(Drop)]
 pub struct Seat {
     pub(crate) place: Place,
@@ -50,7 +50,7 @@ impl Model for Seat {
 
     ghost Value = { SeatValue };
 
-    ghost view = { λ s. seat_of s.place.table_id s.place.me.0 };
+    ghost view = { λ s. seat_of s.place.table_id s.place.me.0 s.concerned };
 
     ghost invariant = { λ s. Rests s.place s.system };
 }
@@ -64,8 +64,10 @@ impl Seat {
     }
 
     /// The systems which the last call of the seat may have given something to do, so that who makes it can wake them: nobody before
-    /// the first call, and where it wasn't entered. No clause says which, since nothing but sleep rests on it.
-    pub fn concerned(&self) -> u32 {
+    /// the first call, and where it didn't change the medium.
+    pub fn concerned(&self) -> u32
+        ensures { result ≡ self.now.concerned }
+    {
         self.concerned
     }
 }

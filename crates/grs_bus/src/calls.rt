@@ -1,7 +1,7 @@
 //! One call: the word is taken, the slot is worked on, and the word is given back.
 ghost use Rattle.std.specs.Prelude.{◌≡◌, ◌<◌, ◌+◌, [], true, false, IfOk, OnErr, MatchResult, length};
 ghost use Rattle.grs_medium.specs.Apply.{MayCall};
-ghost use Rattle.grs_bus.specs.Journal.{no_length};
+ghost use Rattle.grs_bus.specs.Journal.{concerned_by, no_length};
 ghost use Rattle.grs_bus.specs.Places.{Rests, IsSamePlace, Holds};
 ghost use Rattle.grs_bus.specs.Seats.{IsSameSeat, IsAnswered, IsRefused};
 ghost use Rattle.grs_bus.specs.Slots.{Answers, IsUnchanged};
@@ -51,7 +51,7 @@ impl Bus {
         requires holds { Holds place.old.me (λ slot. MayCall slot.medium.state system call) }
         ensures same { IsSamePlace place.old place.new }
         ensures view { place.new.me.0 ≡ place.old.me.0 }
-        ensures answer { Holds place.old.me (λ old. Holds place.new.me (λ new. MatchResult result.0 (λ told. Answers system call old new told) (λ _. IsUnchanged old new) × (result.1 ≡ length new.journal.items) × (length old.journal.items < no_length → result.1 < no_length))) }
+        ensures answer { Holds place.old.me (λ old. Holds place.new.me (λ new. MatchResult result.0 (λ told. Answers system call old new told × (result.2 ≡ concerned_by old.medium.state system call)) (λ _. IsUnchanged old new × (result.2 ≡ 0)) × (result.1 ≡ length new.journal.items) × (length old.journal.items < no_length → result.1 < no_length))) }
     {
         let slot = place.slot_mut(&self.table.shared, 0);
         let answer = slot.answer(system, call);
@@ -74,8 +74,9 @@ impl Bus {
 
     /// Waits until no other seat has the word, takes it, makes the call, and gives the word back: the medium's reply,
     /// and whether the call was entered into the journal. It is entered where it changes the medium, and where its
-    /// reply is Stale, Already, NoSuch, Sole or Left. All memory is taken before the medium changes, so on
-    /// NoMemory neither the medium nor the journal has changed. An entry past the 2^57th is answered NoMemory too.
+    /// reply is Stale, Already, NoSuch, Sole or Left. The seat keeps whom the call concerned. All memory is taken before
+    /// the medium changes, so on NoMemory neither the medium nor the journal has changed, and nobody is concerned. An entry
+    /// past the 2^57th is answered NoMemory too.
     pub fn call<R: Wait>(
         &self,
         rt: &R,

@@ -1,8 +1,9 @@
 //! The medium with its journal: what a seat that has the word works on.
-ghost use Rattle.std.specs.Prelude.{◌≡◌, ◌<◌, ◌+◌, ◌++◌, ◌∷◌, [], IfOk, OnOk, OnErr, vec_len, vec_capacity};
+ghost use Rattle.std.specs.Prelude.{◌≡◌, ◌<◌, ◌+◌, ◌++◌, ◌∷◌, [], IfOk, OnOk, OnErr, cond, vec_len, vec_capacity};
 ghost use Rattle.grs_medium.specs.Apply.{MayCall, reply_to, medium_after};
+ghost use Rattle.grs_medium.specs.Concerned.{concerned};
 ghost use Rattle.grs_medium.specs.Room.{HasRoomFor};
-ghost use Rattle.grs_bus.specs.Journal.{entry_of, is_acted_on, no_length};
+ghost use Rattle.grs_bus.specs.Journal.{concerned_by, entry_of, is_acted_on, no_length};
 ghost use Rattle.grs_bus.specs.Slots.{Answers, IsUnchanged};
 
 use grs_base::{NoMemory, SysId};
@@ -14,7 +15,7 @@ use std::alloc::Global;
 const MOST_JOURNAL_ENTRIES: usize = 1 << 57;
 
 /// A medium, and the journal of its calls. `alloc` makes the copies of calls that are entered. `concerned` is the set of the
-/// systems which the last call may have given something to do: nobody where it wasn't entered.
+/// systems which the last call may have given something to do: nobody where it didn't change the medium.
 #[derive(Drop)]
 pub struct Slot {
     pub medium: Medium,
@@ -55,6 +56,7 @@ impl Slot {
         ensures copy { IfOk result (λ asked. asked ≡ call.now) }
         ensures same { IsUnchanged self.old self.new }
         ensures count { vec_len self.new.journal ≡ vec_len self.old.journal }
+        ensures concerned { self.new.concerned ≡ self.old.concerned }
         ensures room { OnOk result (HasRoomFor self.new.medium caller call.now) }
         ensures place { OnOk result ((vec_len self.new.journal < vec_capacity self.new.journal) × (vec_len self.new.journal + 1 < no_length)) }
     {
@@ -69,7 +71,9 @@ impl Slot {
         requires { MayCall self.old.medium.state caller call }
         ensures journal { OnOk result (self.new.journal.items ≡ self.old.journal.items ++ entry_of caller call (reply_to self.old.medium.state caller call) ∷ []) }
         ensures medium { OnOk result (self.new.medium.state ≡ medium_after self.old.medium.state caller call) }
+        ensures concerned { OnOk result (self.new.concerned ≡ cond changes (concerned (medium_after self.old.medium.state caller call) caller call.act) self.old.concerned) }
         ensures err { OnErr result (IsUnchanged self.old self.new) }
+        ensures nobody { OnErr result (self.new.concerned ≡ self.old.concerned) }
         ensures short { vec_len self.old.journal < no_length → vec_len self.new.journal < no_length }
     {
         let asked = self.prepare(caller, &call)?;
@@ -92,7 +96,9 @@ impl Slot {
     pub fn answer(&mut self, caller: SysId, call: Call) -> Result<(Reply, bool), NoMemory>
         requires { MayCall self.old.medium.state caller call }
         ensures ok { IfOk result (λ told. Answers caller call self.old self.new told) }
+        ensures concerned { OnOk result (self.new.concerned ≡ concerned_by self.old.medium.state caller call) }
         ensures err { OnErr result (IsUnchanged self.old self.new) }
+        ensures nobody { OnErr result (self.new.concerned ≡ 0) }
         ensures short { vec_len self.old.journal < no_length → vec_len self.new.journal < no_length }
     {
         self.concerned = 0;

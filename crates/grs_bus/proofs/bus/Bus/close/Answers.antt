@@ -47,7 +47,7 @@ told c =
     (λ some. at_index c.into_vec-rest.result.items 0 c.remove.result some c.remove.ensures.value)
     c.remove.ensures.items in
     closed_as c.self.inside.table.shared.key.value c.lead.inside.place.table_id c.gather.new.lead.id c.args.self
-    c.lead.inside.place.me.0 c.gather.new.lead.me.0
+    c.lead.inside.place.me.0 c.gather.new.lead.me.0 c.lead.inside.concerned
     c.args.seats c.remove.result c.remove.new.self.items _ _ c.take-medium.result c.from_vec.result
     c.requires l c.lead.view_is c.lead.invariant.2 c.lead.invariant.3 (ap (λ (b : BusValue). b.first) c.self.view_is)
     (ap (λ (m : Me Slot View). m.0) c.gather.ensures.views) c.close_with-closed.ensures.values.2

@@ -1,18 +1,19 @@
 use Rattle.std.proofs.Common.{rules, ◌≡◌, ℕ, List, [], ◌∷◌, ap, sym, subst, ◌∙◌, get_or, MatchResult, Result, Ok, Err}
-use Rattle.std.proofs.Common.{IfOk, OnErr, Bool}
+use Rattle.std.proofs.Common.{IfOk, OnOk, OnErr, Bool}
 use Rattle.atomic_table.specs.Table.{rest}
 use Rattle.grs_base.specs.declared.fault.NoMemory.{NoMemory}
 use Rattle.grs_wire.specs.declared.medium.Reply.{Reply}
 use Rattle.grs_medium.specs.Apply.{MayCall}
+use Rattle.grs_bus.specs.Journal.{concerned_by}
 use Rattle.grs_bus.specs.Seats.{BusValue}
 use Rattle.grs_bus.specs.Slots.{Answers, IsUnchanged}
 use Rattle.grs_bus.specs.declared.slot.Slot.{Slot}
 use Rattle.grs_bus.proofs.bus.Bus.work.Goals as goal
 
-both : (P : Reply × Bool → Type 0) (Q : Type 0) (r : Result (Reply × Bool) NoMemory) → IfOk r P → OnErr r Q
-    → MatchResult r P (λ _. Q)
-both P Q (Ok x) p q = p
-both P Q (Err e) p q = q
+each : (P : Reply × Bool → Type 0) (A B C : Type 0) (r : Result (Reply × Bool) NoMemory) → IfOk r P → OnOk r A
+    → OnErr r B → OnErr r C → MatchResult r (λ told. P told × A) (λ _. B × C)
+each P A B C (Ok x) p a b c = (p, a)
+each P A B C (Err e) p a b c = (b, c)
 
 pub slot_mut-slot-requires : goal.slot_mut-slot-requires
 slot_mut-slot-requires c =
@@ -40,8 +41,10 @@ returns-clause-answer c =
         left,
         ap (λ l. (0, left) ∷ l) none_left,
         (
-          both (λ told. Answers c.args.system c.args.call held left told) (IsUnchanged held left) c.answer-answer.result
-              c.answer-answer.ensures.ok c.answer-answer.ensures.err,
+          each (λ told. Answers c.args.system c.args.call held left told)
+              (left.concerned ≡ concerned_by held.medium.state c.args.system c.args.call) (IsUnchanged held left)
+              (left.concerned ≡ 0) c.answer-answer.result c.answer-answer.ensures.ok c.answer-answer.ensures.concerned
+              c.answer-answer.ensures.err c.answer-answer.ensures.nobody,
           search rules,
           search rules,
         ),
