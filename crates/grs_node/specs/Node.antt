@@ -240,6 +240,12 @@ abbrev pub is_to_send : Phase → Bool
 is_to_send phases.ToSend = true
 is_to_send _ = false
 
+-- whether a task in this phase has a request on its way: one that waits to be put in or sent, or isn't answered yet
+abbrev pub is_on_its_way : Phase → Bool
+is_on_its_way phases.ToSend = true
+is_on_its_way phases.Sent = true
+is_on_its_way _ = false
+
 -- whether in star mode something is pending: a request that waits to be sent, one that is held, an owner of another
 -- system who is still to be told, an entry that is gathered, or a part that is owed
 abbrev pub is_star_pending : TasksView → Option StarPart → Bool

@@ -7,7 +7,7 @@ ghost use Rattle.grs_node.specs.Names.{names_of};
 ghost use Rattle.grs_node.specs.Room.{told_next};
 ghost use Rattle.grs_node.specs.Node as steps;
 ghost use Rattle.grs_node.specs.Removal.{IsOrderly};
-ghost use Rattle.grs_node.specs.Star.{is_owed_named};
+ghost use Rattle.grs_node.specs.Star.{is_owed_named, tell_by};
 ghost use Rattle.grs_legal.specs.Asks.{lines_in, scripts_of};
 ghost use Rattle.task_state.specs.View.{is_task, state_of};
 
@@ -17,9 +17,9 @@ use super::scripts::{Script, is_of_deck, lines_among, system_at};
 use super::star::{Need, StarPart, any_to_send, is_to_send};
 use super::state::NodeState;
 use grs_base::{List, NoMemory, Res, TaskId, copy_all};
-use grs_wire::{Act, Call, Choice, Deck, Req, SystemDef};
+use grs_wire::{Act, Call, Choice, Deck, Mail, Req, SystemDef};
 use std::alloc::Global;
-use task_state::TaskState;
+use task_state::{Phase, TaskState};
 
 /// The most requests that a Turn puts in.
 const MOST_ADDITIONS: usize = 32;
@@ -47,6 +47,43 @@ fn any_goes_on(tasks: &[TaskState]) -> bool
     ensures { result ≡ list_any (λ x. steps.goes_on x.phase) tasks.now }
 {
     tasks.iter().any(|state| goes_on(&state.phase))
+}
+
+/// Whether a task in this phase has a request on its way.
+fn is_on_its_way(phase: &Phase) -> bool
+    ensures { result ≡ steps.is_on_its_way phase.now }
+{
+    matches!(phase, Phase::ToSend | Phase::Sent)
+}
+
+/// Whether some task has a request on its way.
+pub(crate) fn any_on_its_way(tasks: &[TaskState]) -> bool
+    ensures { result ≡ list_any (λ x. steps.is_on_its_way x.phase) tasks.now }
+{
+    tasks.iter().any(|state| is_on_its_way(&state.phase))
+}
+
+/// That an owner is told, if there is one to tell.
+pub(crate) fn tell_call(
+    alloc: Global,
+    known: u32,
+    owner: &Option<(TaskId, Res)>,
+) -> Result<Prepared, NoMemory>
+    ensures { IfOk result (λ prepared. prepared ≡ steps.prepared_by known (tell_by owner.now)) }
+{
+    let Some((task, res)) = owner else {
+        return Ok(Prepared::Nothing);
+    };
+    Ok(Prepared::Call(Call {
+        known,
+        act: Act::Tell {
+            to: task.system,
+            mail: Mail::Granted {
+                task: *task,
+                res: res.copy(alloc)?,
+            },
+        },
+    }))
 }
 
 impl NodeState {

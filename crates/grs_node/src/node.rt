@@ -1,6 +1,7 @@
 //! A system with its deck and what it keeps of its own events. A choice is prepared; it makes at most one call
 //! of the medium, which somebody else carries out; and with the reply it is finished.
 ghost use Rattle.std.specs.Prelude.{◌≡◌, ◌<◌, ◌≤◌, ◌++◌, ◌∷◌, [], None, Some, true, false, take, drop, length, IfOk, IfSome, IfNone, IsOk, OnOk};
+ghost use Rattle.std.specs.List.{list_any};
 ghost use Rattle.grs_base.specs.Limits.{most_additions, most_systems};
 ghost use Rattle.grs_wire.specs.Decks.{IsBounded};
 ghost use Rattle.task_state.specs.Units.{counted, reserved_of};
@@ -10,22 +11,20 @@ ghost use Rattle.grs_node.specs.Finish.{MayFinish, may_come};
 ghost use Rattle.grs_node.specs.Addressed.{is_addressed};
 ghost use Rattle.grs_wire.specs.Unseen.{unseen};
 ghost use Rattle.grs_node.specs.Room.{needs_no_memory, takes_no_memory, is_call, next_for, HasRoomFor};
-ghost use Rattle.grs_node.specs.Star.{tell_by};
 ghost use Rattle.grs_node.specs.TurnCalls.{turn_of, take_of};
 ghost use Rattle.grs_wire.specs.declared.deck.Choice.TheVariants.{Turn, Take, Tell};
 ghost use Rattle.grs_wire.specs.declared.medium.Reply.TheVariants.{Turned, Stale};
 ghost use Rattle.grs_node.specs.Log.{shown, starting, stepped, finished, end_in};
 ghost use Rattle.grs_node.specs.declared.prepared.Prepared.TheVariants.{Quiet, Call, Nothing};
 
+use super::choices::{any_on_its_way, tell_call};
 use super::lines::end_by;
 use super::prepared::Prepared;
 use super::ready::{Ready, ToldNext, make_room, needs_no_memory};
 use super::scripts::{Script, names_of, scripts_of};
 use super::state::NodeState;
-use grs_base::{List, NoMemory, Res, SysId, TaskId, copy_all};
-use grs_wire::{
-    Act, Call, Choice, Deck, Fixed, Mail, Reply, Req, RingEntry, StepDone, TaskEnd, ToldLine,
-};
+use grs_base::{List, NoMemory, SysId, TaskId, copy_all};
+use grs_wire::{Choice, Deck, Fixed, Reply, Req, RingEntry, StepDone, TaskEnd, ToldLine};
 use scope_resolve::Resolver;
 use std::alloc::Global;
 use std::marker::Model;
@@ -87,25 +86,6 @@ fn step_of(
         fixed,
         told,
     })
-}
-
-/// That an owner is told, if there is one to tell.
-fn tell_call(alloc: Global, known: u32, owner: &Option<(TaskId, Res)>) -> Result<Prepared, NoMemory>
-    ensures { IfOk result (λ prepared. prepared ≡ steps.prepared_by known (tell_by owner.now)) }
-{
-    let Some((task, res)) = owner else {
-        return Ok(Prepared::Nothing);
-    };
-    Ok(Prepared::Call(Call {
-        known,
-        act: Act::Tell {
-            to: task.system,
-            mail: Mail::Granted {
-                task: *task,
-                res: res.copy(alloc)?,
-            },
-        },
-    }))
 }
 
 impl<'d> Node<'d> {
@@ -243,8 +223,8 @@ impl<'d> Node<'d> {
         }
     }
 
-    /// What a choice comes to. Of the system it changes nothing but for how much there is room. A call goes to systems of the deck and to
-    /// lock entries that there are, and removes another system alone; and for a reply to it by which little happens there is room then.
+    /// What a choice comes to. It changes nothing of the system but what that has ready. A call goes to systems of the deck and to lock
+    /// entries that there are, and removes another system alone; and for a reply to it by which little happens there is room then.
     pub fn prepare(&mut self, choice: &Choice) -> Result<Prepared, NoMemory>
         ensures prepared { IfOk result (λ prepared. prepared ≡ steps.prepare self.old.deck self.old.node choice.now) }
         ensures addressed { IfOk result (λ prepared. is_addressed self.old.deck self.old.node.tasks.system prepared ≡ true) }
@@ -627,6 +607,13 @@ impl<'d> Node<'d> {
         ensures { result ≡ steps.is_pending self.now.deck self.now.node }
     {
         self.state.is_pending(self.deck)
+    }
+
+    /// Whether some task has a request on its way: one that waits to be put in or sent, or isn't answered yet.
+    pub fn awaits_answer(&self) -> bool
+        ensures { result ≡ list_any (λ x. steps.is_on_its_way x.phase) self.now.node.tasks.tasks }
+    {
+        any_on_its_way(self.state.tasks.all())
     }
 
     /// How often each unit is reserved in hardware, by unit, without those that aren't reserved.
