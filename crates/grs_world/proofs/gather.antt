@@ -15,3 +15,4 @@ pub mod Notices
 pub mod Again
 pub mod StaysSent
 pub mod way
+pub mod once

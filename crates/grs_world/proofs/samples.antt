@@ -14,3 +14,4 @@ pub mod GatherSamples
 pub mod LossSamples
 pub mod WaySamples
 pub mod StopSamples
+pub mod HandsSamples

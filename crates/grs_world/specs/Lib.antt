@@ -16,5 +16,6 @@ pub mod Gone
 pub mod Again
 pub mod Noticed
 pub mod OnTheWay
+pub mod InHands
 pub mod InStar
 pub mod Stopped

@@ -9,6 +9,7 @@ ghost use Rattle.grs_world.specs.AtRest.{RestsInTheEnd};
 ghost use Rattle.grs_world.specs.Changing.{ChangesFixNothing};
 ghost use Rattle.grs_world.specs.Fixing.{EventFixes};
 ghost use Rattle.grs_world.specs.Gone.{KnownAreGone, ActsWithoutGone};
+ghost use Rattle.grs_world.specs.InHands.{AnswersAreNoticed, RequestsSettleOnce};
 ghost use Rattle.grs_world.specs.InStar.{NoneInStar, NoneTakesEntries};
 ghost use Rattle.grs_world.specs.Interest.{WordsAreManaged, WordsGoWithSystems};
 ghost use Rattle.grs_world.specs.Kept.{KeptArePlaces, KeptArePlacesThen, ManagersKeepWell, ShownArePlaces, ShownHaveRanks};
@@ -210,6 +211,22 @@ pub fn notices_send_again()
 /// event of that system that takes neither a notice nor an answer to a task of its place.
 pub fn sent_requests_stay()
     ensures { (deck : Deck) → (events : List Event) (next : Event) → SentStays deck events next }
+{}
+
+/// In every run of a deck that begins in star mode and fits it, whichever systems are removed, each request in the hands of a
+/// live system, held or in its inbox, is what its task has sent and isn't answered, if the task's system is live. It is of an
+/// entry that the system manages by its word, and in which the task's system has interest; it is the only one there of that
+/// task; and in the inbox of the task's system are no answer to the task and no notice of the entry. Each answer in a live
+/// system's inbox is to what its task has sent; it is the only one to that task, and no notice of the entry stands in front of
+/// it. So what a notice makes a task send again is in no live system's hands, and no answer to it is still to be taken.
+pub fn requests_settle_once()
+    ensures { (deck : Deck) → deck.star ≡ true → FitsStar deck → (events : List Event) → RequestsSettleOnce deck events }
+{}
+
+/// And behind each answer in a live system's inbox to a request of an entry whose manager, by its word, is live and doesn't
+/// manage it yet, a notice of the entry has still to be taken there.
+pub fn answers_come_first()
+    ensures { (deck : Deck) → deck.star ≡ true → FitsStar deck → (events : List Event) → AnswersAreNoticed deck events }
 {}
 
 /// No line is told by a system that was removed before that event, to a task or at its desk.

@@ -162,7 +162,7 @@ module _ (words : List ℕ) (x : ℕ) (c : SysId) (there : x < length words) (ma
       go false f = other-manager e f
 
 -- ---- a system is removed
-also-more : (set t u : ℕ) → has set u ≡ true → has (with_also set t) u ≡ true
+pub also-more : (set t u : ℕ) → has set u ≡ true → has (with_also set t) u ≡ true
 also-more set t u h = go (ℕ_discrete u t)
   where
     go : Dec (u ≡ t) → has (with_also set t) u ≡ true

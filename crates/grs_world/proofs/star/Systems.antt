@@ -22,6 +22,7 @@ use Rattle.grs_world.proofs.star.Ghosts.{ghosted, IsAt, IsOthers, at-other}
 use Rattle.grs_world.proofs.star.Members.{has_manager}
 use Rattle.grs_world.proofs.star.Shown.{AreApart, apart-lists}
 use Rattle.grs_wire.specs.declared.request.Fixed.TheVariants as fixing
+pub use Rattle.grs_world.specs.InHands.{requests_in}
 
 -- ---- what comes, by the mail
 abbrev pub news1 : Mail → News
@@ -33,15 +34,6 @@ news1 (Part e from records) = Silent
 
 abbrev pub news_of : List Mail → List News
 news_of ms = map news1 ms
-
--- the requests among mail
-abbrev pub requests_in : List Mail → List Req
-requests_in [] = []
-requests_in (Request e from q ∷ ms) = q ∷ requests_in ms
-requests_in (Answered t answer rank ∷ ms) = requests_in ms
-requests_in (Granted t r ∷ ms) = requests_in ms
-requests_in (Notice target moved ∷ ms) = requests_in ms
-requests_in (Part e from records ∷ ms) = requests_in ms
 
 -- whether a task's last item is still to come
 abbrev pub is_late : TaskId → List RunItem → Bool

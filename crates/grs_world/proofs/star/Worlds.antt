@@ -22,6 +22,7 @@ use Rattle.grs_world.proofs.star.Under.{under, under-other}
 use Rattle.grs_world.proofs.run.Site.{Site, site-below, each_site}
 use Rattle.grs_world.proofs.run.Placed.{of_world, world_then}
 use Rattle.grs_wire.specs.declared.request.Fixed.TheVariants as fixing
+pub use Rattle.grs_world.specs.InHands.{in_hands}
 
 -- a request is one of these
 abbrev pub IsIn : Req → List Req → Type 0
@@ -52,10 +53,6 @@ pub record Hands (deck : Deck) (words : List ℕ) (live : ℕ → Bool) (later :
     Type 0 where
   pub each : AllHands deck words live later out m qs
   pub apart : stand_apart (askers qs) ≡ true
-
--- What is in a system's hands: what it holds, and then what comes.
-abbrev pub in_hands : StarPart → List Mail → List Req
-in_hands p ms = p.held ++ requests_in ms
 
 -- the live systems of a world
 abbrev pub are_live : World → ℕ → Bool

@@ -84,6 +84,41 @@ module _ (m : MediumState) (c : SysId) where
       send_at : Option ℕ → Need
       send_at o = send_to p (request_of t a) o
 
+  -- who is answered that a request went to the manager has none either
+  no-sent : (b : Bool) → replies.Sent ≡ cond b replies.Yours replies.Old → (X : Type 0) → X
+  no-sent true e X = absurd (cc)
+  no-sent false e X = absurd (cc)
+
+  sent-row : (x : ℕ) (q : Req) → replies.Sent ≡ (row m c (acts.Submit x q)).0 → noticed x (inbox m c.0) ≡ false
+  unfolding row submit_row
+  sent-row x q =
+      by_test (λ (z : Reply × MediumState). replies.Sent ≡ z.0 → noticed x (inbox m c.0) ≡ false)
+      (is_noticed m c x) (notice_reply m c x, m) _
+      (λ yes e. no-sent (manages_there m c x) e (noticed x (inbox m c.0) ≡ false)) (λ no e. no)
+
+  pub sent-clear : (deck : Deck) (n : NodeState) (p : StarPart) → n.star ≡ Some p → has m.removed c.0 ≡ false
+      → (t : TaskId) (a : Asked) (x : ℕ) → IsToSend deck n p t a x
+      → replied replies.Sent ≡ result_of m c (prepare deck n (choices.Send t)) → noticed x (inbox m c.0) ≡ false
+  unfolding prepare star_call
+  sent-clear deck n p star alive t a x asked was =
+      each_heard m c (record { known = n.known; act = acts.Submit x (request_of t a) })
+      (λ (z : Reply × MediumState). replies.Sent ≡ z.0 → noticed x (inbox m c.0) ≡ false) alive (λ e. absurd (cc))
+      (sent-row x (request_of t a))
+      (same-reply _ _
+      (was
+      ∙ (ap (λ o. result_of m c (star_call deck n o (choices.Send t))) star
+      ∙ (ap (λ b. result_of m c (prepared_by n.known (cond b (send_of p t (state_of n.tasks t).outstanding) Idle)))
+      asked.may
+      ∙ (ap (λ o. result_of m c (prepared_by n.known (send_of p t o))) asked.asks
+      ∙ (ap (λ o. result_of m c (prepared_by n.known (send_at o))) asked.entry
+      ∙ ap (λ b.
+      result_of m c
+      (prepared_by n.known (cond b Idle (Asks (acts.Submit x (request_of t a))))))
+      asked.settled))))))
+    where
+      send_at : Option ℕ → Need
+      send_at o = send_to p (request_of t a) o
+
   -- who leaves an entry has none either
   pub leave-clear : (deck : Deck) (n : NodeState) (p : StarPart) → n.star ≡ Some p → has m.removed c.0 ≡ false → (x : ℕ)
       → may_leave p n.tasks x ≡ true → replied replies.Left ≡ result_of m c (prepare deck n (choices.Leave x))
