@@ -15,4 +15,5 @@ pub mod Notices
 pub mod Again
 pub mod StaysSent
 pub mod way
+pub mod Slots
 pub mod once

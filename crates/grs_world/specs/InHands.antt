@@ -1,8 +1,9 @@
 -- Where a request is that a task has sent and that isn't answered yet, in a complex that is in star mode: in the hands
 -- of its lock entry's manager; or settled, so that the answer is in the inbox of the task's system; or in neither,
--- where the system was removed in whose hands it was, and a notice says so.
-use Rattle.std.specs.Prelude.{[], ◌≡◌, ◌≤◌, ◌<◌, ◌==◌, ◌&&◌, ◌||◌, ◌∷◌, ◌++◌, Bool, cond, false, filter, length, List}
-use Rattle.std.specs.Prelude.{not, slice_get, Some, true, ℕ}
+-- where the system was removed in whose hands it was, and a notice says so. And where the mail stands that tells tasks
+-- control.
+use Rattle.std.specs.Prelude.{[], ◌≡◌, ◌≤◌, ◌<◌, ◌==◌, ◌&&◌, ◌||◌, ◌∷◌, ◌++◌, Bool, cond, false, filter, is_some}
+use Rattle.std.specs.Prelude.{length, List, nat_lt, not, slice_get, Some, true, ℕ}
 use Rattle.std.specs.List.{list_any}
 use Rattle.contention_mgr.specs.Manager.{entry_wanted}
 use Rattle.grs_base.specs.declared.resource.SysId.{SysId}
@@ -17,11 +18,12 @@ use Rattle.grs_wire.specs.declared.deck.Event.{Event}
 use Rattle.grs_wire.specs.declared.medium.Mail.{Mail}
 use Rattle.grs_wire.specs.declared.medium.Mail.TheVariants.{Answered, Granted, Notice, Part, Request}
 use Rattle.grs_wire.specs.declared.request.Req.{Req}
+use Rattle.lock_structure.specs.Entries.{entry_of_res, is_entry}
 use Rattle.lock_structure.specs.Laws.{is_interested, manager_at}
 use Rattle.star_client.specs.Client.{has_sent}
 use Rattle.task_state.specs.View.{state_of, TasksView}
 use Rattle.task_state.specs.declared.state.Asked.{Asked}
-use Rattle.grs_world.specs.OnTheWay.{Stance, stance_at}
+use Rattle.grs_world.specs.OnTheWay.{kept_of, Stance, stance_at}
 use Rattle.grs_world.specs.World.{run, World}
 
 -- ---- requests and answers
@@ -117,3 +119,28 @@ AnswersAreNoticed deck es =
     → HasSent deck (run deck es).medium.words k.tasks t a e → manager_at (run deck es).medium.words e ≡ Some m
     → stance_at (run deck es) e m.0 ≡ Some M → M.manages ≡ false
     → noticed e (inbox (run deck es).medium t.system.0) ≡ true
+
+-- ---- control of the resources of an entry
+-- whether a mail tells a task control of a resource of this entry, where there are n entries
+abbrev pub is_control_of : ℕ → ℕ → Mail → Bool
+is_control_of n e (Granted t r) = is_entry e (entry_of_res n r)
+is_control_of n e mail = false
+
+-- whether one of these mails does behind which no notice of the entry stands
+abbrev pub is_told_late : ℕ → ℕ → List Mail → Bool
+is_told_late n e [] = false
+is_told_late n e (y ∷ ms) = (is_control_of n e y && not (noticed e ms)) || is_told_late n e ms
+
+-- Whether the part of system u is on its way to one that stands so to the entry: u has still to take a notice of it, or
+-- owes its part, or sent it there, or it is kept there.
+abbrev pub is_expected : ℕ → Stance → Stance → Bool
+is_expected u M U =
+    is_some U.notice
+    || (is_some U.owes || (nat_lt 0 (length (M.coming u)) || nat_lt 0 (length (kept_of M.gathering u))))
+
+-- Then no control of the entry's resources comes behind the notices that u has of it.
+abbrev pub ControlComesFirst : Deck → List Event → Type 0
+ControlComesFirst deck es =
+    (e : ℕ) (m u : SysId) (M U : Stance) → e < deck.entries → (m.0 == u.0) ≡ false
+    → stance_at (run deck es) e m.0 ≡ Some M → stance_at (run deck es) e u.0 ≡ Some U → is_expected u.0 M U ≡ true
+    → is_told_late deck.entries e (inbox (run deck es).medium u.0) ≡ false

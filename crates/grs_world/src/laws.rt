@@ -9,7 +9,7 @@ ghost use Rattle.grs_world.specs.AtRest.{RestsInTheEnd};
 ghost use Rattle.grs_world.specs.Changing.{ChangesFixNothing};
 ghost use Rattle.grs_world.specs.Fixing.{EventFixes};
 ghost use Rattle.grs_world.specs.Gone.{KnownAreGone, ActsWithoutGone};
-ghost use Rattle.grs_world.specs.InHands.{AnswersAreNoticed, RequestsSettleOnce};
+ghost use Rattle.grs_world.specs.InHands.{AnswersAreNoticed, ControlComesFirst, RequestsSettleOnce};
 ghost use Rattle.grs_world.specs.InStar.{NoneInStar, NoneTakesEntries};
 ghost use Rattle.grs_world.specs.Interest.{WordsAreManaged, WordsGoWithSystems};
 ghost use Rattle.grs_world.specs.Kept.{KeptArePlaces, KeptArePlacesThen, ManagersKeepWell, ShownArePlaces, ShownHaveRanks};
@@ -223,10 +223,17 @@ pub fn requests_settle_once()
     ensures { (deck : Deck) → deck.star ≡ true → FitsStar deck → (events : List Event) → RequestsSettleOnce deck events }
 {}
 
-/// And behind each answer in a live system's inbox to a request of an entry whose manager, by its word, is live and doesn't
-/// manage it yet, a notice of the entry has still to be taken there.
+/// In every such run, as long as the manager of an entry, by its word, is live and doesn't manage the entry yet, a notice of it
+/// has still to be taken behind each answer in a live system's inbox to a request of the entry.
 pub fn answers_come_first()
     ensures { (deck : Deck) → deck.star ≡ true → FitsStar deck → (events : List Event) → AnswersAreNoticed deck events }
+{}
+
+/// In every such run no task is told control behind the notices: a system that has a notice of an entry to take, or owes its
+/// part of it, or whose part is under way to another live system or kept there, has no mail that tells a task control of a
+/// resource of the entry but in front of a notice of the entry.
+pub fn control_comes_first()
+    ensures { (deck : Deck) → deck.star ≡ true → FitsStar deck → (events : List Event) → ControlComesFirst deck events }
 {}
 
 /// No line is told by a system that was removed before that event, to a task or at its desk.

@@ -9,3 +9,6 @@ pub mod Silent
 pub mod Removes
 pub mod Hushed
 pub mod Run
+pub mod Control
+pub mod Controls
+pub mod ControlRun

@@ -213,20 +213,20 @@ asker_gone = (refl, refl, refl, refl, refl, refl, refl, refl, refl, refl)
 -- The manager's task gives the resource up (event 17), so the second system's task and the third one's first share it.
 -- The second's is mailed control (18), and lies behind its answer; the third's isn't yet, when the third system removes
 -- the manager (19).
-abbrev control_comes : Deck
+abbrev pub control_comes : Deck
 control_comes =
     at_desk 2 (vary 0 ∷ [])
     (star_of (((one ∷ deq 66 Systems ∷ []) ∷ []) ∷ ((share ∷ []) ∷ [])
     ∷ ((share ∷ []) ∷ (enq 66 E Systems RetEcb ∷ []) ∷ []) ∷ []))
 
-abbrev one_mailed : List Event
+abbrev pub one_mailed : List Event
 one_mailed =
     goes 0 0 ∷ sends 0 0 ∷ goes 1 0 ∷ sends 1 0 ∷ takes 0 ∷ settles 0 ∷ goes 2 0 ∷ sends 2 0 ∷ takes 0 ∷ settles 0
     ∷ goes 2 1 ∷ sends 2 1 ∷ takes 0 ∷ settles 0 ∷ takes 2 ∷ goes 0 0 ∷ sends 0 0 ∷ tells 0 ∷ []
 
 -- The second system is told who is removed (20); it takes the answer, control and the notice (23). The third takes its
 -- ECB's answer and the notice (25), and sends its part (26).
-abbrev second_took : List Event
+abbrev pub second_took : List Event
 second_took = one_mailed ++ purges 2 0 ∷ takes 1 ∷ takes 1 ∷ takes 1 ∷ takes 1 ∷ []
 
 abbrev third_took : List Event

@@ -1,4 +1,5 @@
--- Where the requests of tasks are in a worked run by which a manager is removed, told by hand.
+-- Where the requests of tasks, and what tells tasks control, are in worked runs by which a manager is removed, told by
+-- hand.
 use Rattle.grs_world.proofs.Common.{[], ◌++◌, ◌∷◌, ◌≡◌, after_code, after_mail, apply, ask, Bool, carry_out, chosen}
 use Rattle.grs_world.proofs.Common.{decide_own, departed, desk_told, end_step, Event, false, finish, finish_call}
 use Rattle.grs_world.proofs.Common.{finish_quiet, finish_star, first_node, first_world, happens, happens_at, has}
@@ -12,16 +13,19 @@ use Rattle.grs_world.proofs.Common.{tell_code, tell_control, tell_each, tell_lin
 use Rattle.grs_world.proofs.Common.{took_mail, true, with_also, with_exclusive, with_line, with_outstanding, with_phase}
 use Rattle.grs_world.proofs.Common.{with_rank, with_record, with_state, with_told, without, without_record, ℕ}
 use Rattle.lock_structure.specs.Purge.{purged_word}
-use Rattle.grs_world.proofs.samples.GatherSamples.{all_asked, all_there, manager_goes, without_manager}
+use Rattle.grs_world.proofs.samples.GatherSamples.{all_asked, all_there, control_comes, manager_goes, one_mailed}
+use Rattle.grs_world.proofs.samples.GatherSamples.{second_took, without_manager}
+use Rattle.grs_world.proofs.samples.RemovalSamples.{purges}
 use Rattle.grs_world.proofs.samples.Samples.{task_of}
 use Rattle.grs_world.proofs.samples.StarSamples.{sends, settles, takes, tells}
-use Rattle.grs_world.specs.InHands.{asked_by, in_hands, is_answered_once}
+use Rattle.grs_world.specs.InHands.{asked_by, in_hands, is_answered_once, is_control_of, is_told_late}
 use Rattle.grs_base.specs.declared.resource.TaskId.{TaskId}
 use Rattle.grs_medium.specs.Medium.{inbox}
 use Rattle.grs_node.specs.Node.{NodeState}
 use Rattle.grs_wire.specs.Notices.{noticed}
 use Rattle.grs_wire.specs.declared.medium.Mail.{Mail}
 use Rattle.grs_wire.specs.declared.request.Req.{Req}
+use Rattle.std.specs.List.{list_any}
 use Rattle.std.specs.Option.{option_map_or}
 use Rattle.std.specs.Prelude.{slice_get}
 use Rattle.grs_wire.specs.declared.request.Answer.TheVariants as answers
@@ -64,3 +68,28 @@ unfolding state_of with_state with_line with_phase with_outstanding with_record 
     purged_word submit_row take_row mail_row leave_row purge_row row apply departed first_node first_world carry_out
     chosen placed happens_at happens
 one_settles = (refl, refl, refl)
+
+-- whether a mail in the inbox of system s tells a task control of a resource of the only entry; whether one does behind
+-- which no notice of the entry stands; and whether there is a notice
+abbrev control_at : ℕ → List Event → Bool × Bool × Bool
+control_at s es =
+    let ms = inbox (run control_comes es).medium s in
+    (list_any (is_control_of 1 0) ms, is_told_late 1 0 ms, noticed 0 ms)
+
+abbrev manager_left : List Event
+manager_left = one_mailed ++ purges 2 0 ∷ []
+
+-- The second system's task is mailed control (18), and then its manager is removed (19). The second takes its answer
+-- (21), control and the notice (23).
+pub control_in_front :
+    map (control_at 1) (one_mailed ∷ manager_left ∷ (manager_left ++ takes 1 ∷ takes 1 ∷ []) ∷ second_took ∷ [])
+    ≡ (true, true, false) ∷ (true, false, true) ∷ (true, false, true) ∷ (false, false, false) ∷ []
+unfolding state_of with_state with_line with_phase with_outstanding with_record without_record with_told
+    with_exclusive with_rank telling tell_code record_enq after_code replied passes_wait tell_line tell_untold
+    tell_control tell_all tell_new recalled tell_answer tell_answer_any tell_answer_ranked after_mail decide_own
+    took_mail post ask take_line end_step ready_step phase_step may_go may_send star_call prepare finish_quiet
+    finish_star finish_call finish desk_told purged stale losing members_below lose_each take_up_below move_each
+    tell_each has without with_also manager lock_word submitted leave_reply leave_changes left_word route
+    purged_word submit_row take_row mail_row leave_row purge_row row apply departed first_node first_world carry_out
+    chosen placed happens_at happens
+control_in_front = refl
