@@ -161,6 +161,7 @@ pub(crate) fn ran<R: Threads + Wait + Sync, G: Gate + Sync>(
     rests_in_the_end();
     let ran = run_workers(rt, alloc, deck, gate)?;
     let seen = seen_of(alloc, deck, &ran.medium, ran.journal.as_slice(), &ran.nodes)?;
+    drop(ran);
     report_due(alloc, deck, &seen)
 }
 
