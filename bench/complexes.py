@@ -80,27 +80,27 @@ def ring(name, events, control="S"):
 # Decks of systems that run beside each other, and so without a schedule
 
 def lines_beside(kind, system, task):
-    """The lines of a task that asks for a resource and gives it back, four times: one of its system alone, or in `few` one of eight
-    that the whole complex shares."""
+    """The lines of a task that asks for a resource and gives it back, four times: in `own` one of its system alone, in `many` one that
+    nobody else asks for, and else one of eight that the whole complex shares. In `shown` one task of 16 shows all lists on the way."""
     for pair in range(4):
-        if kind == "own":
-            yield "ENQ (Q,R%d,E,SYSTEM)" % task
-            yield "DEQ (Q,R%d,SYSTEM)" % task
-        else:
-            name = "R%d" % ((system + task + pair) % 8)
-            yield "ENQ (Q,%s,E,SYSTEMS)" % name
-            yield "DEQ (Q,%s,SYSTEMS)" % name
+        name = "R%d" % (task if kind == "own" else (system + task + pair) % 8)
+        name = "R%d.%d.%d" % (system, task, pair) if kind == "many" else name
+        scope = "SYSTEM" if kind == "own" else "SYSTEMS"
+        yield "ENQ (Q,%s,E,%s)" % (name, scope)
+        if kind == "shown" and task % 16 == 0 and pair == 1:
+            yield from ("GQSCAN SCOPE=GLOBAL", "DISPLAY GRS,C")
+        yield "DEQ (Q,%s,%s)" % (name, scope)
 
 
-def beside(mode, kind, systems, at):
-    """So many systems: a `ring`, a `star`, a ring that becomes a star (`move`), or one of which the last system is removed
-    (`removal`), by the first one's desk behind so many of its events."""
-    rows = ["COMPLEX MODE(STAR) ENTRIES(64)"] if mode == "star" else []
+def beside(mode, kind, systems, at, tasks=TASKS, entries=64):
+    """So many systems: a `ring`, a `star` of so many lock entries, a ring that becomes a star (`move`), or one of which the last system is
+    removed (`removal`), by the first one's desk behind so many of its events."""
+    rows = ["COMPLEX MODE(STAR) ENTRIES(%d)" % entries] if mode == "star" else []
     desk = {"move": "AT %d SETGRS MODE=STAR" % at, "removal": "AT %d VARY GRS(S%d),PURGE" % (at, systems - 1)}
     for system in range(systems):
         rows += ["SYSTEM S%d" % system]
         rows += [desk[mode]] if mode in desk and system == 0 else []
         rows += ["JOB J"]
-        for task in range(TASKS):
+        for task in range(tasks):
             rows += ["TASK T%d" % task, *lines_beside(kind, system, task)]
     return "".join(row + "\n" for row in rows)
