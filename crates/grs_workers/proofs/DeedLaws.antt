@@ -2,9 +2,11 @@
 use Rattle.std.proofs.Common.{◌≡◌, ℕ, ◌+◌, Bool, true, false, cond, not, ◌||◌, List, [], ◌∷◌, ◌++◌, length, Option}
 use Rattle.std.proofs.Common.{Some, None, refl, ap, sym, ◌∙◌, subst, inl, inr, arith, append_assoc, append-nil}
 use Rattle.std.proofs.Common.{length-append, zero-add, add-zero}
+use Rattle.std.specs.Prelude.{Result, Ok, Err, IsOk}
 use Rattle.std.specs.List.{count_by, list_any}
 use Rattle.std.proofs.Math.Bool.{or-true}
 use Rattle.std.proofs.lemmas.List.Sums.{sum_by-append}
+use Rattle.grs_base.specs.declared.fault.NoMemory.{NoMemory}
 use Rattle.grs_base.specs.declared.resource.SysId.{SysId}
 use Rattle.grs_bus.specs.Journal.{is_entered, entry_of, after_all}
 use Rattle.grs_bus.specs.Seats.{SeatValue, IsAnswered}
@@ -13,6 +15,7 @@ use Rattle.grs_wire.specs.Replies.{leaves_all}
 use Rattle.grs_node.specs.Log.{NodeView, step_done, finished}
 use Rattle.grs_workers.specs.Makes.{Makes}
 use Rattle.grs_node.specs.Node.{NodeState, prepare, finish}
+use Rattle.grs_node.specs.Room.{takes_no_memory}
 use Rattle.grs_node.specs.declared.prepared.Prepared.TheVariants.{Call}
 use Rattle.grs_medium.proofs.Replies.{replies_are_listed}
 use Rattle.grs_medium.specs.Apply.{reply_to}
@@ -24,7 +27,7 @@ use Rattle.grs_wire.specs.declared.medium.Call.{Call as MediumCall}
 use Rattle.grs_wire.specs.declared.medium.JEntry.{JEntry}
 use Rattle.grs_wire.specs.declared.medium.Reply.{Reply}
 use Rattle.grs_workers.specs.Stands.{Stand, journalled_steps, quiet_steps, Agrees, Deed, is_last, IsAlone, IsCalled}
-use Rattle.grs_workers.specs.Stands.{IsDone, IsDoneBy, Does}
+use Rattle.grs_workers.specs.Stands.{IsDone, IsDoneBy, Does, IsGivenUp}
 use Rattle.grs_workers.specs.Rounds.{most_events, made, Went, Grew}
 use Rattle.grs_workers.proofs.LeftOut.{leaves_all-left_out}
 
@@ -46,6 +49,33 @@ may_finish node seat after choice call told prepared a = (
       ap (λ (b : Bool). told.1 || b)
       (ap leaves_all a.reply ∙ leaves_all-left_out (after_all seat.bus.first a.journal) seat.system call is)
       ∙ or-true told.1
+
+-- ---- why memory was wanting
+
+not_true : (b : Bool) → ¬ (b ≡ true) → b ≡ false
+not_true true h = absurd (h refl)
+not_true false h = refl
+
+not_false : (b : Bool) → ¬ (b ≡ false) → b ≡ true
+not_false true h = refl
+not_false false h = absurd (h refl)
+
+refused-ok : {A : Type 0} (r : Result A NoMemory) (e : NoMemory) → r ≡ Err e → ¬ IsOk r
+refused-ok (Ok x) e is ok = absurd (cc)
+refused-ok (Err f) e is ok = absurd (cc)
+
+-- where the system was refused memory behind its answered call, which it never is where the call wasn't entered, nor
+-- for a reply for which it takes none
+pub given_up-answered : {A : Type 0} (v : Stand) (after : SeatValue) (call : MediumCall) (told : Reply × Bool)
+    (r : Result A NoMemory) (e : NoMemory) → r ≡ Err e → IsAnswered v.seat call told after → (told.1 ≡ false → IsOk r)
+    → (takes_no_memory v.node.node told.0 ≡ true → IsOk r) → IsGivenUp v call after
+given_up-answered v after call told r e is answered unentered sure =
+    inr (
+      told,
+      answered,
+      not_false told.1 (λ h. refused-ok r e is (unentered h)),
+      not_true (takes_no_memory v.node.node told.0) (λ h. refused-ok r e is (sure h)),
+    )
 
 -- ---- counts
 

@@ -45,7 +45,7 @@ pub record Grew (v w : Stand) : Type 0 where
   pub own : w.seat.own ≡ v.seat.own ++ entries
   pub makes : Makes v.node.deck v.node.node steps entries w.node.node
 
--- whether a round's outcome is that the worker was answered Over or Removed
+-- whether the outcome of a round or a stretch is that the worker was answered Over or Removed
 abbrev pub is_out : Result Bool NoMemory → Bool
 is_out (Ok out) = out
 is_out (Err e) = false

@@ -1,12 +1,15 @@
--- Where a worker stands, and what one event of it does.
-use Rattle.std.specs.Prelude.{◌≡◌, ◌+◌, ◌-◌, ◌^◌, ◌<◌, ℕ, min, not, ◌&&◌, List, [], ◌∷◌, length, Bool, true, false}
-use Rattle.std.specs.Prelude.{Option, Some, None}
+-- Where a worker stands, what its system may do next, and what one event of it does.
+use Rattle.std.specs.Prelude.{◌≡◌, ◌≢◌, ◌⊎◌, ◌+◌, ◌-◌, ◌^◌, ◌<◌, ℕ, min, not, ◌&&◌, List, [], ◌∷◌, length}
+use Rattle.std.specs.Prelude.{Bool, true, false, Option, Some, None}
 use Rattle.std.specs.List.{count_by}
-use Rattle.grs_bus.specs.Seats.{BusValue, SeatValue, IsSameSeat, IsAnswered}
+use Rattle.grs_bus.specs.Seats.{BusValue, SeatValue, IsSameSeat, IsAnswered, IsRefused}
 use Rattle.grs_medium.specs.Medium.{systems_of}
+use Rattle.grs_node.specs.Addressed.{is_addressed}
 use Rattle.grs_node.specs.Log.{NodeView, shown, starting, finished}
 use Rattle.grs_node.specs.Node.{is_pending, prepare}
-use Rattle.grs_node.specs.declared.prepared.Prepared.TheVariants.{Quiet, Call}
+use Rattle.grs_node.specs.Room.{HasRoomFor, is_call, takes_no_memory}
+use Rattle.grs_node.specs.declared.prepared.Prepared.{Prepared}
+use Rattle.grs_node.specs.declared.prepared.Prepared.TheVariants.{Nothing, Quiet, Call}
 use Rattle.grs_wire.specs.declared.deck.Choice.{Choice}
 use Rattle.grs_wire.specs.declared.deck.Choice.TheVariants.{Leave}
 use Rattle.grs_wire.specs.declared.deck.Deck.{Deck}
@@ -76,6 +79,20 @@ is_leave choice = false
 abbrev pub is_early : NodeView → Choice → Bool
 is_early v choice = is_leave choice && is_pending v.deck v.node
 
+-- the same system, whatever it has ready
+abbrev pub IsSameNode : NodeView → NodeView → Type 0
+IsSameNode v w = (w.deck ≡ v.deck) × (w.node ≡ v.node) × (w.log ≡ v.log)
+
+-- What a system may do as it stands: a choice, with what it comes to, which is something. A call goes to a system of
+-- the deck and to a lock entry that there is, and there is room for a reply to it by which little happens. Interest in
+-- a lock entry is given up only where nothing is pending.
+pub record MayDo (v : NodeView) (x : Choice × Prepared) : Type 0 where
+  pub prepared : x.1 ≡ prepare v.deck v.node x.0
+  pub some : x.1 ≢ Nothing
+  pub addressed : is_addressed v.deck v.node.tasks.system x.1 ≡ true
+  pub room : is_call x.1 ≡ true → HasRoomFor v x.0
+  pub in_time : is_early v x.0 ≡ false
+
 -- An event without a call.
 pub record IsAlone (v : Stand) (choice : Choice) (w : Stand) : Type 0 where
   pub prepared : prepare v.node.deck v.node.node choice ≡ Quiet
@@ -98,6 +115,14 @@ pub record IsCalled (v : Stand) (choice : Choice) (told : Reply × Bool) (w : St
 abbrev pub IsDoneBy : Stand → Choice → Option (Reply × Bool) → Stand → Type 0
 IsDoneBy v choice None w = IsAlone v choice w
 IsDoneBy v choice (Some told) w = IsCalled v choice told w
+
+-- For an event with this call memory was wanting: for the call, or behind it for a reply that was entered and for which
+-- its system takes memory though there is room.
+abbrev pub IsGivenUp : Stand → MediumCall → SeatValue → Type 0
+IsGivenUp v call after =
+    IsRefused v.seat after
+    ⊎ ((told : Reply × Bool) × IsAnswered v.seat call told after × (told.1 ≡ true)
+    × (takes_no_memory v.node.node told.0 ≡ false))
 
 -- one event leads from v to w
 abbrev pub IsDone : Stand → Deed → Stand → Type 0

@@ -1,14 +1,14 @@
-//! In which order a worker tries the choices of its system. No clause rests on it, but that interest in a lock entry is given up
-//! only where nothing is pending.
-ghost use Rattle.std.specs.Prelude.{◌≡◌, ◌≢◌, true, false, IfOk, IfSome};
-ghost use Rattle.grs_node.specs.Addressed.{is_addressed};
-ghost use Rattle.grs_node.specs.Node.{prepare, is_pending};
-ghost use Rattle.grs_node.specs.declared.prepared.Prepared.TheVariants.{Nothing};
-ghost use Rattle.grs_workers.specs.Stands.{is_leave, is_early};
+//! In which order a worker tries the choices of its system. Clauses say that the system may do what is picked (`MayDo`), and nothing of
+//! the order.
+ghost use Rattle.std.specs.Prelude.{◌≡◌, false, IfOk, IfSome};
+ghost use Rattle.grs_node.specs.Node.{is_pending};
+ghost use Rattle.grs_workers.specs.Stands.{is_leave, IsSameNode, MayDo};
+
+mod look_back;
 
 use grs_base::{List, NoMemory, SysId, TaskId};
 use grs_node::{Node, Prepared};
-use grs_wire::{Act, Call, Choice, Deck, Desk, JobDef, Mail, Order, Reply, StepDone, ToldLine};
+use grs_wire::{Act, Call, Choice, Deck, Desk, JobDef, Order};
 use std::alloc::Global;
 use std::collections::VecDeque;
 use std::thread;
@@ -175,39 +175,11 @@ fn to_order(order: Order) -> Choice
     }
 }
 
-/// The task that a line tells something.
-fn told_task(line: &ToldLine) -> Option<TaskId> {
-    match line {
-        ToldLine::Coded {
-            task,
-            k: _,
-            part: _,
-            verb: _,
-            code: _,
-        }
-        | ToldLine::Shown {
-            task,
-            k: _,
-            verb: _,
-            code: _,
-            rows: _,
-        }
-        | ToldLine::Post { task, k: _ }
-        | ToldLine::Ended { task, code: _ } => Some(*task),
-        ToldLine::Desk { k: _, said: _ } => None,
-    }
-}
-
 /// The choice that there always is: a turn in ring mode, and else a look into the inbox.
 #[tactic(auto, using(crate::proofs::Choices::choices))]
 fn turn_or_take(node: &mut Node<'_>) -> Result<(Choice, Prepared), NoMemory>
-    ensures deck { node.new.deck ≡ node.old.deck }
-    ensures node { node.new.node ≡ node.old.node }
-    ensures log { node.new.log ≡ node.old.log }
-    ensures prepared { IfOk result (λ x. x.1 ≡ prepare node.old.deck node.old.node x.0) }
-    ensures some { IfOk result (λ x. x.1 ≢ Nothing) }
-    ensures addressed { IfOk result (λ x. is_addressed node.old.deck node.old.node.tasks.system x.1 ≡ true) }
-    ensures in_time { IfOk result (λ x. is_early node.old x.0 ≡ false) }
+    ensures same { IsSameNode node.old node.new }
+    ensures may_do { IfOk result (MayDo node.new) }
 {
     match node.prepare(&Choice::Turn)? {
         Prepared::Nothing => Ok((Choice::Take, node.prepare(&Choice::Take)?)),
@@ -278,172 +250,6 @@ impl Agenda {
         }
     }
 
-    /// A call was answered Stale, so that what it asked is asked again.
-    fn ask_if_stale(&mut self) {
-        if self.stale {
-            self.stale = false;
-            self.at_rest = false;
-            self.then = Then::Turn;
-        }
-    }
-
-    /// Whether a system at rest is so still behind the event that was picked last: behind a rest, and a turn that only passed the message
-    /// on. The message comes to none at rest, so one that took itself for woken wouldn't rest again, and never be told that all is over.
-    fn keeps_rest(&self) -> bool {
-        matches!(self.last, Last::Turn | Last::Rest) && !self.brought
-    }
-
-    /// The event that was picked last is in the log, so that each choice may have something to do: also a rest, since behind one that was
-    /// answered Stale the system may have owners to tell. It fixed or told something, or didn't.
-    fn changed(&mut self, got_on: bool) {
-        match self.last {
-            Last::Turn | Last::Rest => self.busy = self.busy || got_on || self.brought,
-            Last::Nothing | Last::Choice | Last::Look => self.busy = true,
-            Last::Leave => {}
-        }
-        self.at_rest = self.at_rest && self.keeps_rest();
-        self.has_changed = true;
-        if !matches!(self.last, Last::Leave) {
-            self.entry = 0;
-        }
-        self.left = self.tries.len();
-        if matches!(self.then, Then::Nothing) {
-            self.then = Then::Rest;
-        }
-        self.ask_if_stale();
-        if !matches!(self.last, Last::Look) {
-            self.last = Last::Nothing;
-        }
-    }
-
-    /// The event that was picked last changed nothing.
-    fn unchanged(&mut self) {
-        match self.last {
-            Last::Leave => self.entry = self.entry.saturating_add(1),
-            Last::Choice => self.move_on(),
-            Last::Nothing | Last::Turn | Last::Look | Last::Rest => {}
-        }
-        self.last = Last::Nothing;
-    }
-
-    /// The system came into star mode, so that more choices can have something to do.
-    fn enter_star(&mut self) {
-        std::mem::swap(&mut self.tries, &mut self.later);
-        self.star = true;
-        self.at_rest = false;
-        self.next = 0;
-        self.left = self.tries.len();
-        self.then = Then::Turn;
-    }
-
-    /// The task of the last event may get on, and each other that it told something.
-    fn make_ready(&mut self, step: &StepDone) -> Result<(), NoMemory> {
-        let own = match step.choice {
-            Choice::Task(task) | Choice::Send(task) => Some(task),
-            _ => None,
-        };
-        if let Some(task) = own {
-            add_ready(&mut self.ready, task)?;
-        }
-        for line in step.told.as_slice() {
-            if matches!(line, ToldLine::Ended { task: _, code: _ }) {
-                self.open = self.open.saturating_sub(1);
-            }
-            match told_task(line) {
-                Some(task) if own != Some(task) => add_ready(&mut self.ready, task)?,
-                Some(_) | None => {}
-            }
-        }
-        Ok(())
-    }
-
-    /// In the lock entry of the last call's request there may be owners to tell.
-    fn keep_asked(&mut self) -> Result<(), NoMemory> {
-        let Some(entry) = self.asked else {
-            return Ok(());
-        };
-        self.asked = None;
-        match self.served.push_back(entry) {
-            Ok(()) => Ok(()),
-            Err(_) => Err(NoMemory),
-        }
-    }
-
-    /// Sees whether the event that was picked last changed the system.
-    fn look_back(&mut self, node: &Node<'_>) -> Result<(), NoMemory> {
-        if !self.star && node.known_at_turn().is_none() {
-            self.enter_star();
-        }
-        self.keep_asked()?;
-        let steps = node.log();
-        match steps.last() {
-            Some(step) if steps.len() != self.steps => {
-                self.steps = steps.len();
-                self.make_ready(step)?;
-                self.changed(step.fixed.len() != 0 || step.told.len() != 0);
-            }
-            Some(_) | None => self.unchanged(),
-        }
-        Ok(())
-    }
-
-    /// What the last call was replied. Where a lock entry has another manager than the system knows, the mail that says so lies in its
-    /// inbox, so that a look is due.
-    pub(crate) fn replied(&mut self, reply: &Reply) {
-        self.stale = matches!(reply, Reply::Stale { set: _ });
-        if matches!(reply, Reply::Yours | Reply::Old) {
-            self.ask();
-        }
-        self.brought = match reply {
-            Reply::Turned {
-                entries,
-                taken,
-                closed: _,
-            } => {
-                self.in_vain = entries.len() == 0 && *taken == 0;
-                !self.in_vain
-            }
-            Reply::Empty => {
-                self.in_vain = true;
-                false
-            }
-            Reply::Taken { mail: _ } => true,
-            _ => false,
-        };
-        self.asked = match reply {
-            Reply::Taken {
-                mail: Mail::Request {
-                    entry,
-                    from: _,
-                    req: _,
-                },
-            } => {
-                self.holds = true;
-                Some(*entry)
-            }
-            Reply::Sole => self.asked,
-            _ => None,
-        };
-    }
-
-    /// Whether it has come to rest, and nothing happened since that undoes that.
-    pub(crate) fn at_rest(&self) -> bool {
-        self.at_rest
-    }
-
-    /// The medium may have changed, so that a turn, or a look into the inbox, is due.
-    pub(crate) fn ask(&mut self) {
-        self.then = Then::Turn;
-    }
-
-    /// The system was woken, by others that had something for it, or since all others sleep.
-    pub(crate) fn wake(&mut self, alone: bool) {
-        self.ask();
-        self.in_vain = alone;
-        self.busy = false;
-        self.desk_was_tried = false;
-    }
-
     /// What the choice comes to, if it has something to do.
     fn try_choice(
         &mut self,
@@ -451,13 +257,8 @@ impl Agenda {
         choice: Choice,
     ) -> Result<Option<(Choice, Prepared)>, NoMemory>
         requires { is_leave choice ≡ false }
-        ensures deck { node.new.deck ≡ node.old.deck }
-        ensures node { node.new.node ≡ node.old.node }
-        ensures log { node.new.log ≡ node.old.log }
-        ensures prepared { IfOk result (λ o. IfSome o (λ x. x.1 ≡ prepare node.old.deck node.old.node x.0)) }
-        ensures some { IfOk result (λ o. IfSome o (λ x. x.1 ≢ Nothing)) }
-        ensures addressed { IfOk result (λ o. IfSome o (λ x. is_addressed node.old.deck node.old.node.tasks.system x.1 ≡ true)) }
-        ensures in_time { IfOk result (λ o. IfSome o (λ x. is_early node.old x.0 ≡ false)) }
+        ensures same { IsSameNode node.old node.new }
+        ensures may_do { IfOk result (λ o. IfSome o (MayDo node.new)) }
     {
         match node.prepare(&choice)? {
             Prepared::Nothing => Ok(None),
@@ -470,13 +271,8 @@ impl Agenda {
 
     /// The choice where the system is among the tries, if it has something to do. Else it goes on to the next one.
     fn try_here(&mut self, node: &mut Node<'_>) -> Result<Option<(Choice, Prepared)>, NoMemory>
-        ensures deck { node.new.deck ≡ node.old.deck }
-        ensures node { node.new.node ≡ node.old.node }
-        ensures log { node.new.log ≡ node.old.log }
-        ensures prepared { IfOk result (λ o. IfSome o (λ x. x.1 ≡ prepare node.old.deck node.old.node x.0)) }
-        ensures some { IfOk result (λ o. IfSome o (λ x. x.1 ≢ Nothing)) }
-        ensures addressed { IfOk result (λ o. IfSome o (λ x. is_addressed node.old.deck node.old.node.tasks.system x.1 ≡ true)) }
-        ensures in_time { IfOk result (λ o. IfSome o (λ x. is_early node.old x.0 ≡ false)) }
+        ensures same { IsSameNode node.old node.new }
+        ensures may_do { IfOk result (λ o. IfSome o (MayDo node.new)) }
     {
         if let Some(choice) = self.here() {
             if let Some(found) = self.try_choice(node, choice)? {
@@ -489,13 +285,8 @@ impl Agenda {
 
     /// The next of the choices that has something to do. Where nothing is pending none has.
     fn find(&mut self, node: &mut Node<'_>) -> Result<Option<(Choice, Prepared)>, NoMemory>
-        ensures deck { node.new.deck ≡ node.old.deck }
-        ensures node { node.new.node ≡ node.old.node }
-        ensures log { node.new.log ≡ node.old.log }
-        ensures prepared { IfOk result (λ o. IfSome o (λ x. x.1 ≡ prepare node.old.deck node.old.node x.0)) }
-        ensures some { IfOk result (λ o. IfSome o (λ x. x.1 ≢ Nothing)) }
-        ensures addressed { IfOk result (λ o. IfSome o (λ x. is_addressed node.old.deck node.old.node.tasks.system x.1 ≡ true)) }
-        ensures in_time { IfOk result (λ o. IfSome o (λ x. is_early node.old x.0 ≡ false)) }
+        ensures same { IsSameNode node.old node.new }
+        ensures may_do { IfOk result (λ o. IfSome o (MayDo node.new)) }
     {
         if self.left == 0 || !node.pending() {
             self.left = 0;
@@ -515,13 +306,8 @@ impl Agenda {
         node: &mut Node<'_>,
         task: TaskId,
     ) -> Result<Option<(Choice, Prepared)>, NoMemory>
-        ensures deck { node.new.deck ≡ node.old.deck }
-        ensures node { node.new.node ≡ node.old.node }
-        ensures log { node.new.log ≡ node.old.log }
-        ensures prepared { IfOk result (λ o. IfSome o (λ x. x.1 ≡ prepare node.old.deck node.old.node x.0)) }
-        ensures some { IfOk result (λ o. IfSome o (λ x. x.1 ≢ Nothing)) }
-        ensures addressed { IfOk result (λ o. IfSome o (λ x. is_addressed node.old.deck node.old.node.tasks.system x.1 ≡ true)) }
-        ensures in_time { IfOk result (λ o. IfSome o (λ x. is_early node.old x.0 ≡ false)) }
+        ensures same { IsSameNode node.old node.new }
+        ensures may_do { IfOk result (λ o. IfSome o (MayDo node.new)) }
     {
         let found = self.try_choice(node, Choice::Send(task))?;
         self.asked = match &found {
@@ -537,13 +323,8 @@ impl Agenda {
         node: &mut Node<'_>,
         task: TaskId,
     ) -> Result<Option<(Choice, Prepared)>, NoMemory>
-        ensures deck { node.new.deck ≡ node.old.deck }
-        ensures node { node.new.node ≡ node.old.node }
-        ensures log { node.new.log ≡ node.old.log }
-        ensures prepared { IfOk result (λ o. IfSome o (λ x. x.1 ≡ prepare node.old.deck node.old.node x.0)) }
-        ensures some { IfOk result (λ o. IfSome o (λ x. x.1 ≢ Nothing)) }
-        ensures addressed { IfOk result (λ o. IfSome o (λ x. is_addressed node.old.deck node.old.node.tasks.system x.1 ≡ true)) }
-        ensures in_time { IfOk result (λ o. IfSome o (λ x. is_early node.old x.0 ≡ false)) }
+        ensures same { IsSameNode node.old node.new }
+        ensures may_do { IfOk result (λ o. IfSome o (MayDo node.new)) }
     {
         match self.try_choice(node, Choice::Task(task))? {
             None if self.star => self.try_send(node, task),
@@ -553,13 +334,8 @@ impl Agenda {
 
     /// The first of the tasks that may get on which has something to do.
     fn find_ready(&mut self, node: &mut Node<'_>) -> Result<Option<(Choice, Prepared)>, NoMemory>
-        ensures deck { node.new.deck ≡ node.old.deck }
-        ensures node { node.new.node ≡ node.old.node }
-        ensures log { node.new.log ≡ node.old.log }
-        ensures prepared { IfOk result (λ o. IfSome o (λ x. x.1 ≡ prepare node.old.deck node.old.node x.0)) }
-        ensures some { IfOk result (λ o. IfSome o (λ x. x.1 ≢ Nothing)) }
-        ensures addressed { IfOk result (λ o. IfSome o (λ x. is_addressed node.old.deck node.old.node.tasks.system x.1 ≡ true)) }
-        ensures in_time { IfOk result (λ o. IfSome o (λ x. is_early node.old x.0 ≡ false)) }
+        ensures same { IsSameNode node.old node.new }
+        ensures may_do { IfOk result (λ o. IfSome o (MayDo node.new)) }
     {
         for _ in 0..self.ready.len() {
             let Some(task) = self.ready.pop_front() else {
@@ -575,13 +351,8 @@ impl Agenda {
     /// What a manager does: the first request that is held is settled, or else an owner is told in one of the lock entries that were asked
     /// for, if there is something of that to do.
     fn serve(&mut self, node: &mut Node<'_>) -> Result<Option<(Choice, Prepared)>, NoMemory>
-        ensures deck { node.new.deck ≡ node.old.deck }
-        ensures node { node.new.node ≡ node.old.node }
-        ensures log { node.new.log ≡ node.old.log }
-        ensures prepared { IfOk result (λ o. IfSome o (λ x. x.1 ≡ prepare node.old.deck node.old.node x.0)) }
-        ensures some { IfOk result (λ o. IfSome o (λ x. x.1 ≢ Nothing)) }
-        ensures addressed { IfOk result (λ o. IfSome o (λ x. is_addressed node.old.deck node.old.node.tasks.system x.1 ≡ true)) }
-        ensures in_time { IfOk result (λ o. IfSome o (λ x. is_early node.old x.0 ≡ false)) }
+        ensures same { IsSameNode node.old node.new }
+        ensures may_do { IfOk result (λ o. IfSome o (MayDo node.new)) }
     {
         if self.holds {
             if let Some(found) = self.try_choice(node, Choice::Settle)? {
@@ -607,13 +378,8 @@ impl Agenda {
         node: &mut Node<'_>,
         all: bool,
     ) -> Result<Option<(Choice, Prepared)>, NoMemory>
-        ensures deck { node.new.deck ≡ node.old.deck }
-        ensures node { node.new.node ≡ node.old.node }
-        ensures log { node.new.log ≡ node.old.log }
-        ensures prepared { IfOk result (λ o. IfSome o (λ x. x.1 ≡ prepare node.old.deck node.old.node x.0)) }
-        ensures some { IfOk result (λ o. IfSome o (λ x. x.1 ≢ Nothing)) }
-        ensures addressed { IfOk result (λ o. IfSome o (λ x. is_addressed node.old.deck node.old.node.tasks.system x.1 ≡ true)) }
-        ensures in_time { IfOk result (λ o. IfSome o (λ x. is_early node.old x.0 ≡ false)) }
+        ensures same { IsSameNode node.old node.new }
+        ensures may_do { IfOk result (λ o. IfSome o (MayDo node.new)) }
     {
         for place in 0..self.desk.len() {
             let Command { after, order } = match self.desk.as_slice().get(place) {
@@ -631,13 +397,8 @@ impl Agenda {
 
     /// A command of the desk that is due, once since the system changed.
     fn command_due(&mut self, node: &mut Node<'_>) -> Result<Option<(Choice, Prepared)>, NoMemory>
-        ensures deck { node.new.deck ≡ node.old.deck }
-        ensures node { node.new.node ≡ node.old.node }
-        ensures log { node.new.log ≡ node.old.log }
-        ensures prepared { IfOk result (λ o. IfSome o (λ x. x.1 ≡ prepare node.old.deck node.old.node x.0)) }
-        ensures some { IfOk result (λ o. IfSome o (λ x. x.1 ≢ Nothing)) }
-        ensures addressed { IfOk result (λ o. IfSome o (λ x. is_addressed node.old.deck node.old.node.tasks.system x.1 ≡ true)) }
-        ensures in_time { IfOk result (λ o. IfSome o (λ x. is_early node.old x.0 ≡ false)) }
+        ensures same { IsSameNode node.old node.new }
+        ensures may_do { IfOk result (λ o. IfSome o (MayDo node.new)) }
     {
         if !self.has_changed {
             return Ok(None);
@@ -648,13 +409,8 @@ impl Agenda {
 
     /// A command of the desk where there is nothing else to do, once since the system was woken.
     fn command_left(&mut self, node: &mut Node<'_>) -> Result<Option<(Choice, Prepared)>, NoMemory>
-        ensures deck { node.new.deck ≡ node.old.deck }
-        ensures node { node.new.node ≡ node.old.node }
-        ensures log { node.new.log ≡ node.old.log }
-        ensures prepared { IfOk result (λ o. IfSome o (λ x. x.1 ≡ prepare node.old.deck node.old.node x.0)) }
-        ensures some { IfOk result (λ o. IfSome o (λ x. x.1 ≢ Nothing)) }
-        ensures addressed { IfOk result (λ o. IfSome o (λ x. is_addressed node.old.deck node.old.node.tasks.system x.1 ≡ true)) }
-        ensures in_time { IfOk result (λ o. IfSome o (λ x. is_early node.old x.0 ≡ false)) }
+        ensures same { IsSameNode node.old node.new }
+        ensures may_do { IfOk result (λ o. IfSome o (MayDo node.new)) }
     {
         if self.desk_was_tried {
             return Ok(None);
@@ -666,13 +422,8 @@ impl Agenda {
     /// The next lock entry in which interest can be given up, where nothing is pending.
     fn leave(&mut self, node: &mut Node<'_>) -> Result<Option<(Choice, Prepared)>, NoMemory>
         requires { is_pending node.old.deck node.old.node ≡ false }
-        ensures deck { node.new.deck ≡ node.old.deck }
-        ensures node { node.new.node ≡ node.old.node }
-        ensures log { node.new.log ≡ node.old.log }
-        ensures prepared { IfOk result (λ o. IfSome o (λ x. x.1 ≡ prepare node.old.deck node.old.node x.0)) }
-        ensures some { IfOk result (λ o. IfSome o (λ x. x.1 ≢ Nothing)) }
-        ensures addressed { IfOk result (λ o. IfSome o (λ x. is_addressed node.old.deck node.old.node.tasks.system x.1 ≡ true)) }
-        ensures in_time { IfOk result (λ o. IfSome o (λ x. is_early node.old x.0 ≡ false)) }
+        ensures same { IsSameNode node.old node.new }
+        ensures may_do { IfOk result (λ o. IfSome o (MayDo node.new)) }
     {
         for entry in self.entry..self.entries {
             let choice = Choice::Leave(entry);
@@ -691,13 +442,8 @@ impl Agenda {
 
     /// A turn, or a look into the inbox.
     fn turn(&mut self, node: &mut Node<'_>) -> Result<(Choice, Prepared), NoMemory>
-        ensures deck { node.new.deck ≡ node.old.deck }
-        ensures node { node.new.node ≡ node.old.node }
-        ensures log { node.new.log ≡ node.old.log }
-        ensures prepared { IfOk result (λ x. x.1 ≡ prepare node.old.deck node.old.node x.0) }
-        ensures some { IfOk result (λ x. x.1 ≢ Nothing) }
-        ensures addressed { IfOk result (λ x. is_addressed node.old.deck node.old.node.tasks.system x.1 ≡ true) }
-        ensures in_time { IfOk result (λ x. is_early node.old x.0 ≡ false) }
+        ensures same { IsSameNode node.old node.new }
+        ensures may_do { IfOk result (MayDo node.new) }
     {
         let (choice, prepared) = turn_or_take(node)?;
         self.then = Then::Rest;
@@ -710,13 +456,8 @@ impl Agenda {
 
     /// A rest, if nothing is pending.
     fn rest(&mut self, node: &mut Node<'_>) -> Result<Option<(Choice, Prepared)>, NoMemory>
-        ensures deck { node.new.deck ≡ node.old.deck }
-        ensures node { node.new.node ≡ node.old.node }
-        ensures log { node.new.log ≡ node.old.log }
-        ensures prepared { IfOk result (λ o. IfSome o (λ x. x.1 ≡ prepare node.old.deck node.old.node x.0)) }
-        ensures some { IfOk result (λ o. IfSome o (λ x. x.1 ≢ Nothing)) }
-        ensures addressed { IfOk result (λ o. IfSome o (λ x. is_addressed node.old.deck node.old.node.tasks.system x.1 ≡ true)) }
-        ensures in_time { IfOk result (λ o. IfSome o (λ x. is_early node.old x.0 ≡ false)) }
+        ensures same { IsSameNode node.old node.new }
+        ensures may_do { IfOk result (λ o. IfSome o (MayDo node.new)) }
     {
         self.then = Then::Nothing;
         match node.prepare(&Choice::Rest)? {
@@ -737,13 +478,8 @@ impl Agenda {
     /// Interest in a lock entry is given up in star mode, where nothing is pending, once all tasks have ended or the system would rest. As
     /// long as they go on they are likely to want the entry again, and to see that they don't use it takes a look at each of them.
     fn leave_if(&mut self, node: &mut Node<'_>) -> Result<Option<(Choice, Prepared)>, NoMemory>
-        ensures deck { node.new.deck ≡ node.old.deck }
-        ensures node { node.new.node ≡ node.old.node }
-        ensures log { node.new.log ≡ node.old.log }
-        ensures prepared { IfOk result (λ o. IfSome o (λ x. x.1 ≡ prepare node.old.deck node.old.node x.0)) }
-        ensures some { IfOk result (λ o. IfSome o (λ x. x.1 ≢ Nothing)) }
-        ensures addressed { IfOk result (λ o. IfSome o (λ x. is_addressed node.old.deck node.old.node.tasks.system x.1 ≡ true)) }
-        ensures in_time { IfOk result (λ o. IfSome o (λ x. is_early node.old x.0 ≡ false)) }
+        ensures same { IsSameNode node.old node.new }
+        ensures may_do { IfOk result (λ o. IfSome o (MayDo node.new)) }
     {
         let is_due = self.open == 0 || self.would_rest();
         if !is_due || !self.star || self.entry >= self.entries || node.pending() {
@@ -758,13 +494,8 @@ impl Agenda {
         &mut self,
         node: &mut Node<'_>,
     ) -> Result<Option<(Choice, Prepared)>, NoMemory>
-        ensures deck { node.new.deck ≡ node.old.deck }
-        ensures node { node.new.node ≡ node.old.node }
-        ensures log { node.new.log ≡ node.old.log }
-        ensures prepared { IfOk result (λ o. IfSome o (λ x. x.1 ≡ prepare node.old.deck node.old.node x.0)) }
-        ensures some { IfOk result (λ o. IfSome o (λ x. x.1 ≢ Nothing)) }
-        ensures addressed { IfOk result (λ o. IfSome o (λ x. is_addressed node.old.deck node.old.node.tasks.system x.1 ≡ true)) }
-        ensures in_time { IfOk result (λ o. IfSome o (λ x. is_early node.old x.0 ≡ false)) }
+        ensures same { IsSameNode node.old node.new }
+        ensures may_do { IfOk result (λ o. IfSome o (MayDo node.new)) }
     {
         match self.then {
             Then::Turn => Ok(Some(self.turn(node)?)),
@@ -785,13 +516,8 @@ impl Agenda {
         &mut self,
         node: &mut Node<'_>,
     ) -> Result<Option<(Choice, Prepared)>, NoMemory>
-        ensures deck { node.new.deck ≡ node.old.deck }
-        ensures node { node.new.node ≡ node.old.node }
-        ensures log { node.new.log ≡ node.old.log }
-        ensures prepared { IfOk result (λ o. IfSome o (λ x. x.1 ≡ prepare node.old.deck node.old.node x.0)) }
-        ensures some { IfOk result (λ o. IfSome o (λ x. x.1 ≢ Nothing)) }
-        ensures addressed { IfOk result (λ o. IfSome o (λ x. is_addressed node.old.deck node.old.node.tasks.system x.1 ≡ true)) }
-        ensures in_time { IfOk result (λ o. IfSome o (λ x. is_early node.old x.0 ≡ false)) }
+        ensures same { IsSameNode node.old node.new }
+        ensures may_do { IfOk result (λ o. IfSome o (MayDo node.new)) }
     {
         self.look_back(node)?;
         if matches!(self.last, Last::Look) {
@@ -818,13 +544,8 @@ impl Agenda {
     /// The next choice that has something to do, and what it comes to. Where there is nothing to do until the medium changes it is a
     /// turn or a look into the inbox, by turns with a rest; another thread may run before.
     pub(crate) fn pick(&mut self, node: &mut Node<'_>) -> Result<(Choice, Prepared), NoMemory>
-        ensures deck { node.new.deck ≡ node.old.deck }
-        ensures node { node.new.node ≡ node.old.node }
-        ensures log { node.new.log ≡ node.old.log }
-        ensures prepared { IfOk result (λ x. x.1 ≡ prepare node.old.deck node.old.node x.0) }
-        ensures some { IfOk result (λ x. x.1 ≢ Nothing) }
-        ensures addressed { IfOk result (λ x. is_addressed node.old.deck node.old.node.tasks.system x.1 ≡ true) }
-        ensures in_time { IfOk result (λ x. is_early node.old x.0 ≡ false) }
+        ensures same { IsSameNode node.old node.new }
+        ensures may_do { IfOk result (MayDo node.new) }
     {
         match self.next(node)? {
             Some(found) => Ok(found),

@@ -1,10 +1,9 @@
 //! Rounds by fork and join: all workers at once, each with as many events as a round has.
-ghost use Rattle.std.specs.Prelude.{◌≡◌, ◌≢◌, true, false, All, IfOk, IfErr, OnOk};
+ghost use Rattle.std.specs.Prelude.{◌≡◌, All, IfOk, IfErr, OnOk, OnErr};
 ghost use Rattle.std.specs.List.{list_all};
-ghost use Rattle.grs_node.specs.Addressed.{is_act_addressed, is_addressed};
-ghost use Rattle.grs_node.specs.Node.{prepare};
-ghost use Rattle.grs_node.specs.declared.prepared.Prepared.TheVariants.{Call as Calls, Nothing};
-ghost use Rattle.grs_workers.specs.Stands.{stand, IsOn, Agrees, Deed, is_last, is_last_reply, is_early, IsDone};
+ghost use Rattle.grs_node.specs.declared.prepared.Prepared.TheVariants.{Call as Calls};
+ghost use Rattle.grs_wire.specs.declared.medium.Call.{Call as MediumCall};
+ghost use Rattle.grs_workers.specs.Stands.{stand, IsOn, Agrees, Deed, is_last, is_last_reply, IsDone, MayDo, IsGivenUp};
 ghost use Rattle.grs_workers.specs.Rounds.{Went, Grew, Each, HasWorked, is_out};
 
 use crate::beds::Sleeper;
@@ -28,7 +27,8 @@ fn is_last_reply(reply: &Reply) -> bool
     matches!(reply, Reply::Over | Reply::Removed)
 }
 
-/// An event with this call: whether its reply ends the round. Whom it concerns is woken at once, where workers sleep.
+/// An event with this call: whether its reply ends the round. Whom it concerns is woken at once, where workers sleep. Once the bus has
+/// answered, memory may be wanting only for an entered reply for which the system takes some though there is room.
 fn make_call<R: Wait, G: Gate>(
     rt: &R,
     bus: &Bus,
@@ -40,12 +40,11 @@ fn make_call<R: Wait, G: Gate>(
 ) -> Result<bool, NoMemory>
     requires on { IsOn bus.now (stand worker.old) }
     requires agrees { Agrees (stand worker.old) }
-    requires prepared { prepare worker.old.node.deck worker.old.node.node choice ≡ Calls call }
-    requires addressed { is_act_addressed worker.old.node.deck worker.old.node.node.tasks.system call.act ≡ true }
-    requires in_time { is_early worker.old.node choice ≡ false }
+    requires may_do { MayDo worker.old.node (choice, Calls call) }
     ensures done { IfOk result (λ out. (d : Deed) × IsDone (stand worker.old) d (stand worker.new) × (is_last d ≡ out)) }
     ensures on { OnOk result (IsOn bus.now (stand worker.new)) }
     ensures agrees { OnOk result (Agrees (stand worker.new)) }
+    ensures sure { OnErr result (IsGivenUp (stand worker.old) call worker.new.seat) }
 {
     let system = worker.seat.system();
     gate.before(system, worker);
@@ -73,13 +72,11 @@ pub(crate) fn act<R: Wait, G: Gate>(
 ) -> Result<bool, NoMemory>
     requires on { IsOn bus.now (stand worker.old) }
     requires agrees { Agrees (stand worker.old) }
-    requires prepared { prepared ≡ prepare worker.old.node.deck worker.old.node.node choice }
-    requires some { prepared ≢ Nothing }
-    requires addressed { is_addressed worker.old.node.deck worker.old.node.node.tasks.system prepared ≡ true }
-    requires in_time { is_early worker.old.node choice ≡ false }
+    requires may_do { MayDo worker.old.node (choice, prepared) }
     ensures done { IfOk result (λ out. (d : Deed) × IsDone (stand worker.old) d (stand worker.new) × (is_last d ≡ out)) }
     ensures on { OnOk result (IsOn bus.now (stand worker.new)) }
     ensures agrees { OnOk result (Agrees (stand worker.new)) }
+    ensures sure { OnErr result ((call : MediumCall) → prepared ≡ Calls call → IsGivenUp (stand worker.old) call worker.new.seat) }
 {
     match prepared {
         Prepared::Quiet => {
@@ -157,7 +154,7 @@ fn all_work<R: Threads + Wait + Sync, G: Gate + Sync>(
     );
 }
 
-/// Whether each worker was answered Over or Removed.
+/// Whether each worker was answered Over or Removed in its last round or stretch.
 pub(crate) fn all_out(workers: &[Worker<'_>]) -> Result<bool, NoMemory>
     ensures out { IfOk result (λ all. all ≡ list_all (λ w. is_out w.outcome) workers.now) }
     ensures ok { OnOk result (All (λ w. IfErr w.outcome (λ _. ⊥)) workers.now) }

@@ -7,8 +7,8 @@ use grs_bus::Seat;
 use grs_node::Node;
 
 /// A system with its seat. `calls` is how many calls of the bus it was answered over all rounds; at the last value of its type it
-/// stays. `outcome` tells how its last round went: true where it was answered Over or Removed, false where it made all events
-/// that a round has, and before the first. Behind a stretch it says only whether memory was wanting.
+/// stays. `outcome` tells how its last round or stretch went: true where it was answered Over or Removed, false where it made all
+/// events that a round has, or gave the stretch up, and before the first.
 #[derive(Drop)]
 pub struct Worker<'d> {
     pub node: Node<'d>,

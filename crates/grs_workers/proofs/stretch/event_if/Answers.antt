@@ -13,7 +13,7 @@ pub returns-then-branch-clause-grew : goal.returns-then-branch-clause-grew
 returns-then-branch-clause-grew g c = let done = c.in_ok-act.ensures.done in
     subst (λ (n : NodeView).
     Grew (record { node = n; seat = c.args.worker.now.seat; calls = c.args.worker.now.calls }) (stand c.act.new.worker))
-    (same c.next.new.node c.args.worker.now.node c.next.ensures.deck c.next.ensures.node c.next.ensures.log)
+    (same c.next.new.node c.args.worker.now.node c.next.ensures.same.0 c.next.ensures.same.1 c.next.ensures.same.2)
     (grew-done
     (record { node = shown c.next.new.node; seat = c.args.worker.now.seat; calls = c.args.worker.now.calls })
     (stand c.act.new.worker) done.0 done.1)
@@ -22,7 +22,7 @@ pub returns-else-branch-clause-grew : goal.returns-else-branch-clause-grew
 returns-else-branch-clause-grew g c = let done = c.in_ok-act.ensures.done in
     subst (λ (n : NodeView).
     Grew (record { node = n; seat = c.args.worker.now.seat; calls = c.args.worker.now.calls }) (stand c.act.new.worker))
-    (same c.next.new.node c.args.worker.now.node c.next.ensures.deck c.next.ensures.node c.next.ensures.log)
+    (same c.next.new.node c.args.worker.now.node c.next.ensures.same.0 c.next.ensures.same.1 c.next.ensures.same.2)
     (grew-done
     (record { node = shown c.next.new.node; seat = c.args.worker.now.seat; calls = c.args.worker.now.calls })
     (stand c.act.new.worker) done.0 done.1)
