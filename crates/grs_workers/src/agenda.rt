@@ -75,7 +75,7 @@ pub(crate) struct Agenda {
     steps: usize,
     /// The system changed since commands of the desk were tried that are due.
     has_changed: bool,
-    /// The whole desk was tried since the system was woken last.
+    /// What is left of the desk was tried since the system changed or was woken last.
     desk_was_tried: bool,
     /// A task or a request of the system got on since it was woken last. It rests only where none did, since else it will hear more.
     busy: bool,
@@ -407,7 +407,7 @@ impl Agenda {
         self.command(node, false)
     }
 
-    /// A command of the desk where there is nothing else to do, once since the system was woken.
+    /// A command of the desk where there is nothing else to do, once since the system changed or was woken.
     fn command_left(&mut self, node: &mut Node<'_>) -> Result<Option<(Choice, Prepared)>, NoMemory>
         ensures same { IsSameNode node.old node.new }
         ensures may_do { IfOk result (λ o. IfSome o (MayDo node.new)) }
@@ -489,7 +489,8 @@ impl Agenda {
     }
 
     /// Behind all other choices: a turn or a look into the inbox, and then what is left of the desk and a rest, each once until the
-    /// system changes or is woken. Where it got on it doesn't rest, since it will hear more.
+    /// system changes or is woken. Where it got on it doesn't rest, since it will hear more; but unless a task has a request on its way,
+    /// it has nothing else to do, so that it tries what is left of the desk.
     fn turn_then_rest(
         &mut self,
         node: &mut Node<'_>,
@@ -505,6 +506,7 @@ impl Agenda {
                     found => Ok(found),
                 }
             }
+            Then::Rest | Then::Nothing if !node.awaits_answer() => self.command_left(node),
             Then::Rest | Then::Nothing => Ok(None),
         }
     }

@@ -1,7 +1,7 @@
--- Where a request is that a task has sent and that isn't answered yet, in a complex that is in star mode: in the hands
--- of its lock entry's manager; or settled, so that the answer is in the inbox of the task's system; or in neither,
--- where the system was removed in whose hands it was, and a notice says so. And where the mail stands that tells tasks
--- control.
+-- Where a request may be that a task has sent and that isn't answered yet, in a complex that is in star mode: in the
+-- hands of its lock entry's manager; or settled, so that the answer is in the inbox of the task's system; or in neither,
+-- where the system was removed in whose hands it was, and a notice says so. It is in one of these at most. And where the
+-- mail stands that tells tasks control.
 use Rattle.std.specs.Prelude.{[], ◌≡◌, ◌≤◌, ◌<◌, ◌==◌, ◌&&◌, ◌||◌, ◌∷◌, ◌++◌, Bool, cond, false, filter, is_some}
 use Rattle.std.specs.Prelude.{length, List, nat_lt, not, slice_get, Some, true, ℕ}
 use Rattle.std.specs.List.{list_any}
@@ -94,8 +94,8 @@ pub record Lives (w : World) (s : ℕ) (n : NodeState) : Type 0 where
   pub at : slice_get w.nodes s ≡ Some n
   pub live : has w.medium.removed s ≡ false
 
--- Each request in the hands of a live system is so, if its task's system is live; no two are of one task; and so is
--- each answer in the inbox of a live system.
+-- Each request in the hands of a live system is as IsInHands says, if its task's system is live; no two of them are of
+-- one task; and each answer in the inbox of a live system is as IsAnswered says.
 pub record SettlesOnce (deck : Deck) (w : World) : Type 0 where
   pub hands : (m : SysId) (n : NodeState) (p : StarPart) (i : ℕ) (q : Req) (k : NodeState) → Lives w m.0 n
       → n.star ≡ Some p → slice_get (in_hands p (inbox w.medium m.0)) i ≡ Some q → Lives w q.task.system.0 k
@@ -110,8 +110,8 @@ abbrev pub RequestsSettleOnce : Deck → List Event → Type 0
 RequestsSettleOnce deck es = SettlesOnce deck (run deck es)
 
 -- ---- where an entry has still to be gathered
--- The manager of an entry by its word doesn't manage it yet: then behind each answer that is of the entry, in an inbox,
--- a notice of it has still to be taken.
+-- The manager of an entry by its word doesn't manage it yet: then where an answer that is of the entry is in an inbox, a
+-- notice of it is there too. It stands behind the answer, since no notice stands in front of that (IsAnswered).
 abbrev pub AnswersAreNoticed : Deck → List Event → Type 0
 AnswersAreNoticed deck es =
     (t : TaskId) (k : NodeState) (a : Asked) (e : ℕ) (m : SysId) (M : Stance) → Lives (run deck es) t.system.0 k
@@ -126,7 +126,7 @@ abbrev pub is_control_of : ℕ → ℕ → Mail → Bool
 is_control_of n e (Granted t r) = is_entry e (entry_of_res n r)
 is_control_of n e mail = false
 
--- whether one of these mails does behind which no notice of the entry stands
+-- whether one of these mails tells such control, and no notice of the entry stands behind it
 abbrev pub is_told_late : ℕ → ℕ → List Mail → Bool
 is_told_late n e [] = false
 is_told_late n e (y ∷ ms) = (is_control_of n e y && not (noticed e ms)) || is_told_late n e ms

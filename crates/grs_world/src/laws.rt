@@ -217,21 +217,22 @@ pub fn sent_requests_stay()
 /// live system, held or in its inbox, is what its task has sent and isn't answered, if the task's system is live. It is of an
 /// entry that the system manages by its word, and in which the task's system has interest; it is the only one there of that
 /// task; and in the inbox of the task's system are no answer to the task and no notice of the entry. Each answer in a live
-/// system's inbox is to what its task has sent; it is the only one to that task, and no notice of the entry stands in front of
-/// it. So what a notice makes a task send again is in no live system's hands, and no answer to it is still to be taken.
+/// system's inbox is to what the task at its place has sent; it is the only one to that task, and no notice of the entry stands
+/// in front of it. So what a notice makes a task send again is in no live system's hands, and no answer to it is still to be taken.
 pub fn requests_settle_once()
     ensures { (deck : Deck) → deck.star ≡ true → FitsStar deck → (events : List Event) → RequestsSettleOnce deck events }
 {}
 
 /// In every such run, as long as the manager of an entry, by its word, is live and doesn't manage the entry yet, a notice of it
-/// has still to be taken behind each answer in a live system's inbox to a request of the entry.
+/// is in each live system's inbox that has an answer to a request of the entry: behind that answer, as `requests_settle_once`
+/// has it.
 pub fn answers_come_first()
     ensures { (deck : Deck) → deck.star ≡ true → FitsStar deck → (events : List Event) → AnswersAreNoticed deck events }
 {}
 
-/// In every such run no task is told control behind the notices: a system that has a notice of an entry to take, or owes its
-/// part of it, or whose part is under way to another live system or kept there, has no mail that tells a task control of a
-/// resource of the entry but in front of a notice of the entry.
+/// In every such run no task is told control behind the notices. As long as a second system is live, one that has a notice of
+/// an entry to take, or owes its part of it, or whose part is under way to that second system or kept there, has no mail that
+/// tells a task control of a resource of the entry but in front of a notice of the entry.
 pub fn control_comes_first()
     ensures { (deck : Deck) → deck.star ≡ true → FitsStar deck → (events : List Event) → ControlComesFirst deck events }
 {}

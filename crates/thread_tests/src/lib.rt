@@ -7,6 +7,8 @@ mod beside;
 #[cfg(test)]
 mod calls;
 #[cfg(test)]
+mod desk;
+#[cfg(test)]
 mod held;
 #[cfg(test)]
 mod hold;

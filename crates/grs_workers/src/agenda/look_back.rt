@@ -55,6 +55,7 @@ impl Agenda {
         }
         self.at_rest = self.at_rest && self.keeps_rest();
         self.has_changed = true;
+        self.desk_was_tried = false;
         if !matches!(self.last, Last::Leave) {
             self.entry = 0;
         }
